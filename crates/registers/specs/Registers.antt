@@ -1,0 +1,171 @@
+-- The configuration registers (01, Registers and status; 004, 6.2.1): reset values, writable bits, forbidden values, what is read off them.
+use Prim.Native.Nat.{ℕ, suc, _+_, _-_, _*_, _/_, _%_, _^_}
+use mathlib.Core.Bool.{Bool, true, false, _&&_, _||_, not}
+use lib.Bits.{bitAnd, bitOr}
+use lib.Dec.{eqb, ltb}
+use Rattle.base.specs.Pick.{pick}
+use Rattle.registers.specs.declared.Reg004.{Reg004}
+use Rattle.registers.specs.declared.Reg008.{Reg008}
+use Rattle.registers.specs.declared.Reg010.{Reg010}
+use Rattle.registers.specs.declared.Reg020.{Reg020}
+use Rattle.registers.specs.declared.Config.{Config}
+
+-- ---- bits of a register
+
+-- n bits of x from bit k on
+abbrev pub field : ℕ → ℕ → ℕ → ℕ
+field x k n = x / 2 ^ k % 2 ^ n
+
+-- bits hi:lo of x, as document 01 writes them
+abbrev pub bits : ℕ → ℕ → ℕ → ℕ
+bits hi lo x = field x lo (suc hi - lo)
+
+-- the bits of val where the mask has ones, those of old elsewhere
+abbrev pub masked : ℕ → ℕ → ℕ → ℕ
+masked old val mask = bitOr (bitAnd old (2 ^ 32 - 1 - mask)) (bitAnd val mask)
+
+-- ---- the table: address, reset value, writable bits, forbidden values
+
+abbrev pub reset004 : ℕ
+reset004 = 0x00000001
+
+abbrev pub writable004 : ℕ
+writable004 = 0x00000000
+
+abbrev pub reset008 : ℕ
+reset008 = 0x030C0003
+
+abbrev pub writable008 : ℕ
+writable008 = 0xDCF0F000
+
+abbrev pub reset010 : ℕ
+reset010 = 0x00001133
+
+abbrev pub writable010 : ℕ
+writable010 = 0x00007705
+
+abbrev pub reset020 : ℕ
+reset020 = 0x00000700
+
+abbrev pub writable020 : ℕ
+writable020 = 0x003F0001
+
+-- the greatest value of 21:16 of 020h: the wire count that the target supports, less one
+abbrev pub supportedCount : ℕ
+supportedCount = 7
+
+-- 008h: bits 27:26 = 11; 22:20 above 100
+abbrev pub forbidden008 : ℕ → Bool
+forbidden008 v = eqb (bits 27 26 v) 3 || ltb 4 (bits 22 20 v)
+
+-- 010h: 14:12 = 000; 10:8 = 000 or above 011
+abbrev pub forbidden010 : ℕ → Bool
+forbidden010 v = eqb (bits 14 12 v) 0 || (eqb (bits 10 8 v) 0 || ltb 3 (bits 10 8 v))
+
+-- 020h: 21:16 above 7
+abbrev pub forbidden020 : ℕ → Bool
+forbidden020 v = ltb supportedCount (bits 21 16 v)
+
+-- ---- a register's write: "Bit 1 (ready) of 010h and 020h equals bit 0 (enable)"
+
+abbrev pub readied : ℕ → ℕ
+readied v = masked v (2 * (v % 2)) 2
+
+abbrev pub write008 : Reg008 → ℕ → Reg008
+write008 r v = record { value = masked (r .value) v writable008 }
+
+abbrev pub write010 : Reg010 → ℕ → Reg010
+write010 r v = record { value = readied (masked (r .value) v writable010) }
+
+abbrev pub write020 : Reg020 → ℕ → Reg020
+write020 r v = record { value = readied (masked (r .value) v writable020) }
+
+abbrev pub fresh004 : Reg004
+fresh004 = record { value = reset004 }
+
+abbrev pub fresh008 : Reg008
+fresh008 = record { value = reset008 }
+
+abbrev pub fresh010 : Reg010
+fresh010 = record { value = reset010 }
+
+abbrev pub fresh020 : Reg020
+fresh020 = record { value = reset020 }
+
+-- ---- what is read off a register
+
+-- "Payload and read request codes n mean 64 times 2^(n-1) bytes"
+unfoldable pub sizeOf : ℕ → ℕ
+sizeOf n = 64 * 2 ^ (n - 1)
+
+-- 008h, bit 31: the CRC of commands is checked (01, Commands)
+abbrev pub crcChecked : Reg008 → Bool
+crcChecked r = eqb (bits 31 31 (r .value)) 1
+
+-- 010h, bit 0: channel 0 is on
+abbrev pub on0 : Reg010 → Bool
+on0 r = eqb (r .value % 2) 1
+
+-- 010h, 10:8 and 14:12 (004, 6.2.1.4)
+abbrev pub payloadSize : Reg010 → ℕ
+payloadSize r = sizeOf (bits 10 8 (r .value))
+
+abbrev pub readSize : Reg010 → ℕ
+readSize r = sizeOf (bits 14 12 (r .value))
+
+-- 020h, bit 0: channel 1 is on
+abbrev pub on1 : Reg020 → Bool
+on1 r = eqb (r .value % 2) 1
+
+-- "The operating wire count is bits 21:16 plus one"
+abbrev pub operatingCount : Reg020 → ℕ
+operatingCount r = bits 21 16 (r .value) + 1
+
+-- ---- the configuration: the registers that hold state, by address
+
+abbrev pub freshConfig : Config
+freshConfig = record { r008 = fresh008; r010 = fresh010; r020 = fresh020 }
+
+-- "Other addresses read 0"
+abbrev pub readAt : Config → ℕ → ℕ
+readAt c a =
+    pick (eqb a 0x004) reset004
+    (pick (eqb a 0x008) (c .r008 .value)
+    (pick (eqb a 0x010) (c .r010 .value)
+    (pick (eqb a 0x020) (c .r020 .value)
+    0)))
+
+-- number 2: a forbidden value
+abbrev pub forbiddenAt : ℕ → ℕ → Bool
+forbiddenAt a v =
+    pick (eqb a 0x008) (forbidden008 v)
+    (pick (eqb a 0x010) (forbidden010 v)
+    (pick (eqb a 0x020) (forbidden020 v)
+    false))
+
+-- "Other addresses .. take writes without effect"; 004h has no writable bit
+abbrev pub writeAt : Config → ℕ → ℕ → Config
+writeAt c a v =
+    pick (eqb a 0x008) (record { r008 = write008 (c .r008) v; r010 = c .r010; r020 = c .r020 })
+    (pick (eqb a 0x010) (record { r008 = c .r008; r010 = write010 (c .r010) v; r020 = c .r020 })
+    (pick (eqb a 0x020) (record { r008 = c .r008; r010 = c .r010; r020 = write020 (c .r020) v })
+    c))
+
+-- ---- reachable values (01, Sound state): read-only bits as at reset, ready equal to enable, no forbidden field
+
+abbrev pub asAtReset : ℕ → ℕ → ℕ → ℕ → Bool
+asAtReset reset hi lo v = eqb (bits hi lo v) (bits hi lo reset)
+
+abbrev pub reachable008 : ℕ → Bool
+reachable008 v =
+    asAtReset reset008 29 29 v && asAtReset reset008 25 24 v && asAtReset reset008 19 16 v && asAtReset reset008 11 0 v && not (forbidden008 v)
+
+abbrev pub reachable010 : ℕ → Bool
+reachable010 v =
+    asAtReset reset010 31 15 v && asAtReset reset010 11 11 v && asAtReset reset010 7 3 v && eqb (bits 1 1 v) (v % 2) && not (forbidden010 v)
+
+abbrev pub reachable020 : ℕ → Bool
+reachable020 v = asAtReset reset020 31 22 v && asAtReset reset020 15 2 v && eqb (bits 1 1 v) (v % 2) && not (forbidden020 v)
+
+abbrev pub reachable : Config → Bool
+reachable c = reachable008 (c .r008 .value) && reachable010 (c .r010 .value) && reachable020 (c .r020 .value)

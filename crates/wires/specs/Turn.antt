@@ -1,0 +1,25 @@
+-- Going round: which senders a packet takes. Over any number of senders, each with a size, and any capacity (01, Wires: GET_VWIRE;
+-- there three senders, groups 4, 5 and 6, of size 1 each, and the operating count for the capacity).
+use Prim.Native.Nat.{ℕ, zero, suc, _+_, _-_}
+use mathlib.Core.Bool.{Bool, true, false}
+use mathlib.Core.List.{List, [], _∷_}
+use lib.Dec.{ltb, leb}
+use Rattle.base.specs.Pick.{pick}
+
+-- the sender after i, of n that are numbered from 0
+unfoldable pub after : ℕ → ℕ → ℕ
+after n i = pick (ltb (suc i) n) (suc i) 0
+
+-- the senders taken, in order, when `left` of the n senders are still to be asked, from i on: one that waits is taken if it fits,
+-- and the packet closes at the first that does not fit
+unfoldable pub turn : (size : ℕ → ℕ) (waits : ℕ → Bool) (n left capacity i : ℕ) → List ℕ
+turn size waits n zero capacity i = []
+turn size waits n (suc left) capacity i =
+    pick (waits i)
+    (pick (leb (size i) capacity) (i ∷ turn size waits n left (capacity - size i) (after n i)) [])
+    (turn size waits n left capacity (after n i))
+
+-- the place from which the next packet begins: after the last one taken
+unfoldable pub placeAfter : ℕ → ℕ → List ℕ → ℕ
+placeAfter n p [] = p
+placeAfter n p (i ∷ is) = placeAfter n (after n i) is
