@@ -1,0 +1,3 @@
+pub mod Opcode
+pub mod Needs
+pub mod Decode
