@@ -1,0 +1,128 @@
+-- The nine calls as the C boundary has them: numbers 10 and 11 first, the state as bytes, the word's bits 7:0 the number and 31:8 the value.
+use Prim.Native.Nat.{ℕ, _+_, _*_}
+use mathlib.Core.Bool.{Bool, true, false, not}
+use mathlib.Core.List.{List, []}
+use lib.Dec.{eqb, ltb}
+use lib.ListN.{length}
+use Rattle.base.specs.Pick.{pick}
+use Rattle.base.specs.Bytes.{over}
+use Rattle.state.specs.Layout.{stateLength, packed, unpacked, holds}
+use Rattle.state.specs.declared.State.{State}
+use Rattle.rules.specs.Decide as D
+use Rattle.rules.specs.Board as B
+use Rattle.rules.specs.Reply.{replyBytes, keptBytes}
+use Rattle.rules.specs.Step.{replyLength, writeLength, readLength, lookLength, takeLength, succeeded}
+use Rattle.rules.specs.declared.Plan.{Plan}
+
+-- number in bits 7:0, value in bits 31:8
+abbrev pub word : ℕ → ℕ → ℕ
+word number value = number + 256 * value
+
+-- what a call leaves: its word and the lent slices that it may write
+pub record Done : Type 0 where
+  pub word : ℕ
+  pub state : List ℕ
+
+pub record Exchanged : Type 0 where
+  pub word : ℕ
+  pub state : List ℕ
+  pub reply : List ℕ
+  pub write : List ℕ
+
+pub record Stored : Type 0 where
+  pub word : ℕ
+  pub state : List ℕ
+  pub store : List ℕ
+
+pub record Looked : Type 0 where
+  pub word : ℕ
+  pub report : List ℕ
+
+abbrev pub done : ℕ → List ℕ → Done
+done n st = record { word = n; state = st }
+
+abbrev pub exchanged : ℕ → List ℕ → List ℕ → List ℕ → Exchanged
+exchanged n st reply write = record { word = n; state = st; reply = reply; write = write }
+
+abbrev pub stored : ℕ → List ℕ → List ℕ → Stored
+stored n st store = record { word = n; state = st; store = store }
+
+abbrev pub looked : ℕ → List ℕ → Looked
+looked n report = record { word = n; report = report }
+
+-- the state's bytes after a call; those past its length stay
+abbrev pub kept : State → List ℕ → List ℕ
+kept s st = over (packed s) st
+
+-- ---- start and resets
+
+unfoldable pub startCall : List ℕ → Done
+startCall st = pick (ltb (length st) stateLength) (done 10 st) (done 0 (kept B.started st))
+
+unfoldable pub changeCall : (State → State) → List ℕ → Done
+changeCall f st =
+    pick (ltb (length st) stateLength) (done 10 st)
+    (pick (not (holds st)) (done 11 st)
+    (done 0 (kept (f (unpacked st)) st)))
+
+unfoldable pub espiResetCall : List ℕ → Done
+espiResetCall st = changeCall B.espiReset st
+
+unfoldable pub platformResetCall : List ℕ → Done
+platformResetCall st = changeCall B.platformReset st
+
+-- ---- the exchange
+
+unfoldable pub exchangePlanned : Plan → (st command reply write read : List ℕ) → Exchanged
+exchangePlanned p st command reply write read =
+    exchanged (word (p .number) (length (replyBytes (p .answer) read))) (kept (p .next) st) (over (replyBytes (p .answer) read) reply)
+    (over (keptBytes (p .kept) command) write)
+
+unfoldable pub exchangeCall : (st command reply write read : List ℕ) → Exchanged
+exchangeCall st command reply write read =
+    pick (ltb (length st) stateLength) (exchanged 10 st reply write)
+    (pick (ltb (length reply) replyLength) (exchanged 10 st reply write)
+    (pick (ltb (length write) writeLength) (exchanged 10 st reply write)
+    (pick (ltb (length read) readLength) (exchanged 10 st reply write)
+    (pick (not (holds st)) (exchanged 11 st reply write)
+    (exchangePlanned (D.exchange (unpacked st) command) st command reply write read)))))
+
+-- ---- the board's calls
+
+unfoldable pub lookCall : (st report : List ℕ) → Looked
+lookCall st report =
+    pick (ltb (length st) stateLength) (looked 10 report)
+    (pick (ltb (length report) lookLength) (looked 10 report)
+    (pick (not (holds st)) (looked 11 report)
+    (looked (B.lookNumber (unpacked st .peripheral .request))
+    (over (B.lookReport (unpacked st .peripheral .request) (unpacked st .peripheral .serial)) report))))
+
+unfoldable pub answerCall : (st read : List ℕ) (serial success : ℕ) (bytes : List ℕ) → Stored
+answerCall st read serial success bytes =
+    pick (ltb (length st) stateLength) (stored 10 st read)
+    (pick (ltb (length read) readLength) (stored 10 st read)
+    (pick (not (holds st)) (stored 11 st read)
+    (let p = B.answer (unpacked st) serial (succeeded success) (length bytes) in
+    stored (p .number) (kept (p .next) st) (over (keptBytes (p .kept) bytes) read))))
+
+unfoldable pub takeWriteCall : (st write report : List ℕ) → Stored
+takeWriteCall st write report =
+    pick (ltb (length st) stateLength) (stored 10 st report)
+    (pick (ltb (length write) writeLength) (stored 10 st report)
+    (pick (ltb (length report) takeLength) (stored 10 st report)
+    (pick (not (holds st)) (stored 11 st report)
+    (let p = B.takeWrite (unpacked st) in
+    stored (p .number) (kept (p .next) st) (over (B.takeReport (unpacked st .peripheral .write)) report)))))
+
+unfoldable pub setWireCall : (st : List ℕ) (index bit value : ℕ) → Done
+setWireCall st index bit value =
+    pick (ltb (length st) stateLength) (done 10 st)
+    (pick (not (holds st)) (done 11 st)
+    (let p = B.setWireCall (unpacked st) index bit value in
+    done (p .number) (kept (p .next) st)))
+
+unfoldable pub readWireCall : (st : List ℕ) (index bit : ℕ) → ℕ
+readWireCall st index bit =
+    pick (ltb (length st) stateLength) 10
+    (pick (not (holds st)) 11
+    (word (B.readNumber index bit) (B.readValue (unpacked st) index bit)))

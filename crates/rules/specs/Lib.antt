@@ -1,0 +1,6 @@
+pub mod Plan
+pub mod Decide
+pub mod Board
+pub mod Reply
+pub mod Step
+pub mod Calls

@@ -1,0 +1,43 @@
+-- A reply's bytes (01, Replies and refusals): response byte, body, status low byte first, CRC over all before it.
+use Prim.Native.Nat.{ℕ, _+_, _*_, _/_, _%_}
+use mathlib.Core.List.{List, [], _∷_, _++_}
+use lib.ListN.{take, drop}
+use Rattle.base.specs.Bytes.{low2, low4}
+use Rattle.crc.specs.Crc.{crc}
+use Rattle.wires.specs.Groups.{packetBytes}
+use Rattle.state.specs.declared.Completion.{Completion}
+use Rattle.rules.specs.Plan.{responseByte}
+use Rattle.rules.specs.declared.Response.{Response}
+use Rattle.rules.specs.declared.Body.{Body}
+use Rattle.rules.specs.declared.Body.the-variants as B
+use Rattle.rules.specs.declared.Answer.{Answer}
+use Rattle.rules.specs.declared.Answer.the-variants.{Silent, Said}
+use Rattle.rules.specs.declared.Kept.{Kept}
+use Rattle.rules.specs.declared.Kept.the-variants as K
+
+-- "a 3-byte header (cycle type, tag and length as above)"; length 4,096 would be 0, and no piece has it
+abbrev pub headerBytes : Completion → List ℕ
+headerBytes c = c .cycle ∷ (c .tag % 16 * 16 + c .length / 256 % 16) ∷ c .length % 256 ∷ []
+
+-- the completion's data: bytes of the read store
+abbrev pub dataBytes : Completion → List ℕ → List ℕ
+dataBytes c reads = take (c .length) (drop (c .from) reads)
+
+abbrev pub bodyBytes : Body → List ℕ → List ℕ
+bodyBytes B.Nothing reads = []
+bodyBytes (B.Word v) reads = low4 v
+bodyBytes (B.Piece c) reads = headerBytes c ++ dataBytes c reads
+bodyBytes (B.Groups p) reads = packetBytes p
+
+-- a message with its status, and with the CRC of all that
+unfoldable pub closed : List ℕ → ℕ → List ℕ
+closed m status = (m ++ low2 status) ++ (crc (m ++ low2 status) ∷ [])
+
+unfoldable pub replyBytes : Answer → List ℕ → List ℕ
+replyBytes Silent reads = []
+replyBytes (Said response body status) reads = closed (responseByte response ∷ bodyBytes body reads) status
+
+-- the bytes that a store keeps of the call's data
+abbrev pub keptBytes : Kept → List ℕ → List ℕ
+keptBytes K.Nothing from = []
+keptBytes (K.Data at n) from = take n (drop at from)

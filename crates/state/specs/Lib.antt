@@ -1,0 +1,5 @@
+pub mod Fresh
+pub mod Upward
+pub mod Status
+pub mod Sound
+pub mod Layout
