@@ -98,6 +98,13 @@ fresh020 = record { value = reset020 }
 unfoldable pub sizeOf : ℕ → ℕ
 sizeOf n = 64 * 2 ^ (n - 1)
 
+-- the sizes that codes mean: payload 001 to 011, read request 001 to 111
+abbrev pub payloadLegal : ℕ → Bool
+payloadLegal p = eqb p 64 || (eqb p 128 || eqb p 256)
+
+abbrev pub readLegal : ℕ → Bool
+readLegal p = eqb p 64 || (eqb p 128 || (eqb p 256 || (eqb p 512 || (eqb p 1024 || (eqb p 2048 || eqb p 4096)))))
+
 -- 008h, bit 31: the CRC of commands is checked (01, Commands)
 abbrev pub crcChecked : Reg008 → Bool
 crcChecked r = eqb (bits 31 31 (r .value)) 1

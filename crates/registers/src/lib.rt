@@ -50,20 +50,15 @@ fn size_of(code: u32) -> u32
     requires { ⌜ code < 8 ⌝ }
     ensures { λ r. ⌜ r ≡ sizeOf code ⌝ }
 {
-    match code {
-        0 => 64,
-        1 => 64,
-        2 => 128,
-        3 => 256,
-        4 => 512,
-        5 => 1024,
-        6 => 2048,
-        _ => 4096,
+    if code == 0 {
+        return 64;
     }
+    64 << (code - 1)
 }
 
 impl Reg004 {
     pub const RESET: u32 = 0x0000_0001;
+
     pub const WRITABLE: u32 = 0x0000_0000;
 
     pub fn fresh() -> Reg004
@@ -75,6 +70,7 @@ impl Reg004 {
 
 impl Reg008 {
     pub const RESET: u32 = 0x030C_0003;
+
     pub const WRITABLE: u32 = 0xDCF0_F000;
 
     pub fn fresh() -> Reg008
@@ -86,19 +82,22 @@ impl Reg008 {
     fn write(self, val: u32) -> Reg008
         ensures { λ r. ⌜ r ≡ write008 self val ⌝ }
     {
-        Reg008 { value: write_masked(self.value, val, Self::WRITABLE) }
+        Reg008 {
+            value: write_masked(self.value, val, Self::WRITABLE),
+        }
     }
 
     // The CRC of commands is checked.
     pub fn crc_checked(self) -> bool
         ensures { λ r. ⌜ r ≡ crcChecked self ⌝ }
     {
-        self.value / 2147483648 % 2 == 1
+        (self.value >> 31) % 2 == 1
     }
 }
 
 impl Reg010 {
     pub const RESET: u32 = 0x0000_1133;
+
     pub const WRITABLE: u32 = 0x0000_7705;
 
     pub fn fresh() -> Reg010
@@ -110,7 +109,9 @@ impl Reg010 {
     fn write(self, val: u32) -> Reg010
         ensures { λ r. ⌜ r ≡ write010 self val ⌝ }
     {
-        Reg010 { value: with_ready(write_masked(self.value, val, Self::WRITABLE)) }
+        Reg010 {
+            value: with_ready(write_masked(self.value, val, Self::WRITABLE)),
+        }
     }
 
     pub fn on(self) -> bool
@@ -122,18 +123,19 @@ impl Reg010 {
     pub fn payload_size(self) -> u32
         ensures { λ r. ⌜ r ≡ payloadSize self ⌝ }
     {
-        size_of(self.value / 256 % 8)
+        size_of((self.value >> 8) % 8)
     }
 
     pub fn read_size(self) -> u32
         ensures { λ r. ⌜ r ≡ readSize self ⌝ }
     {
-        size_of(self.value / 4096 % 8)
+        size_of((self.value >> 12) % 8)
     }
 }
 
 impl Reg020 {
     pub const RESET: u32 = 0x0000_0700;
+
     pub const WRITABLE: u32 = 0x003F_0001;
 
     pub fn fresh() -> Reg020
@@ -145,7 +147,9 @@ impl Reg020 {
     fn write(self, val: u32) -> Reg020
         ensures { λ r. ⌜ r ≡ write020 self val ⌝ }
     {
-        Reg020 { value: with_ready(write_masked(self.value, val, Self::WRITABLE)) }
+        Reg020 {
+            value: with_ready(write_masked(self.value, val, Self::WRITABLE)),
+        }
     }
 
     pub fn on(self) -> bool
@@ -157,26 +161,26 @@ impl Reg020 {
     pub fn operating_count(self) -> u32
         ensures { λ r. ⌜ r ≡ operatingCount self ⌝ }
     {
-        self.value / 65536 % 64 + 1
+        (self.value >> 16) % 64 + 1
     }
 }
 
 fn bad008(v: u32) -> bool
     ensures { λ r. ⌜ r ≡ forbidden008 v ⌝ }
 {
-    (v / 67108864 % 4 == 3) | (4 < v / 1048576 % 8)
+    ((v >> 26) % 4 == 3) | (4 < (v >> 20) % 8)
 }
 
 fn bad010(v: u32) -> bool
     ensures { λ r. ⌜ r ≡ forbidden010 v ⌝ }
 {
-    (v / 4096 % 8 == 0) | ((v / 256 % 8 == 0) | (3 < v / 256 % 8))
+    ((v >> 12) % 8 == 0) | (((v >> 8) % 8 == 0) | (3 < (v >> 8) % 8))
 }
 
 fn bad020(v: u32) -> bool
     ensures { λ r. ⌜ r ≡ forbidden020 v ⌝ }
 {
-    7 < v / 65536 % 64
+    7 < (v >> 16) % 64
 }
 
 // A write of this value to this address is refused with number 2.
@@ -233,13 +237,25 @@ impl Config {
         let r010 = self.r010;
         let r020 = self.r020;
         if address == 0x008 {
-            return Config { r008: r008.write(val), r010, r020 };
+            return Config {
+                r008: r008.write(val),
+                r010,
+                r020,
+            };
         }
         if address == 0x010 {
-            return Config { r008, r010: r010.write(val), r020 };
+            return Config {
+                r008,
+                r010: r010.write(val),
+                r020,
+            };
         }
         if address == 0x020 {
-            return Config { r008, r010, r020: r020.write(val) };
+            return Config {
+                r008,
+                r010,
+                r020: r020.write(val),
+            };
         }
         self
     }
@@ -258,17 +274,25 @@ impl Config {
 fn reachable_008(v: u32) -> bool
     ensures { λ r. ⌜ r ≡ reachable008 v ⌝ }
 {
-    (v / 536870912 % 2 == 0) & (v / 16777216 % 4 == 3) & (v / 65536 % 16 == 12) & (v % 4096 == 3) & !bad008(v)
+    ((v >> 29) % 2 == 0)
+        & ((v >> 24) % 4 == 3)
+        & ((v >> 16) % 16 == 12)
+        & (v % 4096 == 3)
+        & !bad008(v)
 }
 
 fn reachable_010(v: u32) -> bool
     ensures { λ r. ⌜ r ≡ reachable010 v ⌝ }
 {
-    (v / 32768 % 131072 == 0) & (v / 2048 % 2 == 0) & (v / 8 % 32 == 6) & (v / 2 % 2 == v % 2) & !bad010(v)
+    ((v >> 15) % 131072 == 0)
+        & ((v >> 11) % 2 == 0)
+        & ((v >> 3) % 32 == 6)
+        & ((v >> 1) % 2 == v % 2)
+        & !bad010(v)
 }
 
 fn reachable_020(v: u32) -> bool
     ensures { λ r. ⌜ r ≡ reachable020 v ⌝ }
 {
-    (v / 4194304 % 1024 == 0) & (v / 4 % 16384 == 448) & (v / 2 % 2 == v % 2) & !bad020(v)
+    ((v >> 22) % 1024 == 0) & ((v >> 2) % 16384 == 448) & ((v >> 1) % 2 == v % 2) & !bad020(v)
 }

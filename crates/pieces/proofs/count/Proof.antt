@@ -1,0 +1,34 @@
+-- `count` meets its contract: the place in the first block stands for the address.
+use Prim.Native.Nat.{_+_, _-_, _%_}
+use native.Mathlib.Nat.{mod-lt, div-le-self}
+use native.Mathlib.Omega.{arith}
+use borrow.Author.Needs.{needs}
+use Rattle.pieces.specs.Blocks.{blocks-in-block}
+use Rattle.pieces.proofs.count.Statement.{statement}
+use Rattle.pieces.proofs.count.Tie as tie
+
+rem-in-block : tie.Need-rem-in-block
+rem-in-block c = search needs
+
+cast-in-block : tie.Need-cast-in-block
+cast-in-block c = record { fits = omega (arith, mod-lt (c .args .address) {m = c .args .payload} (omega arith)) }
+
+add-result : tie.Need-add-result
+add-result c = record { fits = omega (arith, mod-lt (c .args .address) {m = c .args .payload} (omega arith)) }
+
+sub-result : tie.Need-sub-result
+sub-result c = search needs
+
+div-result : tie.Need-div-result
+div-result c = search needs
+
+add-result-2 : tie.Need-add-result-2
+add-result-2 c =
+    let a = c .args in
+    record { fits = omega (arith, mod-lt (a .address) {m = a .payload} (omega arith), div-le-self (a .address % a .payload + a .length - 1) (a .payload)) }
+
+returns : tie.Need-returns
+returns c = blocks-in-block (c .args .address) (c .args .length) (c .args .payload) (omega arith) (omega arith)
+
+pub count-spec : {M : Type 1} → statement M
+count-spec = tie.close (tie.spec rem-in-block cast-in-block add-result sub-result div-result add-result-2 returns)

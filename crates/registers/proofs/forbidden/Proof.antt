@@ -1,0 +1,40 @@
+-- `registers::forbidden` meets its contract: the address picks the register.
+use borrow.Author.Tests.{eq-eqb, ne-eqb}
+use Rattle.base.specs.Pick.{taken, passed}
+use mathlib.Core.Path.{refl}
+use borrow.Author.Needs.{needs}
+use Rattle.registers.proofs.forbidden.Statement.{statement}
+use Rattle.registers.proofs.forbidden.Tie as tie
+
+bad008-requires : tie.Need-bad008-requires
+bad008-requires c κs = search needs
+
+returns : tie.Need-returns
+returns c = taken _ _ (eq-eqb _ _ (c .before .if1 .taken)) (c .bad008 .ensures)
+
+bad010-requires : tie.Need-bad010-requires
+bad010-requires c κs = search needs
+
+returns-2 : tie.Need-returns-2
+returns-2 c = passed _ _ (ne-eqb _ _ (c .before .before .if1 .left)) (taken _ _ (eq-eqb _ _ (c .before .if2 .taken)) (c .bad010 .ensures))
+
+bad020-requires : tie.Need-bad020-requires
+bad020-requires c κs = search needs
+
+returns-3 : tie.Need-returns-3
+returns-3 c = passed _ _ (ne-eqb _ _ (c .before .before .before .if1 .left)) (passed _ _ (ne-eqb _ _ (c .before .before .if2 .left)) (taken _ _ (eq-eqb _ _ (c .before .if3 .taken)) (c .bad020 .ensures)))
+
+returns-4 : tie.Need-returns-4
+returns-4 c = passed _ _ (ne-eqb _ _ (c .before .before .if1 .left)) (passed _ _ (ne-eqb _ _ (c .before .if2 .left)) (passed _ _ (ne-eqb _ _ (c .if3 .left)) refl))
+
+pub forbidden-spec : {M : Type 1} → statement M
+forbidden-spec =
+    tie.close
+    (tie.spec
+    bad008-requires
+    returns
+    bad010-requires
+    returns-2
+    bad020-requires
+    returns-3
+    returns-4)
