@@ -1,6 +1,6 @@
 -- One call on a state and the stores, and a run of calls. The state is handed over whole from call to call; docs/STATE.md has its bytes.
 use Prim.Native.Nat.{ℕ, _+_}
-use mathlib.Core.Bool.{Bool, true, false, _||_, not}
+use mathlib.Core.Bool.{Bool, true, false, _&&_, _||_, not}
 use mathlib.Core.List.{List, [], _∷_}
 use lib.Dec.{eqb, ltb}
 use lib.ListN.{length}
@@ -125,3 +125,25 @@ step w (lend write read) = looked (record { state = w .state; write = write; rea
 unfoldable pub run : World → List Call → World
 run w [] = w
 run w (c ∷ cs) = run (step w c .next) cs
+
+-- ---- what a caller in C can hand over: a slice's bytes are below 256
+
+unfoldable pub areBytes : List ℕ → Bool
+areBytes [] = true
+areBytes (x ∷ xs) = ltb x 256 && areBytes xs
+
+abbrev pub handedOver : Call → Bool
+handedOver start = true
+handedOver espiReset = true
+handedOver platformReset = true
+handedOver (exchange command reply) = areBytes command
+handedOver (look report) = true
+handedOver (answer serial success bytes) = true
+handedOver (takeWrite report) = true
+handedOver (setWire index bit value) = true
+handedOver (readWire index bit) = true
+handedOver (lend write read) = true
+
+unfoldable pub allHanded : List Call → Bool
+allHanded [] = true
+allHanded (c ∷ cs) = handedOver c && allHanded cs

@@ -5,7 +5,7 @@ use mathlib.Core.Bool.{Bool, true, false, _&&_, _||_, not}
 use mathlib.Core.Path.{_≡_}
 use lib.Dec.{eqb, ltb, leb}
 use lib.ListN.{length}
-use Rattle.registers.specs.Registers.{on0, on1, reachable}
+use Rattle.registers.specs.Registers.{on0, on1, payloadLegal, readLegal, reachable}
 use Rattle.registers.specs.declared.Config.{Config}
 use Rattle.wires.specs.Groups.{soundWires}
 use Rattle.wires.specs.declared.Wires.{Wires}
@@ -22,13 +22,6 @@ use Rattle.state.specs.declared.Peripheral.{Peripheral}
 use Rattle.state.specs.declared.State.{State}
 
 -- ---- "a held request or write is one that a command makes under the sizes recorded with it"
-
--- sizes that a code of 010h means
-abbrev pub payloadLegal : ℕ → Bool
-payloadLegal p = eqb p 64 || (eqb p 128 || eqb p 256)
-
-abbrev pub readLegal : ℕ → Bool
-readLegal p = payloadLegal p || (eqb p 512 || (eqb p 1024 || (eqb p 2048 || eqb p 4096)))
 
 -- "at most the .. size and does not cross a block of that size"
 abbrev pub within : ℕ → ℕ → ℕ → Bool
