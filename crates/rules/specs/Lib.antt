@@ -4,3 +4,4 @@ pub mod Board
 pub mod Reply
 pub mod Step
 pub mod Calls
+pub mod Bench
