@@ -1,0 +1,153 @@
+// A plan's answer written into the lent reply, and its kept data into a lent store.
+use rules::Answer;
+use rules::Body;
+use rules::Kept;
+use rules::Response;
+use state::Completion;
+use wires::Packet;
+ghost use mathlib.Core.Path.{_≡_};
+ghost use mathlib.Core.List.{_∷_, _++_};
+ghost use Prim.Native.Nat.{ℕ, _+_, _*_, _<_, _≤_};
+ghost use lib.ListN.{length, take, drop};
+ghost use Rattle.base.specs.Bytes.{over};
+ghost use Rattle.wires.specs.Groups.{packetBytes};
+ghost use Rattle.rules.specs.Plan.{responseByte};
+ghost use Rattle.rules.specs.Reply.{headerBytes, dataBytes, bodyBytes, closed, replyBytes, keptBytes};
+ghost use Rattle.rules.specs.Fits.{BodyFits, AnswerFits, KeptFits};
+
+fn response_byte(r: Response) -> u8
+    ensures { λ x. ⌜ x ≡ responseByte r ⌝ }
+{
+    match r {
+        Response::Accept => 0x08,
+        Response::Defer => 0x01,
+        Response::NonFatal => 0x02,
+        Response::Fatal => 0x03,
+    }
+}
+
+// The response byte and the header of a completion.
+fn header(code: u8, c: Completion) -> [u8; 4]
+    ensures { λ r. ⌜ r ≡ code ∷ headerBytes c ⌝ }
+{
+    [
+        code,
+        c.cycle,
+        (c.tag % 16) * 16 + ((c.length / 256 % 16) as u8),
+        (c.length % 256) as u8,
+    ]
+}
+
+// The data goes into the reply from its fifth byte on.
+fn put_piece(reply: &mut [u8], code: u8, c: Completion, reads: &[u8]) -> usize
+    requires { ⌜ (263 ≤ length (now reply)) × (4096 ≤ length (now reads)) × (c .length ≤ 256) × (c .from + c .length ≤ 4096) ⌝ }
+    ensures { λ r. ⌜ (now (reply .exit) ≡ over ((code ∷ headerBytes c) ++ dataBytes c (now (reads .entry))) (now (reply .entry))) × (r ≡ 4 + c .length) ⌝ }
+{
+    let first = header(code, c);
+    let n = c.length as usize;
+    let from = c.from as usize;
+    base::put_at(reply, 0, &first);
+    base::copy_in(&mut reply[4..], &reads[from..], n);
+    4 + n
+}
+
+// The response byte and a wire packet.
+fn put_groups(reply: &mut [u8], code: u8, p: Packet) -> usize
+    requires { ⌜ 263 ≤ length (now reply) ⌝ }
+    ensures { λ r. ⌜ (now (reply .exit) ≡ over (code ∷ packetBytes p) (now (reply .entry))) × (r ≡ length (code ∷ packetBytes p)) × (r ≤ 260) ⌝ }
+{
+    match p {
+        Packet::Nothing => {
+            base::put_at(reply, 0, &[code]);
+            1
+        }
+        Packet::One(a) => {
+            base::put_at(reply, 0, &[code, 0, a.index, a.byte]);
+            4
+        }
+        Packet::Two(a, b) => {
+            base::put_at(reply, 0, &[code, 1, a.index, a.byte, b.index, b.byte]);
+            6
+        }
+        Packet::Three(a, b, c) => {
+            base::put_at(reply, 0, &[code, 2, a.index, a.byte, b.index, b.byte, c.index, c.byte]);
+            8
+        }
+    }
+}
+
+// The response byte and a register.
+fn put_word(reply: &mut [u8], code: u8, v: u32) -> usize
+    requires { ⌜ 263 ≤ length (now reply) ⌝ }
+    ensures { λ r. ⌜ (now (reply .exit) ≡ over (code ∷ Rattle.base.specs.Bytes.low4 v) (now (reply .entry))) × (r ≡ 5) ⌝ }
+{
+    let w = base::bytes4(v);
+    base::put_at(reply, 0, &[code, w[0], w[1], w[2], w[3]]);
+    5
+}
+
+fn put_body(reply: &mut [u8], code: u8, body: Body, reads: &[u8]) -> usize
+    requires { ⌜ (263 ≤ length (now reply)) × (4096 ≤ length (now reads)) × BodyFits body ⌝ }
+    ensures { λ r. ⌜ (now (reply .exit) ≡ over (code ∷ bodyBytes body (now (reads .entry))) (now (reply .entry))) × (r ≡ length (code ∷ bodyBytes body (now (reads .entry)))) × (r ≤ 260) ⌝ }
+{
+    match body {
+        Body::Nothing => {
+            base::put_at(reply, 0, &[code]);
+            1
+        }
+        Body::Word(v) => put_word(reply, code, v),
+        Body::Piece(c) => put_piece(reply, code, c, reads),
+        Body::Groups(p) => put_groups(reply, code, p),
+    }
+}
+
+// Status, and the CRC of all before it, after the first n bytes.
+fn finish(reply: &mut [u8], n: usize, status: u32)
+    requires { ⌜ n + 3 ≤ length (now reply) ⌝ }
+    ensures { λ _. ⌜ now (reply .exit) ≡ over (closed (take n (now (reply .entry))) status) (now (reply .entry)) ⌝ }
+{
+    let w = base::bytes2(status);
+    base::put_at(reply, n, &w);
+    let end = n + 2;
+    let one = [crc::crc_first(reply, end)];
+    base::put_at(reply, end, &one);
+}
+
+fn say(reply: &mut [u8], code: u8, body: Body, status: u32, reads: &[u8]) -> u32
+    requires { ⌜ (263 ≤ length (now reply)) × (4096 ≤ length (now reads)) × BodyFits body ⌝ }
+    ensures { λ r. ⌜ (now (reply .exit) ≡ over (closed (code ∷ bodyBytes body (now (reads .entry))) status) (now (reply .entry))) × (r ≡ length (closed (code ∷ bodyBytes body (now (reads .entry))) status)) × (r ≤ 263) ⌝ }
+{
+    let n = put_body(reply, code, body, reads);
+    finish(reply, n, status);
+    (n + 3) as u32
+}
+
+// The reply that the answer is; its length.
+pub fn answer(reply: &mut [u8], a: Answer, reads: &[u8]) -> u32
+    requires { ⌜ (263 ≤ length (now reply)) × (4096 ≤ length (now reads)) × AnswerFits a ⌝ }
+    ensures { λ r. ⌜ (now (reply .exit) ≡ over (replyBytes a (now (reads .entry))) (now (reply .entry))) × (r ≡ length (replyBytes a (now (reads .entry)))) × (r ≤ 263) ⌝ }
+{
+    match a {
+        Answer::Silent => 0,
+        Answer::Said(response, body, status) => say(reply, response_byte(response), body, status, reads),
+    }
+}
+
+fn keep_data(dst: &mut [u8], at: u32, n: u32, src: &[u8])
+    requires { ⌜ (n ≤ length (now dst)) × (at + n ≤ length (now src)) ⌝ }
+    ensures { λ _. ⌜ now (dst .exit) ≡ over (take n (drop at (now (src .entry)))) (now (dst .entry)) ⌝ }
+{
+    let from = at as usize;
+    base::copy_in(dst, &src[from..], n as usize);
+}
+
+// The call's data that a store keeps.
+pub fn keep(dst: &mut [u8], k: Kept, src: &[u8])
+    requires { ⌜ KeptFits k (length (now src)) (length (now dst)) ⌝ }
+    ensures { λ _. ⌜ now (dst .exit) ≡ over (keptBytes k (now (src .entry))) (now (dst .entry)) ⌝ }
+{
+    match k {
+        Kept::Nothing => {}
+        Kept::Data(at, n) => keep_data(dst, at, n, src),
+    }
+}
