@@ -1,12 +1,14 @@
 // Virtual wires: the table of six rows, and the six groups by value.
 ghost use mathlib.Core.Path.{_≡_};
-ghost use mathlib.Core.Bool.{Bool, true, _&&_};
+ghost use mathlib.Core.Bool.{Bool, true, false, _&&_};
 ghost use Prim.Native.Nat.{ℕ, _+_, _-_, _*_, _≤_, _<_};
 ghost use lib.ListN.{length, take};
 ghost use Rattle.wires.specs.Table.{rowAt, isGroup};
 ghost use lib.Bits.{bitAnd};
 ghost use lib.Dec.{eqb, ltb};
-ghost use Rattle.wires.specs.Groups.{freshWires, withGroup, levelAt, nibble, putPair, putPairs, definedBit, settable, setWire, readWire, sent, packetOf, afterSent, anyPending, differs, enabled, disabled, placed, resetGroup, platformWires, undefinedZero, marksRight, placeRight, soundWires};
+ghost use Rattle.wires.specs.Turn.{after};
+ghost use Rattle.wires.specs.Sending.{takenList, takenAnd, asked, Sendable};
+ghost use Rattle.wires.specs.Groups.{senders, groupOf, freshWires, withGroup, levelAt, nibble, putPair, putPairs, definedBit, settable, setWire, readWire, sent, packetOf, afterSent, anyPending, differs, enabled, disabled, placed, resetGroup, platformWires, undefinedZero, marksRight, placeRight, soundWires};
 
 pub struct WireRow {
     pub index: u8,
@@ -67,6 +69,20 @@ pub struct Group {
     pub byte: u8,
 }
 
+// The senders that a packet takes, in order: 0, 1, 2 for groups 4, 5, 6.
+enum Taken {
+    None,
+    One(u8),
+    Two(u8, u8),
+    Three(u8, u8, u8),
+}
+
+// Going round: the senders taken so far, and how many more the packet holds.
+struct Asking {
+    taken: Taken,
+    left: u32,
+}
+
 // What a GET_VWIRE sends: at most the three up groups.
 pub enum Packet {
     Nothing,
@@ -81,6 +97,30 @@ fn nibble_of(old: u8, val: u8, mask: u8) -> u8
     ensures { λ r. ⌜ r ≡ nibble old val mask ⌝ }
 {
     (old & (15 - mask)) | (val & mask)
+}
+
+fn after_sender(k: u8) -> u8
+    requires { ⌜ k < 3 ⌝ }
+    ensures { λ r. ⌜ (r ≡ after senders k) × (r < 3) ⌝ }
+{
+    if k + 1 < 3 {
+        return k + 1;
+    }
+    0
+}
+
+impl Taken {
+    // One more; a packet never takes a fourth.
+    fn and(self, k: u8) -> Taken
+        ensures { λ r. ⌜ r ≡ takenAnd self k ⌝ }
+    {
+        match self {
+            Taken::None => Taken::One(k),
+            Taken::One(a) => Taken::Two(a, k),
+            Taken::Two(a, b) => Taken::Three(a, b, k),
+            Taken::Three(a, b, c) => Taken::Three(a, b, c),
+        }
+    }
 }
 
 // "undefined wire bits are 0"
@@ -198,6 +238,80 @@ impl Wires {
     {
         let at = (index - 2) as usize;
         ((self.level[at] >> bit) % 2) as u32
+    }
+
+    // Sender k is asked: it is taken if it waits and the packet has room.
+    fn asked(self, round: Asking, k: u8) -> Asking
+        requires { ⌜ k < 3 ⌝ }
+        ensures { λ r. ⌜ r ≡ asked self round k ⌝ }
+    {
+        let at = (k + 2) as usize;
+        if !self.pending[at] {
+            return round;
+        }
+        if round.left < 1 {
+            return round;
+        }
+        let taken = round.taken;
+        Asking { taken: taken.and(k), left: round.left - 1 }
+    }
+
+    fn taken(self, capacity: u32) -> Taken
+        requires { ⌜ (4 ≤ self .place) × (self .place ≤ 6) ⌝ }
+        ensures { λ r. ⌜ takenList r ≡ sent self capacity ⌝ }
+    {
+        let a = self.place - 4;
+        let b = after_sender(a);
+        let c = after_sender(b);
+        let start = Asking { taken: Taken::None, left: capacity };
+        let one = self.asked(start, a);
+        let two = self.asked(one, b);
+        let all = self.asked(two, c);
+        all.taken
+    }
+
+    fn group(self, k: u8) -> Group
+        requires { ⌜ (k < 3) × (levelAt self (k + 4) < 16) ⌝ }
+        ensures { λ r. ⌜ r ≡ groupOf self k ⌝ }
+    {
+        let at = (k + 2) as usize;
+        Group { index: k + 4, byte: TABLE[at].defined * 16 + self.level[at] }
+    }
+
+    pub fn packet(self, capacity: u32) -> Packet
+        requires { ⌜ Sendable self ⌝ }
+        ensures { λ r. ⌜ r ≡ packetOf self (sent self capacity) ⌝ }
+    {
+        let t = self.taken(capacity);
+        match t {
+            Taken::None => Packet::Nothing,
+            Taken::One(a) => Packet::One(self.group(a)),
+            Taken::Two(a, b) => Packet::Two(self.group(a), self.group(b)),
+            Taken::Three(a, b, c) => Packet::Three(self.group(a), self.group(b), self.group(c)),
+        }
+    }
+
+    fn unmarked(self, k: u8) -> Wires
+        requires { ⌜ k < 3 ⌝ }
+        ensures { λ r. ⌜ r ≡ withGroup self (k + 4) (levelAt self (k + 4)) false ⌝ }
+    {
+        let at = (k + 2) as usize;
+        self.with((k + 4) as usize, self.level[at], false)
+    }
+
+    pub fn after_sent(self, capacity: u32) -> Wires
+        requires { ⌜ (4 ≤ self .place) × (self .place ≤ 6) ⌝ }
+        ensures { λ r. ⌜ r ≡ afterSent self (sent self capacity) ⌝ }
+    {
+        let t = self.taken(capacity);
+        match t {
+            Taken::None => self,
+            Taken::One(a) => self.unmarked(a).placed(after_sender(a) + 4),
+            Taken::Two(a, b) => self.unmarked(a).unmarked(b).placed(after_sender(b) + 4),
+            Taken::Three(a, b, c) => {
+                self.unmarked(a).unmarked(b).unmarked(c).placed(after_sender(c) + 4)
+            }
+        }
     }
 
     pub fn any_pending(self) -> bool
