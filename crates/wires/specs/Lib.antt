@@ -1,3 +1,7 @@
 pub mod Table
 pub mod Turn
 pub mod Groups
+pub mod Rows
+pub mod Round
+pub mod Changes
+pub mod Sending
