@@ -1,3 +1,4 @@
 pub mod Opcode
 pub mod Needs
 pub mod Decode
+pub mod Laws
