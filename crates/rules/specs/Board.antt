@@ -57,12 +57,15 @@ answered s q false = quietly (withPeripheral s (withRequest (s .peripheral) (Fai
 abbrev pub bytesFor : Request → Bool → ℕ
 bytesFor q success = pick success (answerLength (q .kind) q) 0
 
-abbrev pub answering : State → ℕ → Bool → ℕ → Np → Plan
-answering s serial success n Free = silent 20 s
-answering s serial success n (Waiting q) =
+abbrev pub answeringWaiting : State → Request → ℕ → Bool → ℕ → Plan
+answeringWaiting s q serial success n =
     pick (not (eqb serial (s .peripheral .serial))) (silent 20 s)
     (pick (not (eqb n (bytesFor q success))) (silent 21 s)
     (answered s q success))
+
+abbrev pub answering : State → ℕ → Bool → ℕ → Np → Plan
+answering s serial success n Free = silent 20 s
+answering s serial success n (Waiting q) = answeringWaiting s q serial success n
 answering s serial success n (Ready q sent) = silent 20 s
 answering s serial success n (Failed q) = silent 20 s
 
