@@ -1,11 +1,14 @@
 -- `count` meets its contract: the place in the first block stands for the address.
-use Prim.Native.Nat.{_+_, _-_, _%_}
+use Prim.Native.Nat.{ℕ, _+_, _/_, _^_, _<_}
 use native.Mathlib.Nat.{mod-lt, div-le-self}
 use native.Mathlib.Omega.{arith}
 use borrow.Author.Needs.{needs}
 use Rattle.pieces.specs.Blocks.{blocks-in-block}
 use Rattle.pieces.proofs.count.Statement.{statement}
 use Rattle.pieces.proofs.count.Tie as tie
+
+quotient-fits : (n m : ℕ) → n < 8192 → n / m + 1 < 2 ^ 32
+quotient-fits n m h = omega (arith, div-le-self n m)
 
 rem-in-block : tie.Need-rem-in-block
 rem-in-block c = search needs
@@ -23,9 +26,7 @@ div-result : tie.Need-div-result
 div-result c = search needs
 
 add-result-2 : tie.Need-add-result-2
-add-result-2 c =
-    let a = c .args in
-    record { fits = omega (arith, mod-lt (a .address) {m = a .payload} (omega arith), div-le-self (a .address % a .payload + a .length - 1) (a .payload)) }
+add-result-2 c = record { fits = quotient-fits _ _ (omega (arith, mod-lt (c .args .address) {m = c .args .payload} (omega arith))) }
 
 returns : tie.Need-returns
 returns c = blocks-in-block (c .args .address) (c .args .length) (c .args .payload) (omega arith) (omega arith)

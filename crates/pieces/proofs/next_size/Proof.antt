@@ -1,6 +1,5 @@
 -- `next_size` meets its contract: the place in the first block stands for the address.
-use Prim.Native.Nat.{_+_, _%_}
-use native.Mathlib.Nat.{mod-lt, mod-add-mod}
+use native.Mathlib.Nat.{le-of-lt, mod-lt, mod-add-mod}
 use native.Mathlib.Omega.{arith}
 use borrow.Author.Needs.{needs}
 use Rattle.pieces.specs.Pieces.{nextSize}
@@ -20,7 +19,7 @@ rem-room : tie.Need-rem-room
 rem-room c = search needs
 
 sub-room : tie.Need-sub-room
-sub-room c = omega (arith, mod-lt (c .args .address % c .args .payload + c .args .sent) {m = c .args .payload} (omega arith))
+sub-room c = le-of-lt (mod-lt _ (omega arith))
 
 sub-left : tie.Need-sub-left
 sub-left c = search needs
