@@ -276,7 +276,7 @@ static void customer(void)
 {
     fresh();
     line("40 00 64 BD", 0, "01 05 00 2A");
-    line("22 00 10 00 11 00 00 E3", 0, "08 05 00 14");
+    line("22 00 10 00 11 00 00 E3", 0, "08 05 00 10");
     line("01 07", 14, "");
     line("22 00 10 01 11 00 00 00", 0, "08 07 00 3A");
     answered(1, 1, 20);
@@ -287,7 +287,7 @@ static void customer(void)
     uint8_t key = 0x1C;
     if (answer(2, 1, &key, 1) != ESPI_OK)
         fail("the answer to the new read was refused");
-    line("01 07", 0, "08 0F 00 01 1C 07 00 FF");
+    line("01 07", 0, "08 0F 00 01 1C 07 00 5F");
 }
 
 /* ---- a seeded random run */
