@@ -165,7 +165,7 @@ static void say_answer(struct board *b, uint32_t serial, uint32_t success, const
 /* The keyboard controller at ports 60h and 64h; memory above 1000h holds counting bytes; every other address fails. */
 static void serve(struct board *b, const struct request *q)
 {
-    uint8_t data[4096];
+    uint8_t data[4096] = {0};
     if (q->kind == ESPI_IO_WRITE && q->address == 0x64) {
         b->command = (uint8_t)q->bytes;
         say_answer(b, q->serial, 1, data, 0);
