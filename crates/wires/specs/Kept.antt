@@ -192,7 +192,7 @@ pairs-kept w [] s = s
 pairs-kept w (i ∷ []) s = s
 pairs-kept w (i ∷ b ∷ ps) s = pairs-kept (putPair w i b) ps (pair-kept w i b s)
 
-or-cases : (a b : Bool) → a || b ≡ true → (a ≡ true) ⊎ (b ≡ true)
+pub or-cases : (a b : Bool) → a || b ≡ true → (a ≡ true) ⊎ (b ≡ true)
 or-cases true b e = inl refl
 or-cases false b e = inr e
 
@@ -291,10 +291,10 @@ sound-sendable on w e =
 
 -- ---- the laws: six groups stay six
 
-whole-with : (w : Wires) (i level : ℕ) (mark : Bool) → wholeWires (withGroup w i level mark) ≡ wholeWires w
+pub whole-with : (w : Wires) (i level : ℕ) (mark : Bool) → wholeWires (withGroup w i level mark) ≡ wholeWires w
 whole-with w i level mark = rw (length-set (w .level) (i - 2) level, length-set (w .pending) (i - 2) mark)
 
-whole-pair : (w : Wires) (i b : ℕ) → wholeWires (putPair w i b) ≡ wholeWires w
+pub whole-pair : (w : Wires) (i b : ℕ) → wholeWires (putPair w i b) ≡ wholeWires w
 whole-pair w i b = pick-ind (λ (v : Wires). wholeWires v ≡ wholeWires w) (isDown i) (λ _. whole-with w i _ _) (λ _. refl)
 
 pub whole-put : (w : Wires) (ps : List ℕ) → wholeWires (putPairs w ps) ≡ wholeWires w
