@@ -1,8 +1,8 @@
 -- P19 and P20: what each change makes of levels, marks and place.
-use Prim.Native.Nat.{ℕ, zero, suc, _+_, _-_, _*_, _/_, _%_, _^_, _<_, _≤_}
+use Prim.Native.Nat.{ℕ, suc, _+_, _-_, _*_, _/_, _%_, _^_, _<_, _≤_}
 use mathlib.Core.Bool.{Bool, true, false, _&&_, _||_, not, true≢false}
 use mathlib.Core.List.{List, [], _∷_}
-use mathlib.Core.Path.{_≡_, refl, sym, ap, subst, _∙_}
+use mathlib.Core.Path.{_≡_, refl, sym, ap, _∙_}
 use native.Mathlib.Omega.{arith}
 use lib.Bits.{bitAnd, and-le-r}
 use lib.Pow.{pow-lt}
@@ -10,11 +10,11 @@ use lib.Dec.{eqb}
 use lib.ListN.{getD, set, length, take, drop, length-take, drop-of-length-le}
 use lib.Seq.{drop-cons, getD-take, getD-set-same, getD-set-other, set-getD}
 use borrow.Author.Tests.{eqb-true, eqb-false, eq-eqb, ne-eqb}
-use Rattle.base.specs.Pick.{pick, pick-ind, and-left, and-right}
+use Rattle.base.specs.Pick.{pick, pick-ind, and-left}
 use Rattle.wires.specs.Table.{rowAt, isGroup}
-use Rattle.wires.specs.Rows.{InTable, in-table, DefinedBit, defined-bit, Settable, settable-bit, row-right}
+use Rattle.wires.specs.Rows.{InTable, in-table, defined-bit, Settable, settable-bit, row-right}
 use Rattle.wires.specs.Nibbles.{bitOf, binary, and-bit, and-one, nibble-bit, nibble-small, mask-inside, set-bit, same-bits}
-use Rattle.wires.specs.Kept.{whole-level, whole-marks, whole-put, whole-pair}
+use Rattle.wires.specs.Kept.{whole-level, whole-marks, whole-pair}
 use Rattle.wires.specs.Groups.{levelAt, markAt, withGroup, nibble, isDown, putPair, putPairs, definedBit, settable, setLevel, setWire, readWire, wholeWires}
 use Rattle.wires.specs.declared.Wires.{Wires}
 

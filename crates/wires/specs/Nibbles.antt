@@ -1,11 +1,10 @@
 -- Four bits under a mask, bit by bit.
-use Prim.Native.Nat.{ℕ, zero, suc, _+_, _-_, _*_, _/_, _%_, _^_, _≤_, _<_}
+use Prim.Native.Nat.{ℕ, zero, suc, _-_, _*_, _/_, _%_, _^_, _≤_, _<_}
 use mathlib.Core.Bool.{Bool, true, false, _&&_}
 use mathlib.Core.Path.{_≡_, refl, sym, ap, subst, _∙_}
-use mathlib.Core.Logic.{_⊎_, inl, inr}
 use native.Mathlib.Omega.{arith}
 use native.Mathlib.Nat.{mod-lt, mod-eq-of-lt}
-use lib.Bits.{bitAnd, bitOr, and-shr, or-shr, and-mod, or-mod, and-le-r, and-zero-l, and-zero-r, or-zero-l, or-zero-r, or-lt}
+use lib.Bits.{bitAnd, bitOr, and-shr, or-shr, and-mod, or-mod, and-le-r, and-zero-l, and-zero-r, or-lt}
 use lib.Pow.{pow-lt, shl-shr}
 use lib.Dec.{eqb, ltb}
 use borrow.Author.Tests.{eqb-true, eqb-false, ltb-true, eq-eqb, lt-ltb}
@@ -116,16 +115,16 @@ and-one x on = refl
 pub clean-view : (d x : ℕ) → d < 16 → cleanTest d x ≡ true → Clean d x
 clean-view d x h e =
     let z = eqb-true (bitAnd x (15 - d)) 0 (and-left (eqb (bitAnd x (15 - d)) 0) _ e) in
-    record
-      { small = ltb-true x 16 (and-right (eqb (bitAnd x (15 - d)) 0) _ e)
-      ; undefined-off = λ k hk q.
+    record {
+      small = ltb-true x 16 (and-right (eqb (bitAnd x (15 - d)) 0) _ e);
+      undefined-off = λ k hk q.
           sym (and-one (bitOf x k) (binary (x / 2 ^ k)))
           ∙ ap (λ (m : ℕ). bitAnd (bitOf x k) (1 - m)) (sym q)
           ∙ ap (bitAnd (bitOf x k)) (sym (not-bit d k h hk))
           ∙ sym (and-bit x (15 - d) k)
           ∙ ap (λ (y : ℕ). bitOf y k) z
-          ∙ eqb-true (bitOf 0 k) 0 (under 4 (λ (j : ℕ). eqb (bitOf 0 j) 0) refl k hk)
-      }
+          ∙ eqb-true (bitOf 0 k) 0 (under 4 (λ (j : ℕ). eqb (bitOf 0 j) 0) refl k hk);
+    }
 
 pub clean-test : (d x : ℕ) → d < 16 → Clean d x → cleanTest d x ≡ true
 clean-test d x h c =
@@ -140,10 +139,10 @@ clean-test d x h c =
 -- only defined bits change
 pub nibble-clean : (d old val mask : ℕ) → mask < 16 → ((k : ℕ) → k < 4 → bitOf d k ≡ 0 → bitOf mask k ≡ 0) → Clean d old → Clean d (nibble old val mask)
 nibble-clean d old val mask h m c =
-    record
-      { small = nibble-small old val mask h
-      ; undefined-off = λ k hk q. nibble-bit old val mask k h hk ∙ ap (λ (t : ℕ). pick (eqb t 1) (bitOf val k) (bitOf old k)) (m k hk q) ∙ c .undefined-off k hk q
-      }
+    record {
+      small = nibble-small old val mask h;
+      undefined-off = λ k hk q. nibble-bit old val mask k h hk ∙ ap (λ (t : ℕ). pick (eqb t 1) (bitOf val k) (bitOf old k)) (m k hk q) ∙ c .undefined-off k hk q;
+    }
 
 -- a mask cut to the defined bits
 pub mask-inside : (v d k : ℕ) → bitOf d k ≡ 0 → bitOf (bitAnd v d) k ≡ 0
