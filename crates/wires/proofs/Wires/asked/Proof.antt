@@ -1,11 +1,11 @@
-use Rattle.wires.specs.Sending.{waits-as}
-use Rattle.base.specs.Pick.{taken, passed}
-use lib.ListN.{getD}
+use Prim.Native.Nat.{_+_}
 use mathlib.Core.Path.{refl}
 use mathlib.Core.Bool.{false}
-use Prim.Native.Nat.{_+_}
+use lib.ListN.{getD}
 use borrow.Author.Tests.{not-true, not-false, le-leb, lt-leb}
 use borrow.Author.Needs.{needs}
+use Rattle.base.specs.Pick.{taken, passed}
+use Rattle.wires.specs.Sending.{waits-as}
 use Rattle.wires.proofs.Wires.asked.Statement.{statement}
 use Rattle.wires.proofs.Wires.asked.Tie as tie
 

@@ -1,7 +1,7 @@
-use Rattle.wires.specs.declared.Wires.{Wires}
-use Rattle.wires.specs.Groups.{placed, firstPlace, resetGroup}
 use mathlib.Core.Path.{ap, _∙_}
 use borrow.Author.Needs.{needs}
+use Rattle.wires.specs.declared.Wires.{Wires}
+use Rattle.wires.specs.Groups.{placed, firstPlace, resetGroup}
 use Rattle.wires.proofs.Wires.platform.Statement.{statement}
 use Rattle.wires.proofs.Wires.platform.Tie as tie
 

@@ -1,10 +1,10 @@
-use Rattle.wires.specs.Rows.{row-right}
-use Rattle.wires.specs.Table.{rowAt}
-use lib.Bits.{and-le-r}
-use native.Mathlib.Omega.{arith}
 use Prim.Native.Nat.{_-_, _/_}
+use native.Mathlib.Omega.{arith}
+use lib.Bits.{and-le-r}
 use borrow.Author.Tests.{le-leb, lt-leb, not-true, not-false}
 use borrow.Author.Needs.{needs}
+use Rattle.wires.specs.Rows.{row-right}
+use Rattle.wires.specs.Table.{rowAt}
 use Rattle.wires.proofs.Wires.put_pair.Statement.{statement}
 use Rattle.wires.proofs.Wires.put_pair.Tie as tie
 

@@ -1,11 +1,10 @@
-use Rattle.wires.specs.Sending.{asked}
+use Prim.Native.Nat.{_-_, _<_}
+use mathlib.Core.Path.{ap, _∙_}
+use native.Mathlib.Omega.{arith}
+use borrow.Author.Needs.{needs}
+use Rattle.wires.specs.Sending.{asked, asked-all}
 use Rattle.wires.specs.Groups.{senders}
 use Rattle.wires.specs.Turn.{after}
-use mathlib.Core.Path.{ap, _∙_}
-use Rattle.wires.specs.Sending.{asked-all}
-use native.Mathlib.Omega.{arith}
-use Prim.Native.Nat.{_-_, _<_}
-use borrow.Author.Needs.{needs}
 use Rattle.wires.proofs.Wires.send.Statement.{statement}
 use Rattle.wires.proofs.Wires.send.Tie as tie
 

@@ -1,7 +1,7 @@
-use Rattle.wires.specs.Rows.{settable-bit, bit-exact, bit-alone}
-use lib.Pow.{pow-lt}
 use native.Mathlib.Omega.{arith}
+use lib.Pow.{pow-lt}
 use borrow.Author.Needs.{needs}
+use Rattle.wires.specs.Rows.{settable-bit, bit-exact, bit-alone}
 use Rattle.wires.proofs.Wires.set.Statement.{statement}
 use Rattle.wires.proofs.Wires.set.Tie as tie
 
