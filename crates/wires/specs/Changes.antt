@@ -1,6 +1,6 @@
 -- P19 and P20: what each change makes of levels, marks and place.
 use Prim.Native.Nat.{ℕ, suc, _+_, _-_, _*_, _/_, _%_, _^_, _<_, _≤_}
-use mathlib.Core.Bool.{Bool, true, false, _&&_, _||_, not, true≢false}
+use mathlib.Core.Bool.{Bool, true, false, _&&_, _||_, not}
 use mathlib.Core.List.{List, [], _∷_}
 use mathlib.Core.Path.{_≡_, refl, sym, ap, _∙_}
 use native.Mathlib.Omega.{arith}
@@ -14,12 +14,9 @@ use Rattle.base.specs.Pick.{pick, pick-ind, and-left}
 use Rattle.wires.specs.Table.{rowAt, isGroup}
 use Rattle.wires.specs.Rows.{InTable, in-table, defined-bit, Settable, settable-bit, row-right}
 use Rattle.wires.specs.Nibbles.{bitOf, binary, and-bit, and-one, nibble-bit, nibble-small, mask-inside, set-bit, same-bits}
-use Rattle.wires.specs.Kept.{whole-level, whole-marks, whole-pair}
+use Rattle.wires.specs.Kept.{clash, whole-level, whole-marks, whole-pair}
 use Rattle.wires.specs.Groups.{levelAt, markAt, withGroup, nibble, isDown, putPair, putPairs, definedBit, settable, setLevel, setWire, readWire, wholeWires}
 use Rattle.wires.specs.declared.Wires.{Wires}
-
-clash : {X : Type 0} → false ≡ true → X
-clash e = absurd (true≢false (sym e))
 
 -- ---- one group changed
 
@@ -214,7 +211,11 @@ module _ (on : Bool) (w : Wires) (i bit value : ℕ) (ok : settable i bit value 
           (λ k l. bits k l ∙ same (eqb-true _ _ q) k (eqb k bit) refl))
       go false q =
           ne-eqb _ _
-          (λ x. eqb-false _ _ q (sym (ap (λ (y : ℕ). bitOf y bit) x) ∙ bits bit (it .defined .small) ∙ ap (λ (b : Bool). pick b value (readWire w i bit)) (eq-eqb bit bit refl)))
+          (λ x.
+          eqb-false _ _ q
+          (sym (ap (λ (y : ℕ). bitOf y bit) x)
+          ∙ bits bit (it .defined .small)
+          ∙ ap (λ (b : Bool). pick b value (readWire w i bit)) (eq-eqb bit bit refl)))
 
   -- the mark is raised by a real change while the channel is on, and by nothing else
   pub set-mark : wholeWires w ≡ true → levelAt w i < 16
