@@ -53,7 +53,7 @@ pub record Sound (on : Bool) (w : Wires) : Type 0 where
   pub from : 4 ≤ w .place
   pub upto : w .place ≤ 6
 
-six : (P : ℕ → Type 0) → P 2 → P 3 → P 4 → P 5 → P 6 → P 7 → (i : ℕ) → 2 ≤ i → i ≤ 7 → P i
+pub six : (P : ℕ → Type 0) → P 2 → P 3 → P 4 → P 5 → P 6 → P 7 → (i : ℕ) → 2 ≤ i → i ≤ 7 → P i
 six P a b c d e f zero h l = absurd (omega arith)
 six P a b c d e f (suc zero) h l = absurd (omega arith)
 six P a b c d e f (suc (suc zero)) h l = a
