@@ -12,9 +12,10 @@ use Rattle.registers.specs.Registers.{on0, on1, payloadLegal, readLegal, reacha
 use Rattle.wires.specs.Groups.{soundWires}
 use Rattle.pieces.specs.Pieces.{nextSize}
 use Rattle.pieces.specs.Edges.{next-le, next-pos, next-ok}
+use Rattle.state.specs.Fresh.{freshState, dropped}
 use Rattle.state.specs.Upward.{nextOf, handed, afterPiece, afterSuccess}
 use Rattle.state.specs.Status.{pcFree, npFree}
-use Rattle.state.specs.Sound.{within, shortSize, ioMade, madeAs, requestMade, writeMade, sentRight, soundRequest, soundWrite, nothingHeld, soundPeripheral, sound, fitsRequest, fitsWrite, fitsConfig, fitsPeripheral, fits}
+use Rattle.state.specs.Sound.{within, shortSize, ioMade, madeAs, requestMade, sentRight, soundRequest, soundWrite, nothingHeld, soundPeripheral, sound, fitsRequest, fitsWrite, fitsConfig, fitsPeripheral, fits, Sound}
 use Rattle.state.specs.declared.Kind.{Kind}
 use Rattle.state.specs.declared.Kind.the-variants.{MemoryRead, IoRead, IoWrite}
 use Rattle.state.specs.declared.Request.{Request}
@@ -389,15 +390,41 @@ fit-made s p =
     (and-true (lt-ltb _ _ (p .r008)) (and-true (lt-ltb _ _ (p .r010)) (lt-ltb _ _ (p .r020))))
     (and-true (and-true (p .request) (and-true (p .write) (lt-ltb _ _ (p .serial)))) (and-true (eq-eqb _ _ (p .level)) (eq-eqb _ _ (p .pending))))
 
--- ---- what is held once a completion is handed over is sound, and fits
+-- ---- the fresh state, and a queue that was dropped
 
-ready-made : (q : Request) (sent : ℕ) → requestMade q ≡ true → sentRight (q .kind) q sent ≡ true → soundRequest (Ready q sent) ≡ true
+pub fresh-sound : Sound freshState
+unfolding sound fits soundRequest soundWrite
+fresh-sound = record { isSound = refl; isFit = refl }
+
+pub dropped-sound : (p : Peripheral) (on : Bool) → soundPeripheral on (dropped p) ≡ true
+unfolding soundRequest soundWrite
+dropped-sound p true = refl
+dropped-sound p false = refl
+
+-- ---- an answered request
+
+pub ready-made : (q : Request) (sent : ℕ) → requestMade q ≡ true → sentRight (q .kind) q sent ≡ true → soundRequest (Ready q sent) ≡ true
 unfolding soundRequest
 ready-made q sent e f = and-true e f
 
-free-made : soundRequest Free ≡ true
+pub free-made : soundRequest Free ≡ true
 unfolding soundRequest
 free-made = refl
+
+sent-none : (k : Kind) (q : Request) → 1 ≤ q .length → sentRight k q 0 ≡ true
+sent-none MemoryRead q h = and-true (lt-ltb 0 (q .length) h) refl
+sent-none IoRead q h = and-true (lt-ltb 0 (q .length) h) refl
+sent-none IoWrite q h = refl
+
+pub answered-sound : (q : Request) → soundRequest (Waiting q) ≡ true → soundRequest (Ready q 0) ≡ true
+unfolding soundRequest
+answered-sound q e = ready-made q 0 e (sent-none (q .kind) q (request-made q e .least))
+
+pub failed-sound : (q : Request) → soundRequest (Waiting q) ≡ true → soundRequest (Failed q) ≡ true
+unfolding soundRequest
+failed-sound q e = e
+
+-- ---- what is held once a completion is handed over is sound, and fits
 
 edge-right : (q : Request) (sent : ℕ) → sent < q .length → (q .address + sent) % q .payload ≡ 0 → sentRight MemoryRead q sent ≡ true
 edge-right q sent h e = and-true (lt-ltb _ _ h) (go (eqb sent 0))
