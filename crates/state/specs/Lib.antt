@@ -3,3 +3,4 @@ pub mod Upward
 pub mod Status
 pub mod Sound
 pub mod Layout
+pub mod Facts
