@@ -4,3 +4,9 @@ pub mod Board
 pub mod Reply
 pub mod Step
 pub mod Calls
+pub mod Kept
+pub mod KeptBytes
+pub mod KeptParts
+pub mod KeptQueues
+pub mod KeptWires
+pub mod KeptProof
