@@ -10,3 +10,4 @@ pub mod KeptParts
 pub mod KeptQueues
 pub mod KeptWires
 pub mod KeptProof
+pub mod KeptFits
