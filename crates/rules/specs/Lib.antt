@@ -11,3 +11,6 @@ pub mod KeptQueues
 pub mod KeptWires
 pub mod KeptProof
 pub mod KeptFits
+pub mod KeptClauses
+pub mod KeptRegisters
+pub mod SoundMeans
