@@ -7,17 +7,17 @@ use mathlib.Core.Logic.{_⊎_, inl, inr, ⊎-elim}
 use native.Mathlib.Omega.{arith}
 use lib.Bits.{bitAnd, and-le-r}
 use lib.Pow.{pow-lt}
-use lib.Dec.{eqb, ltb, leb}
+use lib.Dec.{eqb, leb}
 use lib.ListN.{getD, set, length, length-set}
-use borrow.Author.Tests.{leb-true, le-leb, eqb-true, eqb-false, ne-eqb, not-true, not-false}
+use borrow.Author.Tests.{leb-true, le-leb, eqb-true, ne-eqb, not-true, not-false}
 use Rattle.base.specs.Pick.{pick, pick-ind, and-left, and-right, and-true}
 use Rattle.wires.specs.Table.{rowAt, isGroup}
-use Rattle.wires.specs.Rows.{isUp, row-right, RightRow, in-table, DefinedBit, defined-bit, Settable, settable-bit}
+use Rattle.wires.specs.Rows.{isUp, row-right, in-table, DefinedBit, Settable, settable-bit}
 use Rattle.wires.specs.Turn.{placeAfter}
 use Rattle.wires.specs.Round.{AllBelow, none, more, turn-below, place-below}
 use Rattle.wires.specs.Sending.{Sendable}
-use Rattle.wires.specs.Nibbles.{bitOf, cleanTest, Clean, clean-view, clean-test, nibble-clean, mask-inside, one-bit}
-use Rattle.wires.specs.Groups.{senders, senderSize, waiting, levelAt, markAt, withGroup, nibble, isDown, putPair, putPairs, definedBit, settable, setLevel, setWire, placed, unmarked, afterSent, sent, anyPending, differs, enabled, disabled, resetGroup, platformWires, freshWires, onlyDefined, undefinedZero, marksRight, placeRight, soundWires, wholeWires}
+use Rattle.wires.specs.Nibbles.{bitOf, cleanTest, clean-view, clean-test, nibble-clean, mask-inside, one-bit}
+use Rattle.wires.specs.Groups.{senders, senderSize, waiting, levelAt, markAt, withGroup, nibble, isDown, putPair, putPairs, settable, setWire, placed, unmarked, afterSent, sent, anyPending, enabled, disabled, platformWires, freshWires, onlyDefined, undefinedZero, marksRight, placeRight, soundWires, wholeWires}
 use Rattle.wires.specs.declared.Wires.{Wires}
 
 -- ---- tests
@@ -96,12 +96,12 @@ pub sound-view : (on : Bool) (w : Wires) → soundWires on w ≡ true → Sound 
 sound-view on w e =
     let u = and-left (undefinedZero w && marksRight on w) (placeRight w) e in
     let p = and-right (undefinedZero w && marksRight on w) (placeRight w) e in
-    record
-      { clean = clean-all w (and-left (undefinedZero w) (marksRight on w) u)
-      ; marks = marks-all on w (and-right (undefinedZero w) (marksRight on w) u)
-      ; from = leb-true 4 (w .place) (and-left (leb 4 (w .place)) (leb (w .place) 6) p)
-      ; upto = leb-true (w .place) 6 (and-right (leb 4 (w .place)) (leb (w .place) 6) p)
-      }
+    record {
+      clean = clean-all w (and-left (undefinedZero w) (marksRight on w) u);
+      marks = marks-all on w (and-right (undefinedZero w) (marksRight on w) u);
+      from = leb-true 4 (w .place) (and-left (leb 4 (w .place)) (leb (w .place) 6) p);
+      upto = leb-true (w .place) 6 (and-right (leb 4 (w .place)) (leb (w .place) 6) p);
+    }
 
 pub sound-test : (on : Bool) (w : Wires) → Sound on w → soundWires on w ≡ true
 sound-test on w s =
@@ -145,18 +145,18 @@ set-cases Q (x ∷ l) (suc i) (suc j) a d f q = set-cases Q l i j a d (λ e. f (
 pub sound-with : {on : Bool} {w : Wires} (i level : ℕ) (mark : Bool) → 2 ≤ i → i ≤ 7 → cleanTest (rowAt (i - 2) .defined) level ≡ true
     → (mark ≡ true → (isUp i ≡ true) × (on ≡ true)) → Sound on w → Sound on (withGroup w i level mark)
 sound-with {on} {w} i level mark h l c m s =
-    record
-      { clean = λ j hj lj.
+    record {
+      clean = λ j hj lj.
           set-cases (λ (x : ℕ). cleanTest (rowAt (j - 2) .defined) x ≡ true) (w .level) (i - 2) (j - 2) level 0
           (λ e. subst (λ (k : ℕ). cleanTest (rowAt k .defined) level ≡ true) (sym e) c)
-          (s .clean j hj lj)
-      ; marks = λ j hj lj.
+          (s .clean j hj lj);
+      marks = λ j hj lj.
           set-cases (λ (b : Bool). b ≡ true → (isUp j ≡ true) × (on ≡ true)) (w .pending) (i - 2) (j - 2) mark false
           (λ e. let q : i ≡ j = omega arith in subst (λ (k : ℕ). mark ≡ true → (isUp k ≡ true) × (on ≡ true)) q m)
-          (s .marks j hj lj)
-      ; from = s .from
-      ; upto = s .upto
-      }
+          (s .marks j hj lj);
+      from = s .from;
+      upto = s .upto;
+    }
 
 pub sound-placed : {on : Bool} {w : Wires} (p : ℕ) → 4 ≤ p → p ≤ 6 → Sound on w → Sound on (placed w p)
 sound-placed p h l s = record { clean = s .clean; marks = s .marks; from = h; upto = l }
@@ -178,12 +178,12 @@ pair-kept : {on : Bool} (w : Wires) (i b : ℕ) → Sound on w → Sound on (put
 pair-kept {on} w i b s =
     pick-ind (Sound on) (isDown i)
     (λ e.
-      let t = in-table i (and-left (isGroup i) (rowAt (i - 2) .down) e) in
-      let d = rowAt (i - 2) .defined in
-      sound-with i _ (markAt w i) (t .from) (t .upto)
-      (clean-nibble i (b % 16) (bitAnd (b / 16) d) (t .from) (t .upto) (omega (arith, and-le-r (b / 16) d, small-row i (t .from) (t .upto))) (λ k _ q. mask-inside (b / 16) d k q) s)
-      (s .marks i (t .from) (t .upto))
-      s)
+    let t = in-table i (and-left (isGroup i) (rowAt (i - 2) .down) e) in
+    let d = rowAt (i - 2) .defined in
+    sound-with i _ (markAt w i) (t .from) (t .upto)
+    (clean-nibble i (b % 16) (bitAnd (b / 16) d) (t .from) (t .upto) (omega (arith, and-le-r (b / 16) d, small-row i (t .from) (t .upto))) (λ k _ q. mask-inside (b / 16) d k q) s)
+    (s .marks i (t .from) (t .upto))
+    s)
     (λ _. s)
 
 pairs-kept : {on : Bool} (w : Wires) (ps : List ℕ) → Sound on w → Sound on (putPairs w ps)
@@ -192,7 +192,7 @@ pairs-kept w [] s = s
 pairs-kept w (i ∷ []) s = s
 pairs-kept w (i ∷ b ∷ ps) s = pairs-kept (putPair w i b) ps (pair-kept w i b s)
 
-or-cases : (a b : Bool) → a || b ≡ true → (a ≡ true) ⊎ (b ≡ true)
+pub or-cases : (a b : Bool) → a || b ≡ true → (a ≡ true) ⊎ (b ≡ true)
 or-cases true b e = inl refl
 or-cases false b e = inr e
 
@@ -243,12 +243,12 @@ enabled-kept w s =
 
 disabled-kept : {on : Bool} (w : Wires) → Sound on w → Sound false (disabled w)
 disabled-kept w s =
-    record
-      { clean = s .clean
-      ; marks = six (λ (i : ℕ). markAt (disabled w) i ≡ true → (isUp i ≡ true) × (false ≡ true)) clash clash clash clash clash clash
-      ; from = omega arith
-      ; upto = omega arith
-      }
+    record {
+      clean = s .clean;
+      marks = six (λ (i : ℕ). markAt (disabled w) i ≡ true → (isUp i ≡ true) × (false ≡ true)) clash clash clash clash clash clash;
+      from = omega arith;
+      upto = omega arith;
+    }
 
 platform-kept : {on : Bool} (w : Wires) → Sound on w → Sound on (platformWires w)
 platform-kept w s =
@@ -283,18 +283,18 @@ sound-platform on w e = sound-test on _ (platform-kept w (sound-view on w e))
 pub sound-sendable : (on : Bool) (w : Wires) → soundWires on w ≡ true → Sendable w
 sound-sendable on w e =
     let s = sound-view on w e in
-    record
-      { from = s .from
-      ; upto = s .upto
-      ; small = λ k h. clean-view (rowAt (k + 4 - 2) .defined) (levelAt w (k + 4)) (small-row (k + 4) (omega arith) (omega arith)) (s .clean (k + 4) (omega arith) (omega arith)) .small
-      }
+    record {
+      from = s .from;
+      upto = s .upto;
+      small = λ k h. clean-view (rowAt (k + 4 - 2) .defined) (levelAt w (k + 4)) (small-row (k + 4) (omega arith) (omega arith)) (s .clean (k + 4) (omega arith) (omega arith)) .small;
+    }
 
 -- ---- the laws: six groups stay six
 
-whole-with : (w : Wires) (i level : ℕ) (mark : Bool) → wholeWires (withGroup w i level mark) ≡ wholeWires w
+pub whole-with : (w : Wires) (i level : ℕ) (mark : Bool) → wholeWires (withGroup w i level mark) ≡ wholeWires w
 whole-with w i level mark = rw (length-set (w .level) (i - 2) level, length-set (w .pending) (i - 2) mark)
 
-whole-pair : (w : Wires) (i b : ℕ) → wholeWires (putPair w i b) ≡ wholeWires w
+pub whole-pair : (w : Wires) (i b : ℕ) → wholeWires (putPair w i b) ≡ wholeWires w
 whole-pair w i b = pick-ind (λ (v : Wires). wholeWires v ≡ wholeWires w) (isDown i) (λ _. whole-with w i _ _) (λ _. refl)
 
 pub whole-put : (w : Wires) (ps : List ℕ) → wholeWires (putPairs w ps) ≡ wholeWires w

@@ -7,3 +7,4 @@ pub mod Sending
 pub mod Nibbles
 pub mod Kept
 pub mod Changes
+pub mod Sent

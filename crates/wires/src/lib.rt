@@ -1,14 +1,13 @@
 // Virtual wires: the table of six rows, and the six groups by value.
 ghost use mathlib.Core.Path.{_≡_};
-ghost use mathlib.Core.Bool.{Bool, true, false, _&&_};
-ghost use Prim.Native.Nat.{ℕ, _+_, _-_, _*_, _≤_, _<_};
+ghost use mathlib.Core.Bool.{true, _&&_};
+ghost use Prim.Native.Nat.{_+_, _-_, _*_, _≤_, _<_};
 ghost use lib.ListN.{length, take};
-ghost use Rattle.wires.specs.Table.{rowAt, isGroup};
 ghost use lib.Bits.{bitAnd};
 ghost use lib.Dec.{eqb, ltb};
 ghost use Rattle.wires.specs.Turn.{after};
 ghost use Rattle.wires.specs.Sending.{packetAnd, leftBy, asked, sending, Sendable};
-ghost use Rattle.wires.specs.Groups.{senders, groupOf, freshWires, withGroup, levelAt, nibble, putPair, putPairs, definedBit, settable, setWire, readWire, sent, packetOf, afterSent, anyPending, differs, enabled, disabled, placed, resetGroup, platformWires, undefinedZero, marksRight, placeRight, soundWires};
+ghost use Rattle.wires.specs.Groups.{senders, groupOf, freshWires, withGroup, levelAt, nibble, putPair, putPairs, definedBit, settable, setWire, readWire, anyPending, differs, enabled, disabled, placed, resetGroup, platformWires, undefinedZero, marksRight, placeRight, soundWires};
 
 pub struct WireRow {
     pub index: u8,
@@ -257,8 +256,9 @@ impl Wires {
         ensures { λ r. ⌜ r ≡ leftBy self k ⌝ }
     {
         let at = (k + 2) as usize;
+        let next = after_sender(k);
         self.with((k + 4) as usize, self.level[at], false)
-            .placed(after_sender(k) + 4)
+            .placed(next + 4)
     }
 
     // Sender k is asked: it is taken if it waits and the packet has room.
