@@ -6,3 +6,5 @@ pub mod Step
 pub mod Calls
 pub mod Fits
 pub mod Bench
+pub mod Apart
+pub mod ApartProof
