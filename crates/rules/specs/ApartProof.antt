@@ -68,7 +68,7 @@ unfolding status
 high-but s =
     omega (arith, bit-below (pcFree (s .peripheral .write)), bit-below (npFree (s .peripheral .request)), bit-below (pcAvail (s .peripheral .request)), bit-below (anyPending (s .wires)))
 
-closed-as : (m : List ℕ) (t : ℕ) → closed m t ≡ m ++ (t % 256 ∷ t / 256 % 256 ∷ crc (m ++ low2 t) ∷ [])
+pub closed-as : (m : List ℕ) (t : ℕ) → closed m t ≡ m ++ (t % 256 ∷ t / 256 % 256 ∷ crc (m ++ low2 t) ∷ [])
 unfolding closed
 closed-as m t = append-assoc m (low2 t) _
 

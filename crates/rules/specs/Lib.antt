@@ -8,3 +8,6 @@ pub mod Fits
 pub mod Bench
 pub mod Apart
 pub mod ApartProof
+pub mod WireRuns
+pub mod Bound
+pub mod BoundProof
