@@ -11,3 +11,4 @@ pub mod ApartProof
 pub mod WireRuns
 pub mod Bound
 pub mod BoundProof
+pub mod WireRunsProof
