@@ -1,6 +1,6 @@
 -- P22, by one induction: a run shows what its calls but for the wire events show, from the same state with any wires.
-use Prim.Native.Nat.{ℕ, _+_, _-_, _*_, _/_, _%_, _≤_, _<_}
-use mathlib.Core.Bool.{Bool, true, false, _&&_, _||_, not, true≢false}
+use Prim.Native.Nat.{ℕ, _+_, _-_, _/_, _%_, _≤_}
+use mathlib.Core.Bool.{Bool, true, false, _||_, not, true≢false}
 use mathlib.Core.List.{List, [], _∷_, _++_, append-assoc}
 use mathlib.Core.Path.{_≡_, refl, sym, ap, subst, _∙_}
 use native.Mathlib.Omega.{arith}
@@ -9,9 +9,9 @@ use lib.ListN.{getD, length, take, length-append}
 use lib.Seq.{take-at, getD-at, getD-append-add}
 use borrow.Author.Tests.{eqb-true, ne-eqb}
 use Rattle.base.specs.Pick.{pick, pick-ind}
-use Rattle.base.specs.Bytes.{low2, over, over-none}
+use Rattle.base.specs.Bytes.{low2, over}
 use Rattle.crc.specs.Crc.{crc}
-use Rattle.registers.specs.Registers.{on0, on1, payloadSize, crcChecked, operatingCount, forbiddenAt, writeAt}
+use Rattle.registers.specs.Registers.{payloadSize, crcChecked, operatingCount, forbiddenAt}
 use Rattle.registers.specs.declared.Config.{Config}
 use Rattle.wires.specs.Groups.{settable, sent, anyPending}
 use Rattle.wires.specs.declared.Wires.{Wires}
@@ -38,14 +38,14 @@ use Rattle.state.specs.declared.Request.{Request}
 use Rattle.state.specs.declared.State.{State}
 use Rattle.state.specs.declared.Write.{Write}
 use Rattle.state.specs.declared.Write.the-variants.{Empty, Held}
-use Rattle.rules.specs.Plan.{fatal, said, acceptThen}
+use Rattle.rules.specs.Plan.{fatal}
 use Rattle.rules.specs.Decide as D
 use Rattle.rules.specs.Board as B
 use Rattle.rules.specs.Board.{bytesFor}
 use Rattle.rules.specs.Plan.{responseByte}
 use Rattle.rules.specs.Reply.{closed, replyBytes, bodyBytes, keptBytes}
 use Rattle.rules.specs.Step.{World, Call, start, espiReset, platformReset, exchange, look, answer, takeWrite, setWire, readWire, lend, Outcome, step, run, exchanged, settled, shortStores, succeeded, readLength, writeLength, lookLength, takeLength}
-use Rattle.rules.specs.Apart.{isWireEvent, others, withoutBit6, butWires, Shown, shown, shows, SameButWires, RunsAlike, WiresApart}
+use Rattle.rules.specs.Apart.{isWireEvent, others, withoutBit6, butWires, Shown, shown, shows, RunsAlike, WiresApart}
 use Rattle.rules.specs.declared.Answer.the-variants.{Silent, Said}
 use Rattle.rules.specs.declared.Body.{Body}
 use Rattle.rules.specs.declared.Kept.{Kept}

@@ -1,8 +1,8 @@
 -- P21: the view, all that a call can do to the wires by one sweep over `step`; then a pending group is sent or comes nearer, by Round's law at
 -- three senders of size 1.
-use Prim.Native.Nat.{ℕ, zero, suc, _+_, _-_, _*_, _/_, _%_, _<_, _≤_}
+use Prim.Native.Nat.{ℕ, suc, _+_, _-_, _*_, _/_, _%_, _<_, _≤_}
 use mathlib.Core.Bool.{Bool, true, false, _&&_, _||_, not, true≢false}
-use mathlib.Core.List.{List, [], _∷_, _++_, List·Memᴰ, List·Memᴰ·head, List·Memᴰ·tail, Memᴰ·cast}
+use mathlib.Core.List.{List, [], _∷_, List·Memᴰ, List·Memᴰ·head, List·Memᴰ·tail}
 use mathlib.Core.Path.{_≡_, refl, sym, ap, subst, _∙_}
 use native.Mathlib.Omega.{arith}
 use lib.Dec.{eqb, ltb}
@@ -12,7 +12,6 @@ use Rattle.base.specs.Pick.{pick, pick-ind, and-left, and-right}
 use Rattle.registers.specs.Registers.{on1, crcChecked, payloadSize, operatingCount, forbiddenAt, write020, writeAt}
 use Rattle.registers.specs.Laws.{on1-written, write-r020}
 use Rattle.registers.specs.declared.Config.{Config}
-use Rattle.registers.specs.declared.Reg020.{Reg020}
 use Rattle.wires.specs.Table.{rowAt}
 use Rattle.wires.specs.Groups as G
 use Rattle.wires.specs.Groups.{levelAt, markAt, senders, settable, putPairs, packetOf, packetBytes, afterSent, anyPending, freshWires, platformWires}
@@ -42,7 +41,6 @@ use Rattle.state.specs.declared.Completion.{Completion}
 use Rattle.state.specs.declared.Np.{Np}
 use Rattle.state.specs.declared.Np.the-variants.{Free, Waiting, Ready, Failed}
 use Rattle.state.specs.declared.Request.{Request}
-use Rattle.state.specs.declared.State.{State}
 use Rattle.state.specs.declared.Write.{Write}
 use Rattle.state.specs.declared.Write.the-variants.{Empty, Held}
 use Rattle.rules.specs.Plan.{silent, fatal, acceptThen}

@@ -1,6 +1,6 @@
 -- P19 and P20 of `step`: what PUT_VWIRE, GET_VWIRE and the board's set and read do to levels, marks and place, and what raises a mark (01, Wires).
 use Prim.Native.Nat.{ℕ, _+_, _-_, _*_, _%_, _<_, _≤_, min}
-use mathlib.Core.Bool.{Bool, true, false, _&&_, _||_, not}
+use mathlib.Core.Bool.{true, false, _&&_, _||_, not}
 use mathlib.Core.List.{List, [], _∷_, _++_, List·Memᴰ}
 use mathlib.Core.Path.{_≡_}
 use lib.Dec.{eqb}

@@ -1,6 +1,6 @@
 -- P19 and P20 of `step`, from the view and the laws of the wires.
-use Prim.Native.Nat.{ℕ, zero, suc, _+_, _-_, _*_, _/_, _%_, _^_, _<_, _≤_, min}
-use mathlib.Core.Bool.{Bool, true, false, _&&_, _||_, not, true≢false}
+use Prim.Native.Nat.{ℕ, zero, suc, _+_, _-_, _*_, _/_, _%_, _^_, _<_, _≤_}
+use mathlib.Core.Bool.{Bool, true, false, _&&_, _||_, true≢false}
 use mathlib.Core.List.{List, [], _∷_, _++_, List·Memᴰ, List·Memᴰ·head, List·Memᴰ·tail, List·Memᴰ·not-nil, List·Memᴰ·cases-cons}
 use mathlib.Core.Logic.{⊎-elim}
 use mathlib.Core.Path.{_≡_, refl, sym, ap, subst, _∙_}
@@ -8,10 +8,9 @@ use native.Mathlib.Omega.{arith}
 use lib.Bits.{bitAnd}
 use lib.Dec.{eqb, ltb}
 use lib.ListN.{getD, length, take}
-use lib.Seq.{take-nil}
-use borrow.Author.Tests.{eqb-true, eqb-false, eq-eqb, ltb-true, lt-ltb, not-true}
+use borrow.Author.Tests.{eqb-true, eqb-false, ltb-true, lt-ltb, not-true}
 use Rattle.base.specs.Pick.{pick, pick-ind, and-left, and-right}
-use Rattle.registers.specs.Registers.{on1, operatingCount}
+use Rattle.registers.specs.Registers.{on1}
 use Rattle.wires.specs.Table.{rowAt, isGroup}
 use Rattle.wires.specs.Groups as G
 use Rattle.wires.specs.Groups.{levelAt, markAt, isDown, definedBit, settable, senders, wholeWires, noMarks, afterSent, differs}
@@ -21,18 +20,17 @@ use Rattle.wires.specs.Round.{AllBelow, none, more}
 use Rattle.wires.specs.Sending.{sender-place}
 use Rattle.wires.specs.Kept as K
 use Rattle.wires.specs.Changes.{put-read, put-undefined, put-passes, put-marks, put-place, set-read, set-level-other, set-mark-other, set-mark}
-use Rattle.wires.specs.Sent.{waiters, queue, sent-queue, pendingCount, sent-count, sent-levels, sent-stays, sent-gone, pairBytes}
+use Rattle.wires.specs.Sent.{waiters, queue, sent-queue, sent-count, sent-levels, sent-stays, sent-gone, pairBytes}
 use Rattle.wires.specs.declared.Wires.{Wires}
 use Rattle.command.specs.Decode.{registerAddress, registerData}
 use Rattle.state.specs.Sound.{Sound, fits, fitsConfig, fitsPeripheral}
 use Rattle.state.specs.Status.{status}
 use Rattle.state.specs.declared.State.{State}
-use Rattle.rules.specs.Board as B
 use Rattle.rules.specs.Reply.{closed}
 use Rattle.rules.specs.Step.{World, Call, exchange, setWire, readWire, Outcome, step}
-use Rattle.rules.specs.Bound.{WireKind, nothing, puts, gets, sets, enables, disables, starts, resets, platformResets, edge, written, commandWire, wireKindOf, wireKind, wiresOf, groupByte}
+use Rattle.rules.specs.Bound.{WireKind, nothing, puts, gets, sets, enables, disables, starts, resets, platformResets, edge, commandWire, wireKindOf, wireKind, wiresOf}
 use Rattle.rules.specs.BoundProof.{channelOn, countOf, WireMove, still, put, sent, set, enabled, disabled, started, reset, platformReset′, wire-view, wire-view-as, wires-sound, sent-body}
-use Rattle.rules.specs.WireRuns.{wireOf, pairsIn, Put, Set, nextUp, marked, pendingRound, pairsOf, Got, SomeGot, Raised, byChange, byEnabling, WireSteps}
+use Rattle.rules.specs.WireRuns.{wireOf, pairsIn, Put, Set, nextUp, marked, pairsOf, SomeGot, Raised, byChange, byEnabling, WireSteps}
 
 clash : {X : Type 0} → false ≡ true → X
 clash e = absurd (true≢false (sym e))
