@@ -1,13 +1,13 @@
 -- P22, by one induction: a run shows what its calls but for the wire events show, from the same state with any wires.
 use Prim.Native.Nat.{ℕ, _+_, _-_, _/_, _%_, _≤_}
 use mathlib.Core.Bool.{Bool, true, false, _||_, not, true≢false}
-use mathlib.Core.List.{List, [], _∷_, _++_, append-assoc}
+use mathlib.Core.List.{List, [], _∷_, _++_}
 use mathlib.Core.Path.{_≡_, refl, sym, ap, subst, _∙_}
 use native.Mathlib.Omega.{arith}
 use lib.Dec.{eqb, ltb}
 use lib.ListN.{getD, length, take, length-append}
 use lib.Seq.{take-at, getD-at, getD-append-add}
-use borrow.Author.Tests.{eqb-true, ne-eqb}
+use borrow.Author.Tests.{ne-eqb}
 use Rattle.base.specs.Pick.{pick, pick-ind}
 use Rattle.base.specs.Bytes.{low2, over}
 use Rattle.crc.specs.Crc.{crc}
@@ -15,13 +15,12 @@ use Rattle.registers.specs.Registers.{payloadSize, crcChecked, operatingCount, 
 use Rattle.registers.specs.declared.Config.{Config}
 use Rattle.wires.specs.Groups.{settable, sent, anyPending}
 use Rattle.wires.specs.declared.Wires.{Wires}
-use Rattle.command.specs.Opcode.{opcodeOf, shortOf, shortOpcode}
+use Rattle.command.specs.Opcode.{opcodeOf}
 use Rattle.command.specs.Decode.{admit}
 use Rattle.command.specs.Facts.{opcodeFor, admit-opcode}
 use Rattle.command.specs.declared.Access.{Access}
 use Rattle.command.specs.declared.Access.the-variants.{IoRead, IoWrite, MemoryRead, MemoryWrite}
 use Rattle.command.specs.declared.Opcode.{Opcode}
-use Rattle.command.specs.declared.Opcode.the-variants as O
 use Rattle.command.specs.declared.Place.{Place}
 use Rattle.command.specs.declared.Command.{Command}
 use Rattle.command.specs.declared.Command.the-variants as C
@@ -46,6 +45,8 @@ use Rattle.rules.specs.Plan.{responseByte}
 use Rattle.rules.specs.Reply.{closed, replyBytes, bodyBytes, keptBytes}
 use Rattle.rules.specs.Step.{World, Call, start, espiReset, platformReset, exchange, look, answer, takeWrite, setWire, readWire, lend, Outcome, step, run, exchanged, settled, shortStores, succeeded, readLength, writeLength, lookLength, takeLength}
 use Rattle.rules.specs.Apart.{isWireEvent, others, withoutBit6, butWires, Shown, shown, shows, RunsAlike, WiresApart}
+use Rattle.rules.specs.Bound.{WireKind, nothing, puts, gets, sets, enables, disables, starts, resets, platformResets}
+use Rattle.rules.specs.BoundProof.{opcodeWire, byte-wire, closed-as}
 use Rattle.rules.specs.declared.Answer.the-variants.{Silent, Said}
 use Rattle.rules.specs.declared.Body.{Body}
 use Rattle.rules.specs.declared.Kept.{Kept}
@@ -68,11 +69,7 @@ unfolding status
 high-but s =
     omega (arith, bit-below (pcFree (s .peripheral .write)), bit-below (npFree (s .peripheral .request)), bit-below (pcAvail (s .peripheral .request)), bit-below (anyPending (s .wires)))
 
-pub closed-as : (m : List ℕ) (t : ℕ) → closed m t ≡ m ++ (t % 256 ∷ t / 256 % 256 ∷ crc (m ++ low2 t) ∷ [])
-unfolding closed
-closed-as m t = append-assoc m (low2 t) _
-
-pub closed-length : (m : List ℕ) (t : ℕ) → length (closed m t) ≡ length m + 3
+closed-length : (m : List ℕ) (t : ℕ) → length (closed m t) ≡ length m + 3
 closed-length m t = rw closed-as (simp length-append (omega arith))
 
 parted : (l m : List ℕ) (a b : ℕ) → length l ≡ length m + 3 → take (length m) l ≡ m → getD l (length m) 0 ≡ a → getD l (length m + 1) 0 ≡ b
@@ -95,50 +92,33 @@ closed-but m s =
 
 -- ---- the wire commands by their opcode
 
-abbrev wireOpcode : Opcode → Bool
-wireOpcode O.PutPc = false
-wireOpcode O.GetPc = false
-wireOpcode O.PutNp = false
-wireOpcode O.PutVwire = true
-wireOpcode O.GetVwire = true
-wireOpcode O.GetConfiguration = false
-wireOpcode O.SetConfiguration = false
-wireOpcode O.GetStatus = false
-wireOpcode O.Reset = false
-wireOpcode (O.Short a n) = false
-wireOpcode O.Unknown = false
+abbrev isTraffic : WireKind → Bool
+isTraffic nothing = false
+isTraffic puts = true
+isTraffic gets = true
+isTraffic sets = false
+isTraffic enables = false
+isTraffic disables = false
+isTraffic starts = false
+isTraffic resets = false
+isTraffic platformResets = false
 
-short-apart : (a : Access) (n : ℕ) → wireOpcode (shortOf a n) ≡ false
-short-apart a n = pick-ind (λ (op : Opcode). wireOpcode op ≡ false) (eqb n 2) (λ _. refl) (λ _. refl)
-
-shorts-apart : (x : ℕ) → wireOpcode (shortOpcode x) ≡ false
-shorts-apart x =
-    let Q : Opcode → Type 0 = λ op. wireOpcode op ≡ false in
-    pick-ind Q (eqb (x / 4) 0x10) (λ _. short-apart IoRead (x % 4))
-    (λ _. pick-ind Q (eqb (x / 4) 0x11) (λ _. short-apart IoWrite (x % 4))
-    (λ _. pick-ind Q (eqb (x / 4) 0x12) (λ _. short-apart MemoryRead (x % 4))
-    (λ _. pick-ind Q (eqb (x / 4) 0x13) (λ _. short-apart MemoryWrite (x % 4)) (λ _. refl))))
-
-wire-opcode : (x : ℕ) → wireOpcode (opcodeOf x) ≡ (eqb x 0x04 || eqb x 0x05)
-wire-opcode x =
-    let Q : Opcode → Type 0 = λ op. wireOpcode op ≡ (eqb x 0x04 || eqb x 0x05) in
-    pick-ind Q (eqb x 0x00) (λ e. rw (eqb-true x 0x00 e))
-    (λ _. pick-ind Q (eqb x 0x01) (λ e. rw (eqb-true x 0x01 e))
-    (λ _. pick-ind Q (eqb x 0x02) (λ e. rw (eqb-true x 0x02 e))
-    (λ _. pick-ind Q (eqb x 0x04) (λ e. rw (eqb-true x 0x04 e))
-    (λ e₄. pick-ind Q (eqb x 0x05) (λ e. rw (eqb-true x 0x05 e))
-    (λ e₅. pick-ind Q (eqb x 0x21) (λ e. rw (eqb-true x 0x21 e))
-    (λ _. pick-ind Q (eqb x 0x22) (λ e. rw (eqb-true x 0x22 e))
-    (λ _. pick-ind Q (eqb x 0x25) (λ e. rw (eqb-true x 0x25 e))
-    (λ _. pick-ind Q (eqb x 0xFF) (λ e. rw (eqb-true x 0xFF e))
-    (λ _. shorts-apart x ∙ sym (ap (λ (t : Bool). t || eqb x 0x05) e₄ ∙ e₅))))))))))
+wire-byte : (x : ℕ) → isTraffic (opcodeWire nothing (opcodeOf x)) ≡ (eqb x 0x04 || eqb x 0x05)
+wire-byte x = ap isTraffic (byte-wire nothing x) ∙ go (eqb x 0x04) (eqb x 0x05) (eqb x 0x22)
+  where
+    go : (a b c : Bool) → isTraffic (pick a puts (pick b gets (pick c nothing nothing))) ≡ (a || b)
+    go true b c = refl
+    go false true c = refl
+    go false false true = refl
+    go false false false = refl
 
 abbrev wireCommand : Command → Bool
-wireCommand c = wireOpcode (opcodeFor c)
+wireCommand c = isTraffic (opcodeWire nothing (opcodeFor c))
 
 wire-known : (s : State) (b : List ℕ) (c : Command) → admit (D.channelsOf (s .config)) (crcChecked (s .config .r008)) b ≡ Known c
     → wireCommand c ≡ (eqb (getD b 0 0) 0x04 || eqb (getD b 0 0) 0x05)
-wire-known s b c e = sym (ap wireOpcode (admit-opcode (D.channelsOf (s .config)) (crcChecked (s .config .r008)) b c e)) ∙ wire-opcode (getD b 0 0)
+wire-known s b c e =
+    sym (ap (λ (op : Opcode). isTraffic (opcodeWire nothing op)) (admit-opcode (D.channelsOf (s .config)) (crcChecked (s .config .r008)) b c e)) ∙ wire-byte (getD b 0 0)
 
 -- ---- the same world with other wires
 

@@ -2,13 +2,15 @@
 -- three senders of size 1.
 use Prim.Native.Nat.{ℕ, suc, _+_, _-_, _*_, _/_, _%_, _<_, _≤_}
 use mathlib.Core.Bool.{Bool, true, false, _&&_, _||_, not, true≢false}
-use mathlib.Core.List.{List, [], _∷_, List·Memᴰ, List·Memᴰ·head, List·Memᴰ·tail}
+use mathlib.Core.List.{List, [], _∷_, _++_, append-assoc, List·Memᴰ, List·Memᴰ·head, List·Memᴰ·tail}
 use mathlib.Core.Path.{_≡_, refl, sym, ap, subst, _∙_}
 use native.Mathlib.Omega.{arith}
 use lib.Dec.{eqb, ltb}
 use lib.ListN.{getD, length, List·getD-append}
 use borrow.Author.Tests.{eqb-true, ne-eqb, not-true, not-false}
 use Rattle.base.specs.Pick.{pick, pick-ind, and-left, and-right}
+use Rattle.base.specs.Bytes.{low2}
+use Rattle.crc.specs.Crc.{crc}
 use Rattle.registers.specs.Registers.{on1, crcChecked, payloadSize, operatingCount, forbiddenAt, write020, writeAt}
 use Rattle.registers.specs.Laws.{on1-written, write-r020}
 use Rattle.registers.specs.declared.Config.{Config}
@@ -49,7 +51,6 @@ use Rattle.rules.specs.Board as B
 use Rattle.rules.specs.Board.{bytesFor}
 use Rattle.rules.specs.Reply.{closed, replyBytes}
 use Rattle.rules.specs.Step.{World, Call, start, espiReset, platformReset, exchange, look, answer, takeWrite, setWire, readWire, lend, Outcome, step, run, exchanged, settled, shortStores, succeeded, readLength, writeLength, lookLength, takeLength, handedOver, allHanded}
-use Rattle.rules.specs.ApartProof.{closed-as}
 use Rattle.rules.specs.Bound.{WireKind, nothing, puts, gets, sets, enables, disables, starts, resets, platformResets, edge, written, commandWire, wireKindOf, wireKind, wiresOf, endsWires, oneIfGets, goesOn, getsIn, Carries, groupByte, SentBy, SentByTheThird}
 use Rattle.rules.specs.WireRuns.{pairsIn}
 use Rattle.rules.specs.declared.Plan.{Plan}
@@ -78,7 +79,7 @@ pub data WireMove (w : World) (c : Call) (o : Outcome) : WireKind → Type 0 whe
   platformReset′ : c ≡ platformReset → wiresOf (o .next) ≡ platformWires (wiresOf w) → WireMove w c o platformResets
 
 -- what an accepted command is by its opcode, `k` being what a SET_CONFIGURATION is
-abbrev opcodeWire : WireKind → Opcode → WireKind
+abbrev pub opcodeWire : WireKind → Opcode → WireKind
 opcodeWire k O.PutPc = nothing
 opcodeWire k O.GetPc = nothing
 opcodeWire k O.PutNp = nothing
@@ -102,7 +103,7 @@ shorts-nothing k x =
     (λ _. pick-ind Q (eqb (x / 4) 0x12) (λ _. short-nothing k MemoryRead (x % 4))
     (λ _. pick-ind Q (eqb (x / 4) 0x13) (λ _. short-nothing k MemoryWrite (x % 4)) (λ _. refl))))
 
-byte-wire : (k : WireKind) (x : ℕ) → opcodeWire k (opcodeOf x) ≡ pick (eqb x 0x04) puts (pick (eqb x 0x05) gets (pick (eqb x 0x22) k nothing))
+pub byte-wire : (k : WireKind) (x : ℕ) → opcodeWire k (opcodeOf x) ≡ pick (eqb x 0x04) puts (pick (eqb x 0x05) gets (pick (eqb x 0x22) k nothing))
 byte-wire k x =
     let Q : Opcode → Type 0 = λ op. opcodeWire k op ≡ pick (eqb x 0x04) puts (pick (eqb x 0x05) gets (pick (eqb x 0x22) k nothing)) in
     pick-ind Q (eqb x 0x00) (λ e. rw (eqb-true x 0x00 e))
@@ -282,6 +283,10 @@ pub wires-sound : (w : World) → Sound (w .state) → K.Sound (channelOn w) (wi
 wires-sound w s = K.sound-view (channelOn w) (wiresOf w) (sound-wires (w .state) (s .isSound))
 
 -- ---- the pairs of a reply
+
+pub closed-as : (m : List ℕ) (t : ℕ) → closed m t ≡ m ++ (t % 256 ∷ t / 256 % 256 ∷ crc (m ++ low2 t) ∷ [])
+unfolding closed
+closed-as m t = append-assoc m (low2 t) _
 
 pub pairs-length : (v : Wires) (ks : List ℕ) → length (pairBytes v ks) ≡ length ks * 2
 unfolding pairBytes
