@@ -8,11 +8,11 @@ use native.Mathlib.Omega.{arith}
 use borrow.Author.Tests.{leb-true, eqb-true, eqb-false, eq-eqb, not-false}
 use lib.Dec.{T, eqb, ltb}
 use lib.ListN.{length, getD}
-use Rattle.base.specs.Pick.{pick, taken, pick-ind, and-left}
+use Rattle.base.specs.Pick.{pick, pick-ind, and-left}
 use Rattle.base.specs.Bytes.{high2}
-use Rattle.command.specs.Opcode.{sizeOfCode, shortOf, shortOpcode, opcodeOf, channelOn, hasCycle, cycleListed, wideCycle}
-use Rattle.command.specs.Needs.{lengthOf, groupCount, shortNeed, needOf, lengthRight}
-use Rattle.command.specs.Decode.{address2, address4, address8, headOf, registerAddress, registerData, shortAddress, commandOf, allFF, opcodeKnown, decodeAs, decode, hasCrc, crcGood, checkedBy, admit}
+use Rattle.command.specs.Opcode.{shortOf, opcodeOf, channelOn, hasCycle, cycleListed, wideCycle}
+use Rattle.command.specs.Needs.{lengthOf, shortNeed, needOf, lengthRight}
+use Rattle.command.specs.Decode.{address2, address4, headOf, shortAddress, commandOf, allFF, opcodeKnown, decodeAs, decode, hasCrc, crcGood, checkedBy, admit}
 use Rattle.command.specs.Laws.{headed-right}
 use Rattle.command.specs.declared.Access.{Access}
 use Rattle.command.specs.declared.Access.the-variants.{IoRead, IoWrite, MemoryRead, MemoryWrite}
@@ -240,6 +240,9 @@ tells on b =
     let op = opcodeOf (getD b 0 0) in
     pick-ind (DecodeTells on b op) (eqb (length b) 0) (λ _. (omega arith, omega arith))
     (λ e. let z : length b ≡ 0 → ⊥ = eqb-false _ _ e in tells-as on b op (omega arith))
+
+pub decode-decodes : (on : Channels) (b : List ℕ) (c : Command) → decode on b ≡ Known c → Decodes on b (opcodeOf (getD b 0 0)) c
+decode-decodes on b c e = subst (DecodeTells on b (opcodeOf (getD b 0 0))) e (tells on b)
 
 -- the same with the CRC check
 abbrev AdmitTells : Channels → Bool → List ℕ → Decoded → Type 0

@@ -1,6 +1,5 @@
 -- The fields of a masked write, and of each register that is written (01, Registers and status).
 use Prim.Native.Nat.{ℕ, _+_, _-_, _*_, _/_, _%_, _^_, _<_}
-use mathlib.Core.Bool.{Bool}
 use mathlib.Core.Path.{_≡_, refl, _∙_, ap, sym}
 use native.Mathlib.Nat.{mod-mod, div-one, lt-of-le-of-lt}
 use native.Mathlib.Omega.{arith}
@@ -40,7 +39,7 @@ masked-fits old val mask ho hv =
 pub bit-zero : (v : ℕ) → bits 0 0 v ≡ v % 2
 bit-zero v = ap (λ (x : ℕ). x % 2) (div-one v)
 
--- ---- a register that is written: each of its fields (P10)
+-- ---- a register that is written: each of its fields
 
 -- through the ready bit's own write, which touches bit 1 alone
 module _ (old val mask k n : ℕ) (z : field 2 k n ≡ 0) (o : field (2 ^ 32 - 1 - 2) k n ≡ 2 ^ n - 1) where

@@ -51,6 +51,7 @@ use Rattle.rules.specs.Board as B
 use Rattle.rules.specs.Board.{bytesFor}
 use Rattle.rules.specs.Reply.{closed, replyBytes}
 use Rattle.rules.specs.Step.{World, Call, start, espiReset, platformReset, exchange, look, answer, takeWrite, setWire, readWire, lend, Outcome, step, run, exchanged, settled, shortStores, succeeded, readLength, writeLength, lookLength, takeLength, handedOver, allHanded}
+use Rattle.rules.specs.KeptProof.{sound-step}
 use Rattle.rules.specs.Bound.{WireKind, nothing, puts, gets, sets, enables, disables, starts, resets, platformResets, edge, written, commandWire, wireKindOf, wireKind, wiresOf, endsWires, oneIfGets, goesOn, getsIn, Carries, groupByte, SentBy, SentByTheThird}
 use Rattle.rules.specs.WireRuns.{pairsIn}
 use Rattle.rules.specs.declared.Plan.{Plan}
@@ -385,46 +386,45 @@ module _ (w : World) (sound : Sound (w .state)) (g j : ℕ) (below : g < 3) (nea
 
 -- ---- the bound
 
-module _ (sound-step : (w : World) (c : Call) → Sound (w .state) → handedOver c ≡ true → Sound (step w c .next .state)) where
-  later : {g n : ℕ} {w : World} {c : Call} {cs : List Call} (m : ℕ) → oneIfGets (wireKind w c) + m ≤ n → SentBy g m (step w c .next) cs → SentBy g n w (c ∷ cs)
-  unfolding run getsIn
-  later {c = c} m l t =
-      record {
-        before = c ∷ t .before;
-        call = t .call;
-        after = t .after;
-        split = ap (λ (ds : List Call). c ∷ ds) (t .split);
-        isGet = t .isGet;
-        soon = omega (arith, t .soon);
-        carries = t .carries;
-      }
+later : {g n : ℕ} {w : World} {c : Call} {cs : List Call} (m : ℕ) → oneIfGets (wireKind w c) + m ≤ n → SentBy g m (step w c .next) cs → SentBy g n w (c ∷ cs)
+unfolding run getsIn
+later {c = c} m l t =
+    record {
+      before = c ∷ t .before;
+      call = t .call;
+      after = t .after;
+      split = ap (λ (ds : List Call). c ∷ ds) (t .split);
+      isGet = t .isGet;
+      soon = omega (arith, t .soon);
+      carries = t .carries;
+    }
 
-  bounded : (cs : List Call) (w : World) (g j : ℕ) → Sound (w .state) → g < 3 → j < 3 → markAt (wiresOf w) (g + 4) ≡ true → steps senders j (wiresOf w .place - 4) ≡ g
-      → allHanded cs ≡ true → goesOn w cs ≡ true → j < getsIn w cs → SentBy (g + 4) (suc j) w cs
-  unfolding allHanded goesOn getsIn run
-  bounded [] w g j s b n m t h q l = absurd (omega arith)
-  bounded (c ∷ cs) w g j s b n m t h q l =
-      let qc = and-left (not (endsWires (wireKind w c))) (goesOn (step w c .next) cs) q in
-      let qs = and-right (not (endsWires (wireKind w c))) (goesOn (step w c .next) cs) q in
-      let s′ = sound-step w c s (and-left (handedOver c) (allHanded cs) h) in
-      go (wireKind w c) refl (fate w s g j b n m t c (step w c) (wire-view w c) (not-true _ qc))
-      (λ i a x y z. bounded cs (step w c .next) g i s′ b a x y (and-right (handedOver c) (allHanded cs) h) qs z)
-    where
-      go : (k : WireKind) → wireKind w c ≡ k → Fate g j w (step w c) k
-          → ((i : ℕ) → i < 3 → markAt (wiresOf (step w c .next)) (g + 4) ≡ true → steps senders i (wiresOf (step w c .next) .place - 4) ≡ g → i < getsIn (step w c .next) cs
-          → SentBy (g + 4) (suc i) (step w c .next) cs)
-          → SentBy (g + 4) (suc j) w (c ∷ cs)
-      go gets e (goes x) ih = record { before = []; call = c; after = cs; split = refl; isGet = e; soon = omega arith; carries = x }
-      go k e (waits k′ i a x y) ih = let f = ap oneIfGets e in later (suc i) (omega arith) (ih i (omega arith) x y (omega arith))
+bounded : (cs : List Call) (w : World) (g j : ℕ) → Sound (w .state) → g < 3 → j < 3 → markAt (wiresOf w) (g + 4) ≡ true → steps senders j (wiresOf w .place - 4) ≡ g
+    → allHanded cs ≡ true → goesOn w cs ≡ true → j < getsIn w cs → SentBy (g + 4) (suc j) w cs
+unfolding allHanded goesOn getsIn run
+bounded [] w g j s b n m t h q l = absurd (omega arith)
+bounded (c ∷ cs) w g j s b n m t h q l =
+    let qc = and-left (not (endsWires (wireKind w c))) (goesOn (step w c .next) cs) q in
+    let qs = and-right (not (endsWires (wireKind w c))) (goesOn (step w c .next) cs) q in
+    let s′ = sound-step w c s (and-left (handedOver c) (allHanded cs) h) in
+    go (wireKind w c) refl (fate w s g j b n m t c (step w c) (wire-view w c) (not-true _ qc))
+    (λ i a x y z. bounded cs (step w c .next) g i s′ b a x y (and-right (handedOver c) (allHanded cs) h) qs z)
+  where
+    go : (k : WireKind) → wireKind w c ≡ k → Fate g j w (step w c) k
+        → ((i : ℕ) → i < 3 → markAt (wiresOf (step w c .next)) (g + 4) ≡ true → steps senders i (wiresOf (step w c .next) .place - 4) ≡ g → i < getsIn (step w c .next) cs
+        → SentBy (g + 4) (suc i) (step w c .next) cs)
+        → SentBy (g + 4) (suc j) w (c ∷ cs)
+    go gets e (goes x) ih = record { before = []; call = c; after = cs; split = refl; isGet = e; soon = omega arith; carries = x }
+    go k e (waits k′ i a x y) ih = let f = ap oneIfGets e in later (suc i) (omega arith) (ih i (omega arith) x y (omega arith))
 
-  sooner : {g k n : ℕ} {w : World} {cs : List Call} → k ≤ n → SentBy g k w cs → SentBy g n w cs
-  sooner l t =
-      record { before = t .before; call = t .call; after = t .after; split = t .split; isGet = t .isGet; soon = omega (arith, t .soon); carries = t .carries }
+sooner : {g k n : ℕ} {w : World} {cs : List Call} → k ≤ n → SentBy g k w cs → SentBy g n w cs
+sooner l t =
+    record { before = t .before; call = t .call; after = t .after; split = t .split; isGet = t .isGet; soon = omega (arith, t .soon); carries = t .carries }
 
-  pub sent-by-the-third : SentByTheThird
-  sent-by-the-third w s g from upto m cs h q n =
-      let v = wires-sound w s in
-      let e : g ≡ g - 4 + 4 = omega arith in
-      let r = reached senders (wiresOf w .place - 4) (g - 4) (omega (arith, v .from, v .upto)) (omega arith) in
-      subst (λ (k : ℕ). SentBy k 3 w cs) (sym e)
-      (sooner (r .1) (bounded cs w (g - 4) (r .0) s (omega arith) (r .1) (subst (λ (k : ℕ). markAt (wiresOf w) k ≡ true) e m) (r .2) h q (omega (arith, r .1))))
+pub sent-by-the-third : SentByTheThird
+sent-by-the-third w s g from upto m cs h q n =
+    let v = wires-sound w s in
+    let e : g ≡ g - 4 + 4 = omega arith in
+    let r = reached senders (wiresOf w .place - 4) (g - 4) (omega (arith, v .from, v .upto)) (omega arith) in
+    subst (λ (k : ℕ). SentBy k 3 w cs) (sym e)
+    (sooner (r .1) (bounded cs w (g - 4) (r .0) s (omega arith) (r .1) (subst (λ (k : ℕ). markAt (wiresOf w) k ≡ true) e m) (r .2) h q (omega (arith, r .1))))

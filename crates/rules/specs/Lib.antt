@@ -12,3 +12,13 @@ pub mod WireRuns
 pub mod Bound
 pub mod BoundProof
 pub mod WireRunsProof
+pub mod Kept
+pub mod KeptBytes
+pub mod KeptParts
+pub mod KeptQueues
+pub mod KeptWires
+pub mod KeptProof
+pub mod KeptFits
+pub mod KeptClauses
+pub mod KeptRegisters
+pub mod SoundMeans
