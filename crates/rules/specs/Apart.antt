@@ -68,6 +68,6 @@ pub record RunsAlike (w v : World) (cs ds : List Call) : Type 0 where
   pub calls : shows w cs ≡ shows v ds
   pub after : SameButWires (run w cs) (run v ds)
 
--- any two states that agree but for levels, marks and place, sound or not, and any stores: a wire event that a short store refuses is one too
+-- any two states that agree but for levels, marks and place, sound or not, and stores of any length: neither is needed
 abbrev pub WiresApart : Type 0
 WiresApart = (w v : World) (cs ds : List Call) → SameButWires w v → others cs ≡ others ds → RunsAlike w v cs ds
