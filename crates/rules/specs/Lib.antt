@@ -6,6 +6,12 @@ pub mod Step
 pub mod Calls
 pub mod Fits
 pub mod Bench
+pub mod Apart
+pub mod ApartProof
+pub mod WireRuns
+pub mod Bound
+pub mod BoundProof
+pub mod WireRunsProof
 pub mod Kept
 pub mod KeptBytes
 pub mod KeptParts
