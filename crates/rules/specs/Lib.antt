@@ -4,3 +4,5 @@ pub mod Board
 pub mod Reply
 pub mod Step
 pub mod Calls
+pub mod Kinds
+pub mod View
