@@ -191,6 +191,11 @@ abbrev pub shows : (at value : ℕ) → Answer → Type 0
 shows at value Silent = Unit {0}
 shows at value (Said response body status) = status / 2 ^ at % 2 ≡ value
 
+-- there is a reply, and this bit of its status is 1
+abbrev pub raises : ℕ → Answer → Bool
+raises at Silent = false
+raises at (Said response body status) = eqb (status / 2 ^ at % 2) 1
+
 -- "the read store too": a lend hands on the read store as it was
 abbrev pub sameRead : World → Call → Type 0
 sameRead w start = Unit {0}

@@ -6,3 +6,5 @@ pub mod Step
 pub mod Calls
 pub mod Kinds
 pub mod View
+pub mod Demand3
+pub mod Demand3End

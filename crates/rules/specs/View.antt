@@ -3,11 +3,10 @@
 use Prim.Native.Nat.{ℕ, _/_, _%_, _^_, _≤_}
 use mathlib.Core.Bool.{Bool, true, false, _&&_, _||_, not, true≢false}
 use mathlib.Core.List.{List, [], _∷_, _++_}
-use mathlib.Core.Path.{_≡_, refl, sym, ap, _∙_}
+use mathlib.Core.Path.{_≡_, refl, sym, ap, subst}
 use native.Mathlib.Omega.{arith}
 use lib.Dec.{eqb, ltb}
-use lib.ListN.{length, getD, take}
-use lib.Seq.{take-length}
+use lib.ListN.{length, getD}
 use borrow.Author.Tests.{eqb-true, not-false}
 use Rattle.base.specs.Pick.{pick, pick-ind}
 use Rattle.base.specs.Bytes.{over}
@@ -42,7 +41,7 @@ use Rattle.rules.specs.Decide as D
 use Rattle.rules.specs.Decide.{nextSerial, sizeFor, channelsOf, byDecoded}
 use Rattle.rules.specs.Board as B
 use Rattle.rules.specs.Board.{bytesFor}
-use Rattle.rules.specs.Reply.{closed, replyBytes, headerBytes, dataBytes}
+use Rattle.rules.specs.Reply.{closed, replyBytes, headerBytes, dataBytes, keptBytes}
 use Rattle.rules.specs.Step.{World, Call, Outcome, step, exchanged, settled, shortStores, succeeded, readLength, writeLength, lookLength, takeLength}
 use Rattle.rules.specs.Step.{start, espiReset, platformReset, exchange, look, answer, takeWrite, setWire, readWire, lend}
 use Rattle.rules.specs.Kinds.{Kind, idle, asks, tells, gets, ends, lends, opcode, accessKind, commandKind, kindOf, kind, isStart, askOf, askIn, requestFor, held, shows}
@@ -74,20 +73,15 @@ status-pc s =
 
 -- ---- the view, by the call's kind
 
--- "Success", with so many bytes to send, or failure
-abbrev pub answeredAs : Request → Bool → Np
-answeredAs q true = Ready q 0
-answeredAs q false = Failed q
-
 pub data Move (w : World) (c : Call) (o : Outcome) : Kind → Type 0 where
   same : held (o .next) ≡ held w → o .next .state .peripheral .serial ≡ w .state .peripheral .serial → o .next .read ≡ w .read
       → Shown (held w) (o .answer) → Move w c o idle
   asked : (b r : List ℕ) → c ≡ exchange b r → held w ≡ Free → held (o .next) ≡ Waiting (requestFor (w .state) (askIn b))
       → o .next .state .peripheral .serial ≡ nextSerial (w .state .peripheral .serial) → o .next .read ≡ w .read
-      → Shown (held (o .next)) (o .answer) → Move w c o asks
+      → o .reply ≡ closed (0x01 ∷ []) (status (o .next .state)) → Shown (held (o .next)) (o .answer) → Move w c o asks
   told : (q : Request) (serial success : ℕ) (d : List ℕ) → c ≡ answer serial success d → held w ≡ Waiting q → serial ≡ w .state .peripheral .serial
-      → length d ≡ bytesFor q (succeeded success) → held (o .next) ≡ answeredAs q (succeeded success)
-      → o .next .state .peripheral .serial ≡ w .state .peripheral .serial → o .next .read ≡ over d (w .read)
+      → length d ≡ bytesFor q (succeeded success) → held (o .next) ≡ B.answered (w .state) q (succeeded success) .next .peripheral .request
+      → o .next .state .peripheral .serial ≡ w .state .peripheral .serial → o .next .read ≡ over (keptBytes (B.answered (w .state) q (succeeded success) .kept) d) (w .read)
       → o .answer ≡ Silent → Move w c o tells
   sent : (k : Completion) (ks : List Completion) → upward (held w) ≡ k ∷ ks → held (o .next) ≡ handed (held w)
       → o .next .state .peripheral .serial ≡ w .state .peripheral .serial → o .next .read ≡ w .read
@@ -142,11 +136,11 @@ module _ (w : World) (b r : List ℕ) where
       (λ _. pick-ind (Seen idle) (not (within address length (payloadSize (w .state .config .r010)))) (λ _. refused-seen idle) (λ _. same refl refl refl (shown _ _ _)))
 
   ask-seen : (q : Request) → q ≡ requestFor (w .state) (askIn b) → Seen asks (D.ask (w .state) q)
-  unfolding exchanged D.ask
+  unfolding exchanged D.ask replyBytes
   ask-seen q e =
       pick-ind (Seen asks) (not (npFree (held w))) (λ _. refused-seen asks)
       (λ f. pick-ind (Seen asks) (not (within (q .address) (q .length) (sizeFor (q .kind) q))) (λ _. refused-seen asks)
-      (λ _. asked b r refl (is-free (held w) (not-false _ f)) (ap Waiting e) refl refl (shown _ _ _)))
+      (λ _. asked b r refl (is-free (held w) (not-false _ f)) (ap Waiting e) refl refl refl (shown _ _ _)))
 
   get-seen : (ks : List Completion) → upward (held w) ≡ ks → Seen gets (D.handing (w .state) ks)
   unfolding exchanged replyBytes
@@ -232,10 +226,6 @@ module _ (w : World) (b r : List ℕ) where
 
 -- ---- the board's calls
 
-no-bytes : (d : List ℕ) → length d ≡ 0 → [] ≡ d
-no-bytes [] e = refl
-no-bytes (x ∷ d) e = absurd (omega arith)
-
 module _ (w : World) (serial success : ℕ) (d : List ℕ) where
   abbrev Told : Plan → Type 0
   Told p = Move w (answer serial success d) (settled w d [] p) (pick (eqb (p .number) 0) tells idle)
@@ -247,11 +237,8 @@ module _ (w : World) (serial success : ℕ) (d : List ℕ) where
   answered-seen : (q : Request) (t : Bool) → succeeded success ≡ t → held w ≡ Waiting q → serial ≡ w .state .peripheral .serial → length d ≡ bytesFor q t
       → Told (B.answered (w .state) q t)
   unfolding settled
-  answered-seen q true e h n l =
-      told q serial success d refl h n (rw e l) (ap (answeredAs q) (sym e)) refl
-      (ap (λ (x : List ℕ). over x (w .read)) (ap (λ (m : ℕ). take m d) (sym l) ∙ take-length d)) refl
-  answered-seen q false e h n l =
-      told q serial success d refl h n (rw e l) (ap (answeredAs q) (sym e)) refl (ap (λ (x : List ℕ). over x (w .read)) (no-bytes d l)) refl
+  answered-seen q true e h n l = told q serial success d refl h n (rw e l) (rw e) refl (rw e) refl
+  answered-seen q false e h n l = told q serial success d refl h n (rw e l) (rw e) refl (rw e) refl
 
   answer-seen : (n : Np) → held w ≡ n → Told (B.answering (w .state) serial (succeeded success) (length d) n)
   answer-seen Free h = unanswered-seen 20 refl
@@ -294,3 +281,6 @@ view w (setWire index place value) =
     (λ _. same refl refl refl quiet) (λ _. same refl refl refl quiet)
 view w (readWire index place) = either (eqb (B.readNumber index place) 0) (same refl refl refl quiet)
 view w (lend write read) = lent write read refl refl refl refl refl
+
+pub view-as : (w : World) (c : Call) {k : Kind} → kind w c ≡ k → Move w c (step w c) k
+view-as w c e = subst (Move w c (step w c)) e (view w c)
