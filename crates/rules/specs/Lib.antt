@@ -8,3 +8,4 @@ pub mod Kinds
 pub mod View
 pub mod Demand3
 pub mod Demand3End
+pub mod Demand3Proof
