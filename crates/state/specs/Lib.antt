@@ -3,3 +3,8 @@ pub mod Upward
 pub mod Status
 pub mod Sound
 pub mod Layout
+pub mod Facts
+pub mod Coded
+pub mod Round
+pub mod Bounds
+pub mod Packing
