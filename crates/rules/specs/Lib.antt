@@ -8,4 +8,6 @@ pub mod Kinds
 pub mod View
 pub mod Demand3
 pub mod Demand3End
+pub mod Demand3Owed
+pub mod Demand3Read
 pub mod Demand3Proof
