@@ -1,3 +1,5 @@
 pub mod Opcode
 pub mod Needs
 pub mod Decode
+pub mod Laws
+pub mod Facts

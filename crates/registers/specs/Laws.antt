@@ -1,157 +1,159 @@
--- What callers use of the registers, in place of the definitions' texts: the fields of a written register, reads after writes, reachable
--- values, sizes.
-use Prim.Native.Nat.{ℕ, zero, suc, _+_, _-_, _*_, _/_, _%_, _^_, _≤_, _<_}
-use mathlib.Core.Bool.{Bool, true, false, _&&_, _||_, not}
-use mathlib.Core.Path.{_≡_, refl, _∙_, ap, sym, subst}
-use native.Mathlib.Nat.{mod-mod, div-one, lt-of-le-of-lt}
+-- What callers use of the registers, in place of the definitions' texts: reads after writes, values that stay below 2 ^ 32 and reachable.
+-- The laws of the fields and of the sizes are passed on.
+use Prim.Native.Nat.{ℕ, _*_, _%_, _^_, _<_}
+use mathlib.Core.Bool.{Bool, true, false, _&&_, not}
+use mathlib.Core.Path.{_≡_, refl, ap, sym, subst}
 use native.Mathlib.Omega.{arith}
-use lib.Bits.{bitAnd, bitOr, or-lt, and-le-l, or-shr, and-shr, or-mod, and-mod, and-zero-r, or-zero-r, or-zero-l, and-mask}
-use lib.Dec.{eqb, ltb, lit<}
-use borrow.Author.Tests.{eq-eqb, ne-eqb, eqb-true, eqb-false, ltb-false, not-true}
+use lib.Dec.{eqb, lit<}
+use borrow.Author.Tests.{eq-eqb, ne-eqb}
 use Rattle.base.specs.Pick.{pick, and-left, and-right, and-true}
 use Rattle.registers.specs.declared.Reg008.{Reg008}
 use Rattle.registers.specs.declared.Reg010.{Reg010}
 use Rattle.registers.specs.declared.Reg020.{Reg020}
 use Rattle.registers.specs.declared.Config.{Config}
-use Rattle.registers.specs.Registers.{field, bits, masked, readied, writable008, writable010, writable020, forbidden008, forbidden010, forbidden020, write008, write010, write020, sizeOf, payloadLegal, readLegal, crcChecked, on0, on1, payloadSize, readSize, operatingCount, freshConfig, readAt, forbiddenAt, writeAt, reachable008, reachable010, reachable020, reachable}
+use Rattle.registers.specs.Registers.{masked, readied, writable008, writable010, writable020, forbidden008, forbidden010, forbidden020, write008, write010, write020, freshConfig, readAt, forbiddenAt, writeAt, fixed008, fixed010, fixed020, readyIsEnable, reachable008, reachable010, reachable020, reachable}
+pub use Rattle.registers.specs.Fields.{field-kept, field-written, masked-fits, bit-zero, Written008, written008, Written010, written010, Written020, written020, crc-written, on0-written, payload-written, read-written, on1-written, count-written}
+pub use Rattle.registers.specs.Sizes.{at-equal, sizes, payload-legal, read-legal, payload-cases, read-cases, count-range}
 
--- ---- fields of a masked write; the premises are refl at numerals
+-- ---- a write by its address
 
-field-masked : (old val mask k n : ℕ)
-    → field (masked old val mask) k n
-      ≡ bitOr (bitAnd (field old k n) (field (2 ^ 32 - 1 - mask) k n)) (bitAnd (field val k n) (field mask k n))
-field-masked old val mask k n = simp (or-shr, and-shr, or-mod, and-mod)
+-- an address is one of the three that take a write, or another
+pub by-address : (Q : ℕ → Type 0) → Q 0x008 → Q 0x010 → Q 0x020
+    → ((a : ℕ) → eqb a 0x008 ≡ false → eqb a 0x010 ≡ false → eqb a 0x020 ≡ false → Q a) → (a : ℕ) → Q a
+by-address Q p q r other a = tested (eqb a 0x008) (eqb a 0x010) (eqb a 0x020) refl refl refl
+  where
+    tested : (s t u : Bool) → eqb a 0x008 ≡ s → eqb a 0x010 ≡ t → eqb a 0x020 ≡ u → Q a
+    tested true t u e f g = at-equal Q a 0x008 p e
+    tested false true u e f g = at-equal Q a 0x010 q f
+    tested false false true e f g = at-equal Q a 0x020 r g
+    tested false false false e f g = other a e f g
 
--- a field that the mask leaves out stays
-pub field-kept : (old val mask k n : ℕ) → field mask k n ≡ 0 → field (2 ^ 32 - 1 - mask) k n ≡ 2 ^ n - 1
-    → field (masked old val mask) k n ≡ field old k n
-field-kept old val mask k n z o =
-    field-masked old val mask k n ∙ rw (z, o, and-zero-r, or-zero-r, and-mask) (mod-mod (old / 2 ^ k) (2 ^ n))
+-- what a write makes of the register at an address
+abbrev pub writtenAt : ℕ → ℕ → ℕ → ℕ
+writtenAt a old v =
+    pick (eqb a 0x008) (masked old v writable008)
+    (pick (eqb a 0x010) (readied (masked old v writable010))
+    (pick (eqb a 0x020) (readied (masked old v writable020))
+    old))
 
--- a field that the mask covers is the value's
-pub field-written : (old val mask k n : ℕ) → field mask k n ≡ 2 ^ n - 1 → field (2 ^ 32 - 1 - mask) k n ≡ 0
-    → field (masked old val mask) k n ≡ field val k n
-field-written old val mask k n o z =
-    field-masked old val mask k n ∙ rw (z, o, and-zero-r, or-zero-l, and-mask) (mod-mod (val / 2 ^ k) (2 ^ n))
+-- elsewhere a write is without effect
+pub write-other : (c : Config) (a v : ℕ) → eqb a 0x008 ≡ false → eqb a 0x010 ≡ false → eqb a 0x020 ≡ false → writeAt c a v ≡ c
+write-other c a v e f g = rw (e, f, g)
 
-pub masked-fits : (old val mask : ℕ) → old < 2 ^ 32 → val < 2 ^ 32 → masked old val mask < 2 ^ 32
-masked-fits old val mask ho hv =
-    or-lt 32 (bitAnd old (2 ^ 32 - 1 - mask)) (bitAnd val mask)
-    (lt-of-le-of-lt (and-le-l old (2 ^ 32 - 1 - mask)) ho)
-    (lt-of-le-of-lt (and-le-l val mask) hv)
+pub read-same : (c : Config) (a v : ℕ) → readAt (writeAt c a v) a ≡ writtenAt a (readAt c a) v
+read-same c a v =
+    by-address (λ (x : ℕ). readAt (writeAt c x v) x ≡ writtenAt x (readAt c x) v) refl refl refl
+    (λ x e f g. rw (e, f, g)) a
 
--- bit 0, as the enable bits are read
-pub bit-zero : (v : ℕ) → bits 0 0 v ≡ v % 2
-bit-zero v = ap (λ (x : ℕ). x % 2) (div-one v)
+pub read-other : (c : Config) (a b v : ℕ) → (a ≡ b → ⊥) → readAt (writeAt c a v) b ≡ readAt c b
+read-other c a b v =
+    by-address (λ (x : ℕ). (x ≡ b → ⊥) → readAt (writeAt c x v) b ≡ readAt c b)
+    (λ h. rw (ne-eqb b 0x008 (λ e. h (sym e))))
+    (λ h. rw (ne-eqb b 0x010 (λ e. h (sym e))))
+    (λ h. rw (ne-eqb b 0x020 (λ e. h (sym e))))
+    (λ x e f g h. rw (e, f, g)) a
 
--- ---- a register that is written: each of its fields (P10)
+-- each register under a write
+pub write-r008 : (c : Config) (a v : ℕ) → writeAt c a v .r008 ≡ pick (eqb a 0x008) (write008 (c .r008) v) (c .r008)
+write-r008 c a v =
+    by-address (λ (x : ℕ). writeAt c x v .r008 ≡ pick (eqb x 0x008) (write008 (c .r008) v) (c .r008)) refl refl refl
+    (λ x e f g. rw (e, f, g)) a
 
--- through the ready bit's own write, which touches bit 1 alone
-module _ (old val mask k n : ℕ) (z : field 2 k n ≡ 0) (o : field (2 ^ 32 - 1 - 2) k n ≡ 2 ^ n - 1) where
-  readied-kept : field mask k n ≡ 0 → field (2 ^ 32 - 1 - mask) k n ≡ 2 ^ n - 1 → field (readied (masked old val mask)) k n ≡ field old k n
-  readied-kept f g = field-kept (masked old val mask) (2 * (masked old val mask % 2)) 2 k n z o ∙ field-kept old val mask k n f g
+pub write-r010 : (c : Config) (a v : ℕ) → writeAt c a v .r010 ≡ pick (eqb a 0x010) (write010 (c .r010) v) (c .r010)
+write-r010 c a v =
+    by-address (λ (x : ℕ). writeAt c x v .r010 ≡ pick (eqb x 0x010) (write010 (c .r010) v) (c .r010)) refl refl refl
+    (λ x e f g. rw (e, f, g)) a
 
-  readied-written : field mask k n ≡ 2 ^ n - 1 → field (2 ^ 32 - 1 - mask) k n ≡ 0 → field (readied (masked old val mask)) k n ≡ field val k n
-  readied-written f g = field-kept (masked old val mask) (2 * (masked old val mask % 2)) 2 k n z o ∙ field-written old val mask k n f g
+pub write-r020 : (c : Config) (a v : ℕ) → writeAt c a v .r020 ≡ pick (eqb a 0x020) (write020 (c .r020) v) (c .r020)
+write-r020 c a v =
+    by-address (λ (x : ℕ). writeAt c x v .r020 ≡ pick (eqb x 0x020) (write020 (c .r020) v) (c .r020)) refl refl refl
+    (λ x e f g. rw (e, f, g)) a
 
--- enable is the value's, and ready equals it
-module _ (old val mask : ℕ) (o : field mask 0 1 ≡ 1) (z : field (2 ^ 32 - 1 - mask) 0 1 ≡ 0) where
-  enabled : readied (masked old val mask) % 2 ≡ val % 2
-  enabled = sym (bit-zero (readied (masked old val mask))) ∙ readied-written old val mask 0 1 refl refl o z ∙ bit-zero val
+-- ---- values stay below 2 ^ 32
 
-  ready : bits 1 1 (readied (masked old val mask)) ≡ val % 2
-  ready =
-      field-written (masked old val mask) (2 * (masked old val mask % 2)) 2 1 1 refl refl
-      ∙ doubled (masked old val mask)
-      ∙ sym (bit-zero (masked old val mask)) ∙ field-written old val mask 0 1 o z ∙ bit-zero val
-    where
-      doubled : (w : ℕ) → 2 * (w % 2) / 2 ^ 1 % 2 ^ 1 ≡ w % 2
-      doubled w = omega arith
+pub record Fitting (c : Config) : Type 0 where
+  pub fit008 : c .r008 .value < 2 ^ 32
+  pub fit010 : c .r010 .value < 2 ^ 32
+  pub fit020 : c .r020 .value < 2 ^ 32
 
-pub record Written008 (r : Reg008) (v : ℕ) : Type 0 where
-  pub crc : bits 31 31 (write008 r v .value) ≡ bits 31 31 v
-  pub modifier : bits 30 30 (write008 r v .value) ≡ bits 30 30 v
-  pub kept29 : bits 29 29 (write008 r v .value) ≡ bits 29 29 (r .value)
-  pub alertMode : bits 28 28 (write008 r v .value) ≡ bits 28 28 v
-  pub ioMode : bits 27 26 (write008 r v .value) ≡ bits 27 26 v
-  pub kept25 : bits 25 24 (write008 r v .value) ≡ bits 25 24 (r .value)
-  pub drive : bits 23 23 (write008 r v .value) ≡ bits 23 23 v
-  pub frequency : bits 22 20 (write008 r v .value) ≡ bits 22 20 v
-  pub kept19 : bits 19 16 (write008 r v .value) ≡ bits 19 16 (r .value)
-  pub waits : bits 15 12 (write008 r v .value) ≡ bits 15 12 v
-  pub kept11 : bits 11 0 (write008 r v .value) ≡ bits 11 0 (r .value)
+pub fits-fresh : Fitting freshConfig
+fits-fresh = record { fit008 = lit< tt; fit010 = lit< tt; fit020 = lit< tt }
 
-pub written008 : (r : Reg008) (v : ℕ) → Written008 r v
-written008 r v =
-    record {
-      crc = field-written (r .value) v writable008 31 1 refl refl;
-      modifier = field-written (r .value) v writable008 30 1 refl refl;
-      kept29 = field-kept (r .value) v writable008 29 1 refl refl;
-      alertMode = field-written (r .value) v writable008 28 1 refl refl;
-      ioMode = field-written (r .value) v writable008 26 2 refl refl;
-      kept25 = field-kept (r .value) v writable008 24 2 refl refl;
-      drive = field-written (r .value) v writable008 23 1 refl refl;
-      frequency = field-written (r .value) v writable008 20 3 refl refl;
-      kept19 = field-kept (r .value) v writable008 16 4 refl refl;
-      waits = field-written (r .value) v writable008 12 4 refl refl;
-      kept11 = field-kept (r .value) v writable008 0 12 refl refl;
-    }
+readied-fits : (old v mask : ℕ) → old < 2 ^ 32 → v < 2 ^ 32 → readied (masked old v mask) < 2 ^ 32
+readied-fits old v mask ho hv =
+    let w = masked old v mask in
+    masked-fits w (2 * (w % 2)) 2 (masked-fits old v mask ho hv) (omega arith)
 
-pub record Written010 (r : Reg010) (v : ℕ) : Type 0 where
-  pub kept31 : bits 31 15 (write010 r v .value) ≡ bits 31 15 (r .value)
-  pub readCode : bits 14 12 (write010 r v .value) ≡ bits 14 12 v
-  pub kept11 : bits 11 11 (write010 r v .value) ≡ bits 11 11 (r .value)
-  pub payloadCode : bits 10 8 (write010 r v .value) ≡ bits 10 8 v
-  pub kept7 : bits 7 3 (write010 r v .value) ≡ bits 7 3 (r .value)
-  pub busMaster : bits 2 2 (write010 r v .value) ≡ bits 2 2 v
-  pub ready : bits 1 1 (write010 r v .value) ≡ v % 2
-  pub enable : write010 r v .value % 2 ≡ v % 2
+pub fits-write : (c : Config) (a v : ℕ) → Fitting c → v < 2 ^ 32 → Fitting (writeAt c a v)
+fits-write c a v h l =
+    by-address (λ (x : ℕ). Fitting (writeAt c x v))
+    (record { fit008 = masked-fits (c .r008 .value) v writable008 (h .fit008) l; fit010 = h .fit010; fit020 = h .fit020 })
+    (record { fit008 = h .fit008; fit010 = readied-fits (c .r010 .value) v writable010 (h .fit010) l; fit020 = h .fit020 })
+    (record { fit008 = h .fit008; fit010 = h .fit010; fit020 = readied-fits (c .r020 .value) v writable020 (h .fit020) l })
+    (λ x e f g. subst Fitting (sym (write-other c x v e f g)) h) a
 
-pub written010 : (r : Reg010) (v : ℕ) → Written010 r v
-written010 r v =
-    record {
-      kept31 = readied-kept (r .value) v writable010 15 17 refl refl refl refl;
-      readCode = readied-written (r .value) v writable010 12 3 refl refl refl refl;
-      kept11 = readied-kept (r .value) v writable010 11 1 refl refl refl refl;
-      payloadCode = readied-written (r .value) v writable010 8 3 refl refl refl refl;
-      kept7 = readied-kept (r .value) v writable010 3 5 refl refl refl refl;
-      busMaster = readied-written (r .value) v writable010 2 1 refl refl refl refl;
-      ready = ready (r .value) v writable010 refl refl;
-      enable = enabled (r .value) v writable010 refl refl;
-    }
+-- ---- reachable values stay so
 
-pub record Written020 (r : Reg020) (v : ℕ) : Type 0 where
-  pub kept31 : bits 31 22 (write020 r v .value) ≡ bits 31 22 (r .value)
-  pub count : bits 21 16 (write020 r v .value) ≡ bits 21 16 v
-  pub kept15 : bits 15 2 (write020 r v .value) ≡ bits 15 2 (r .value)
-  pub ready : bits 1 1 (write020 r v .value) ≡ v % 2
-  pub enable : write020 r v .value % 2 ≡ v % 2
+pub reachable-fresh : reachable freshConfig ≡ true
+reachable-fresh = refl
 
-pub written020 : (r : Reg020) (v : ℕ) → Written020 r v
-written020 r v =
-    record {
-      kept31 = readied-kept (r .value) v writable020 22 10 refl refl refl refl;
-      count = readied-written (r .value) v writable020 16 6 refl refl refl refl;
-      kept15 = readied-kept (r .value) v writable020 2 14 refl refl refl refl;
-      ready = ready (r .value) v writable020 refl refl;
-      enable = enabled (r .value) v writable020 refl refl;
-    }
+-- each register of a reachable configuration, and back
+module _ (c : Config) where
+  abbrev r8 : Bool
+  r8 = reachable008 (c .r008 .value)
 
--- what is read off a written register
-pub crc-written : (r : Reg008) (v : ℕ) → crcChecked (write008 r v) ≡ eqb (bits 31 31 v) 1
-crc-written r v = ap (λ (x : ℕ). eqb x 1) (written008 r v .crc)
+  abbrev r10 : Bool
+  r10 = reachable010 (c .r010 .value)
 
-pub on0-written : (r : Reg010) (v : ℕ) → on0 (write010 r v) ≡ eqb (v % 2) 1
-on0-written r v = ap (λ (x : ℕ). eqb x 1) (written010 r v .enable)
+  abbrev r20 : Bool
+  r20 = reachable020 (c .r020 .value)
 
-pub payload-written : (r : Reg010) (v : ℕ) → payloadSize (write010 r v) ≡ sizeOf (bits 10 8 v)
-payload-written r v = ap sizeOf (written010 r v .payloadCode)
+  pub reachable-r008 : reachable c ≡ true → reachable008 (c .r008 .value) ≡ true
+  reachable-r008 h = and-left r8 r10 (and-left (r8 && r10) r20 h)
 
-pub read-written : (r : Reg010) (v : ℕ) → readSize (write010 r v) ≡ sizeOf (bits 14 12 v)
-read-written r v = ap sizeOf (written010 r v .readCode)
+  pub reachable-r010 : reachable c ≡ true → reachable010 (c .r010 .value) ≡ true
+  reachable-r010 h = and-right r8 r10 (and-left (r8 && r10) r20 h)
 
-pub on1-written : (r : Reg020) (v : ℕ) → on1 (write020 r v) ≡ eqb (v % 2) 1
-on1-written r v = ap (λ (x : ℕ). eqb x 1) (written020 r v .enable)
+  pub reachable-r020 : reachable c ≡ true → reachable020 (c .r020 .value) ≡ true
+  reachable-r020 h = and-right (r8 && r10) r20 h
 
-pub count-written : (r : Reg020) (v : ℕ) → operatingCount (write020 r v) ≡ bits 21 16 v + 1
-count-written r v = ap (λ (x : ℕ). x + 1) (written020 r v .count)
+  pub reachable-all : reachable008 (c .r008 .value) ≡ true → reachable010 (c .r010 .value) ≡ true → reachable020 (c .r020 .value) ≡ true → reachable c ≡ true
+  reachable-all e f g = and-true {a = r8 && r10} {b = r20} (and-true {a = r8} {b = r10} e f) g
+
+-- a new value that is not forbidden, the rest being as it was; and the same where ready stands between
+unforbidden : (a f g : Bool) → a && not f ≡ true → g ≡ false → a && not g ≡ true
+unforbidden a f g h e = and-true {a = a} {b = not g} (and-left a (not f) h) (ap not e)
+
+ready-unforbidden : (a b f g : Bool) (n : ℕ) → a && b && not f ≡ true → g ≡ false → a && eqb n n && not g ≡ true
+ready-unforbidden a b f g n h e =
+    let kept = and-left a b (and-left (a && b) (not f) h) in
+    and-true {a = a && eqb n n} {b = not g} (and-true {a = a} {b = eqb n n} kept (eq-eqb n n refl)) (ap not e)
+
+pub reachable-write008 : (r : Reg008) (v : ℕ) → reachable008 (r .value) ≡ true → forbidden008 v ≡ false → reachable008 (write008 r v .value) ≡ true
+reachable-write008 r v h f =
+    let w = written008 r v in
+    rw (w .kept29, w .kept25, w .kept19, w .kept11, w .ioMode, w .frequency)
+    (unforbidden (fixed008 (r .value)) (forbidden008 (r .value)) (forbidden008 v) h f)
+
+pub reachable-write010 : (r : Reg010) (v : ℕ) → reachable010 (r .value) ≡ true → forbidden010 v ≡ false → reachable010 (write010 r v .value) ≡ true
+reachable-write010 r v h f =
+    let w = written010 r v in
+    rw (w .kept31, w .kept11, w .kept7, w .readCode, w .payloadCode, w .ready, w .enable)
+    (ready-unforbidden (fixed010 (r .value)) (readyIsEnable (r .value)) (forbidden010 (r .value)) (forbidden010 v) (v % 2) h f)
+
+pub reachable-write020 : (r : Reg020) (v : ℕ) → reachable020 (r .value) ≡ true → forbidden020 v ≡ false → reachable020 (write020 r v .value) ≡ true
+reachable-write020 r v h f =
+    let w = written020 r v in
+    rw (w .kept31, w .kept15, w .count, w .ready, w .enable)
+    (ready-unforbidden (fixed020 (r .value)) (readyIsEnable (r .value)) (forbidden020 (r .value)) (forbidden020 v) (v % 2) h f)
+
+pub reachable-write : (c : Config) (a v : ℕ) → reachable c ≡ true → forbiddenAt a v ≡ false → reachable (writeAt c a v) ≡ true
+reachable-write c a v h =
+    let h8 = reachable-r008 c h in
+    let h10 = reachable-r010 c h in
+    let h20 = reachable-r020 c h in
+    by-address (λ (x : ℕ). forbiddenAt x v ≡ false → reachable (writeAt c x v) ≡ true)
+    (λ f. reachable-all (writeAt c 0x008 v) (reachable-write008 (c .r008) v h8 f) h10 h20)
+    (λ f. reachable-all (writeAt c 0x010 v) h8 (reachable-write010 (c .r010) v h10 f) h20)
+    (λ f. reachable-all (writeAt c 0x020 v) h8 h10 (reachable-write020 (c .r020) v h20 f))
+    (λ x e f g k. rw (write-other c x v e f g) h) a

@@ -1,2 +1,4 @@
 pub mod Registers
+pub mod Fields
+pub mod Sizes
 pub mod Laws

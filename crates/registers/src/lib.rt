@@ -1,7 +1,7 @@
 // The configuration registers: each a type of its own with its reset value and its writable bits.
 ghost use mathlib.Core.Path.{_≡_};
-ghost use mathlib.Core.Bool.{Bool};
-ghost use Prim.Native.Nat.{ℕ, _+_, _≤_, _<_};
+ghost use Prim.Native.Nat.{_%_, _<_};
+ghost use lib.Dec.{eqb};
 ghost use Rattle.registers.specs.Registers.{masked, forbidden008, forbidden010, forbidden020, write008, write010, write020, readied, fresh004, fresh008, fresh010, fresh020, sizeOf, crcChecked, on0, on1, payloadSize, readSize, operatingCount, freshConfig, readAt, forbiddenAt, writeAt, reachable008, reachable010, reachable020, reachable};
 
 // Device identification.
@@ -43,6 +43,13 @@ fn with_ready(v: u32) -> u32
     ensures { λ r. ⌜ r ≡ readied v ⌝ }
 {
     write_masked(v, 2 * (v % 2), 2)
+}
+
+// Bit 0 (enable).
+fn enabled(v: u32) -> bool
+    ensures { λ r. ⌜ r ≡ eqb (v % 2) 1 ⌝ }
+{
+    v % 2 == 1
 }
 
 // What a payload or read request code means in bytes.
@@ -117,7 +124,7 @@ impl Reg010 {
     pub fn on(self) -> bool
         ensures { λ r. ⌜ r ≡ on0 self ⌝ }
     {
-        self.value % 2 == 1
+        enabled(self.value)
     }
 
     pub fn payload_size(self) -> u32
@@ -155,7 +162,7 @@ impl Reg020 {
     pub fn on(self) -> bool
         ensures { λ r. ⌜ r ≡ on1 self ⌝ }
     {
-        self.value % 2 == 1
+        enabled(self.value)
     }
 
     pub fn operating_count(self) -> u32

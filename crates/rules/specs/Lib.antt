@@ -11,3 +11,10 @@ pub mod Demand3End
 pub mod Demand3Owed
 pub mod Demand3Read
 pub mod Demand3Proof
+pub mod Kept
+pub mod KeptBytes
+pub mod KeptParts
+pub mod KeptQueues
+pub mod KeptWires
+pub mod KeptProof
+pub mod KeptFits

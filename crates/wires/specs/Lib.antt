@@ -2,4 +2,8 @@ pub mod Table
 pub mod Turn
 pub mod Groups
 pub mod Rows
+pub mod Round
+pub mod Sending
+pub mod Nibbles
+pub mod Kept
 pub mod Changes

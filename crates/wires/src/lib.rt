@@ -1,12 +1,14 @@
 // Virtual wires: the table of six rows, and the six groups by value.
 ghost use mathlib.Core.Path.{_≡_};
-ghost use mathlib.Core.Bool.{Bool, true, _&&_};
+ghost use mathlib.Core.Bool.{Bool, true, false, _&&_};
 ghost use Prim.Native.Nat.{ℕ, _+_, _-_, _*_, _≤_, _<_};
 ghost use lib.ListN.{length, take};
 ghost use Rattle.wires.specs.Table.{rowAt, isGroup};
 ghost use lib.Bits.{bitAnd};
 ghost use lib.Dec.{eqb, ltb};
-ghost use Rattle.wires.specs.Groups.{freshWires, withGroup, levelAt, nibble, putPair, putPairs, definedBit, settable, setWire, readWire, sent, packetOf, afterSent, anyPending, differs, enabled, disabled, placed, resetGroup, platformWires, undefinedZero, marksRight, placeRight, soundWires};
+ghost use Rattle.wires.specs.Turn.{after};
+ghost use Rattle.wires.specs.Sending.{packetAnd, leftBy, asked, sending, Sendable};
+ghost use Rattle.wires.specs.Groups.{senders, groupOf, freshWires, withGroup, levelAt, nibble, putPair, putPairs, definedBit, settable, setWire, readWire, sent, packetOf, afterSent, anyPending, differs, enabled, disabled, placed, resetGroup, platformWires, undefinedZero, marksRight, placeRight, soundWires};
 
 pub struct WireRow {
     pub index: u8,
@@ -75,12 +77,49 @@ pub enum Packet {
     Three(Group, Group, Group),
 }
 
+// What a GET_VWIRE sends, and the wires after it.
+pub struct Sending {
+    pub packet: Packet,
+    pub next: Wires,
+}
+
+// Going round: the packet so far, the wires after it, and how many groups more it holds.
+struct Asking {
+    packet: Packet,
+    next: Wires,
+    left: u32,
+}
+
 // Four bits: those of `val` where the mask has ones, those of `old` elsewhere.
 fn nibble_of(old: u8, val: u8, mask: u8) -> u8
     requires { ⌜ mask ≤ 15 ⌝ }
     ensures { λ r. ⌜ r ≡ nibble old val mask ⌝ }
 {
     (old & (15 - mask)) | (val & mask)
+}
+
+fn after_sender(k: u8) -> u8
+    requires { ⌜ k < 3 ⌝ }
+    ensures { λ r. ⌜ (r ≡ after senders k) × (r < 3) ⌝ }
+{
+    if k + 1 < 3 {
+        return k + 1;
+    }
+    0
+}
+
+impl Packet {
+    // One group more; there is no fourth.
+    fn and(self, group: Group) -> Packet
+        ensures { λ r. ⌜ r ≡ packetAnd self group ⌝ }
+    {
+        match self {
+            Packet::Nothing => Packet::One(group),
+            Packet::One(a) => Packet::Two(a, group),
+            Packet::Two(a, b) => Packet::Three(a, b, group),
+            Packet::Three(a, b, c) => Packet::Three(a, b, c),
+        }
+    }
 }
 
 // "undefined wire bits are 0"
@@ -198,6 +237,69 @@ impl Wires {
     {
         let at = (index - 2) as usize;
         ((self.level[at] >> bit) % 2) as u32
+    }
+
+    // "with all defined bits valid"
+    fn group(self, k: u8) -> Group
+        requires { ⌜ (k < 3) × (levelAt self (k + 4) < 16) ⌝ }
+        ensures { λ r. ⌜ r ≡ groupOf self k ⌝ }
+    {
+        let at = (k + 2) as usize;
+        Group {
+            index: k + 4,
+            byte: TABLE[at].defined * 16 + self.level[at],
+        }
+    }
+
+    // Sender k is sent: its mark goes, and the place moves behind it.
+    fn left_by(self, k: u8) -> Wires
+        requires { ⌜ k < 3 ⌝ }
+        ensures { λ r. ⌜ r ≡ leftBy self k ⌝ }
+    {
+        let at = (k + 2) as usize;
+        self.with((k + 4) as usize, self.level[at], false)
+            .placed(after_sender(k) + 4)
+    }
+
+    // Sender k is asked: it is taken if it waits and the packet has room.
+    fn asked(self, so_far: Asking, k: u8) -> Asking
+        requires { ⌜ (k < 3) × (levelAt self (k + 4) < 16) ⌝ }
+        ensures { λ r. ⌜ r ≡ asked self «so_far» k ⌝ }
+    {
+        let at = (k + 2) as usize;
+        if !self.pending[at] {
+            return so_far;
+        }
+        if so_far.left < 1 {
+            return so_far;
+        }
+        let packet = so_far.packet;
+        let next = so_far.next;
+        Asking {
+            packet: packet.and(self.group(k)),
+            next: next.left_by(k),
+            left: so_far.left - 1,
+        }
+    }
+
+    pub fn send(self, capacity: u32) -> Sending
+        requires { ⌜ Sendable self ⌝ }
+        ensures { λ r. ⌜ r ≡ sending self capacity ⌝ }
+    {
+        let a = self.place - 4;
+        let b = after_sender(a);
+        let c = after_sender(b);
+        let none = Asking {
+            packet: Packet::Nothing,
+            next: self,
+            left: capacity,
+        };
+        let one = self.asked(none, a);
+        let two = self.asked(one, b);
+        let all = self.asked(two, c);
+        let packet = all.packet;
+        let next = all.next;
+        Sending { packet, next }
     }
 
     pub fn any_pending(self) -> bool
