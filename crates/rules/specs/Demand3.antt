@@ -4,7 +4,7 @@ use Prim.Native.Nat.{ℕ, _+_, _*_, _-_, _/_, _%_, _≤_, _<_}
 use mathlib.Core.Bool.{Bool, true, false, _||_, not}
 use mathlib.Core.List.{List, [], _∷_, _++_}
 use mathlib.Core.Path.{_≡_}
-use lib.ListN.{length, take, drop}
+use lib.ListN.{length, getD, take, drop}
 use Rattle.base.specs.Bytes.{low2, low4, low8}
 use Rattle.registers.specs.Registers.{crcChecked, payloadSize}
 use Rattle.pieces.specs.Marks.{markType}
@@ -12,13 +12,14 @@ use Rattle.pieces.specs.Pieces.{blocks, piece, part}
 use Rattle.command.specs.Decode.{crcGood}
 use Rattle.state.specs.Sound.{Sound}
 use Rattle.state.specs.Status.{status}
+use Rattle.state.specs.declared.Kind.{Kind as Sort}
 use Rattle.state.specs.declared.Kind.the-variants as R
 use Rattle.state.specs.declared.Np.the-variants.{Free, Waiting}
 use Rattle.state.specs.declared.State.{State}
 use Rattle.rules.specs.Board.{kindNumber}
 use Rattle.rules.specs.Reply.{closed}
-use Rattle.rules.specs.Step.{World, Call, Outcome, step, run, shortStores, succeeded, lookLength, allHanded, exchange, look, answer}
-use Rattle.rules.specs.Kinds.{asks, tells, gets, ends, kind, Ask, askIn, requestFor, isRead, isEnd, isTell, isAsk, without, got, gotBy, held, shows, raises, readHandedOn}
+use Rattle.rules.specs.Step.{World, Call, Outcome, step, run, shortStores, succeeded, lookLength, areBytes, allHanded, exchange, look, answer}
+use Rattle.rules.specs.Kinds.{asks, tells, gets, ends, kind, askIn, requestFor, isRead, isEnd, isTell, isAsk, without, got, gotBy, held, shows, raises, readHandedOn}
 
 -- ---- completions as bytes
 
@@ -86,10 +87,17 @@ pub record Asked (w : World) (b r : List ℕ) (xs : List Call) : Type 0 where
 abbrev pub since : World → List ℕ → List ℕ → List Call → World
 since w b r xs = run (step w (exchange b r) .next) xs
 
--- the bytes of an I/O write, 0 past its length, and for a read
--- what a look yields: kind, address, length, serial and bytes
-abbrev pub lookBytes : Ask → ℕ → List ℕ
-lookBytes a serial = kindNumber (a .kind) ∷ (low8 (a .address) ++ (low2 (a .length) ++ (low4 serial ++ low4 (a .bytes))))
+-- the data of an I/O write, 0 past its length and for a read
+abbrev pub fourBytes : Sort → ℕ → List ℕ → List ℕ
+fourBytes R.MemoryRead n b = 0 ∷ 0 ∷ 0 ∷ 0 ∷ []
+fourBytes R.IoRead n b = 0 ∷ 0 ∷ 0 ∷ 0 ∷ []
+fourBytes R.IoWrite n b = let d = take n (drop 3 b) in getD d 0 0 ∷ getD d 1 0 ∷ getD d 2 0 ∷ getD d 3 0 ∷ []
+
+-- "Looking yields the request's kind, address, length, serial and such bytes"
+abbrev pub lookBytes : List ℕ → ℕ → List ℕ
+lookBytes b serial =
+    let a = askIn b in
+    kindNumber (a .kind) ∷ (low8 (a .address) ++ (low2 (a .length) ++ (low4 serial ++ fourBytes (a .kind) (a .length) b)))
 
 -- of the request's own reply, and of any call c after xs
 pub record Waits (w : World) (b r : List ℕ) (xs : List Call) (c : Call) : Type 0 where
@@ -103,12 +111,12 @@ pub record Waits (w : World) (b r : List ℕ) (xs : List Call) (c : Call) : Type
   pub taken : shows 1 0 (step (since w b r xs) c .answer)
 
 -- the request is held as its bytes ask it, under the sizes of 010h in the state that accepted it, and a look yields it
-pub record Kept (w : World) (b r : List ℕ) (xs : List Call) : Type 0 where
+pub record HeldAs (w : World) (b r : List ℕ) (xs : List Call) : Type 0 where
   pub request : held (since w b r xs) ≡ Waiting (requestFor (w .state) (askIn b))
   pub serial : since w b r xs .state .peripheral .serial ≡ step w (exchange b r) .next .state .peripheral .serial
   pub looks : (report : List ℕ) → lookLength ≤ length report → step (since w b r xs) (look report) .number ≡ 0
   pub yields : (report : List ℕ) → lookLength ≤ length report
-      → step (since w b r xs) (look report) .report ≡ lookBytes (askIn b) (step w (exchange b r) .next .state .peripheral .serial)
+      → step (since w b r xs) (look report) .report ≡ lookBytes b (step w (exchange b r) .next .state .peripheral .serial)
 
 -- ---- a request, its answer, and the calls since
 
@@ -123,28 +131,28 @@ pub record Answered (w : World) (b r : List ℕ) (xs : List Call) (serial succes
   pub handedSince : allHanded ys ≡ true
 
 -- P15: a read (PUT_NP, short memory read, short I/O read) answered with as many bytes as it asks
-abbrev pub Read : Type 0
-Read = (w : World) (b r : List ℕ) (xs : List Call) (serial success : ℕ) (d : List ℕ) (ys : List Call) → Answered w b r xs serial success d ys
+abbrev pub ReadAnswered : Type 0
+ReadAnswered = (w : World) (b r : List ℕ) (xs : List Call) (serial success : ℕ) (d : List ℕ) (ys : List Call) → Answered w b r xs serial success d ys
     → isRead (askIn b .kind) ≡ true → length d ≡ askIn b .length
     → HandsOver (askIn b .address) (askIn b .length) (payloadSize (w .state .config .r010)) (askIn b .tag) d (step (since w b r xs) (answer serial success d) .next) ys
 
 -- P17: a failure, and an I/O write answered with success, give one completion without data
-abbrev pub Failure : Type 0
-Failure = (w : World) (b r : List ℕ) (xs : List Call) (serial success : ℕ) (d : List ℕ) (ys : List Call) → Answered w b r xs serial success d ys
+abbrev pub FailureAnswered : Type 0
+FailureAnswered = (w : World) (b r : List ℕ) (xs : List Call) (serial success : ℕ) (d : List ℕ) (ys : List Call) → Answered w b r xs serial success d ys
     → succeeded success ≡ false
     → Delivers 1 (λ j. header 0x0E (askIn b .tag) 0) (step (since w b r xs) (answer serial success d) .next) ys
 
-abbrev pub IoWritten : Type 0
-IoWritten = (w : World) (b r : List ℕ) (xs : List Call) (serial success : ℕ) (d : List ℕ) (ys : List Call) → Answered w b r xs serial success d ys
+abbrev pub IoWriteAnswered : Type 0
+IoWriteAnswered = (w : World) (b r : List ℕ) (xs : List Call) (serial success : ℕ) (d : List ℕ) (ys : List Call) → Answered w b r xs serial success d ys
     → askIn b .kind ≡ R.IoWrite → succeeded success ≡ true
     → Delivers 1 (λ j. header 0x06 (askIn b .tag) 0) (step (since w b r xs) (answer serial success d) .next) ys
 
 -- P15 (a), (e) and P17 before the answer
-abbrev pub Before : Type 0
-Before = (w : World) (b r : List ℕ) (xs : List Call) → Asked w b r xs → (c : Call) → Waits w b r xs c
+abbrev pub BeforeAnswer : Type 0
+BeforeAnswer = (w : World) (b r : List ℕ) (xs : List Call) → Asked w b r xs → (c : Call) → Waits w b r xs c
 
-abbrev pub Held : Type 0
-Held = (w : World) (b r : List ℕ) (xs : List Call) → Asked w b r xs → Kept w b r xs
+abbrev pub RequestHeld : Type 0
+RequestHeld = (w : World) (b r : List ℕ) (xs : List Call) → areBytes b ≡ true → Asked w b r xs → HeldAs w b r xs
 
 -- ---- after an ending event: P16
 
@@ -171,5 +179,5 @@ pub record AfterEnd (w : World) (e : Call) (cs : List Call) (c : Call) : Type 0 
   pub getPc : kind (run (step w e .next) cs) c ≡ gets → AskedIn (step w e .next) cs
   pub pcAvail : raises 4 (step (run (step w e .next) cs) c .answer) ≡ true → AskedIn (step w e .next) cs
 
-abbrev pub Ended : Type 0
-Ended = (w : World) (e : Call) → kind w e ≡ ends → (cs : List Call) (c : Call) → AfterEnd w e cs c
+abbrev pub EventEnds : Type 0
+EventEnds = (w : World) (e : Call) → kind w e ≡ ends → (cs : List Call) (c : Call) → AfterEnd w e cs c

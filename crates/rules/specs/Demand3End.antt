@@ -14,7 +14,7 @@ use Rattle.state.specs.declared.Request.{Request}
 use Rattle.rules.specs.Step.{World, Call, Outcome, step, run, answer}
 use Rattle.rules.specs.Kinds.{Kind, gets, ends, kind, held, raises}
 use Rattle.rules.specs.View.{Shown, Move, same, asked, told, sent, lent, dropped, view, view-as}
-use Rattle.rules.specs.Demand3.{ToldIn, AskedIn, Ended}
+use Rattle.rules.specs.Demand3.{ToldIn, AskedIn, EventEnds}
 use Rattle.rules.specs.declared.Answer.{Answer}
 use Rattle.rules.specs.declared.Answer.the-variants.{Silent, Said}
 
@@ -112,7 +112,7 @@ raised-ready {w} {c} {o} k e (sent p ps u a b d r x) = ap some u
 raised-ready {w} {c} {o} k e (lent write read f a b d x) = absurd (not-silent (o .answer) x e)
 raised-ready {w} {c} {o} k e (dropped a b d x) = shown-raised (held w) (o .answer) x e
 
-pub ended : Ended
+pub ended : EventEnds
 ended w e k cs c =
     let free : held (step w e .next) ≡ Free = end-free (view-as w e k) in
     let at = run (step w e .next) cs in

@@ -1,22 +1,21 @@
 -- Completions owed, over any run: each accepted GET_PC hands over the next, one is accepted while any is owed, and replies show it.
-use Prim.Native.Nat.{ℕ, zero, suc, _+_, _-_, _*_, _/_, _%_, _≤_, _<_}
+use Prim.Native.Nat.{ℕ, zero, suc, _+_, _-_, _≤_, _<_}
 use mathlib.Core.Bool.{Bool, true, false, _&&_, _||_, not, true≢false}
 use mathlib.Core.List.{List, [], _∷_, _++_, append-assoc}
 use mathlib.Core.Path.{_≡_, refl, sym, ap, _∙_, subst}
 use native.Mathlib.Omega.{arith}
-use native.Mathlib.Nat.{add-zero, zero-add, mod-eq-of-lt}
-use lib.Dec.{eqb, ltb, leb}
-use lib.ListN.{length, take, drop, length-append}
+use native.Mathlib.Nat.{add-zero, zero-add}
+use lib.ListN.{length, take, length-append}
 use lib.Seq.{take-at}
-use borrow.Author.Tests.{eqb-true, not-true}
-use Rattle.base.specs.Pick.{pick, pick-ind, and-left, and-right}
-use Rattle.base.specs.Bytes.{over, low2}
+use borrow.Author.Tests.{not-true}
+use Rattle.base.specs.Pick.{and-left, and-right}
+use Rattle.base.specs.Bytes.{low2}
 use Rattle.crc.specs.Crc.{crc}
 use Rattle.registers.specs.Registers.{on0, on1, crcChecked, reachable}
 use Rattle.wires.specs.Groups.{soundWires}
 use Rattle.command.specs.Decode.{admit, decode, crcGood}
 use Rattle.command.specs.declared.Command.the-variants as C
-use Rattle.command.specs.declared.Decoded.the-variants.{Known, Refused}
+use Rattle.command.specs.declared.Decoded.the-variants.{Known}
 use Rattle.state.specs.Sound.{Sound, sound, soundPeripheral, soundRequest, soundWrite, nothingHeld}
 use Rattle.state.specs.Status.{status, bit, npFree, pcFree, pcAvail, some}
 use Rattle.state.specs.Upward.{upward, handed}
@@ -26,12 +25,13 @@ use Rattle.state.specs.declared.Np.the-variants.{Free, Waiting, Ready, Failed}
 use Rattle.state.specs.declared.State.{State}
 use Rattle.rules.specs.Decide as D
 use Rattle.rules.specs.Reply.{closed, headerBytes, dataBytes}
-use Rattle.rules.specs.Step.{World, Call, Outcome, step, run, exchanged, shortStores, handedOver, allHanded, exchange, answer}
-use Rattle.rules.specs.Kinds.{Kind, idle, asks, tells, gets, ends, lends, kind, isEnd, isTell, isAsk, without, got, gotBy, replyOf, held, shows, sameRead, readHandedOn}
+use Rattle.rules.specs.Step.{World, Call, step, run, exchanged, shortStores, allHanded, exchange, answer}
+use Rattle.rules.specs.KeptProof.{sound-run}
+use Rattle.rules.specs.Kinds.{Kind, gets, kind, isEnd, isTell, isAsk, without, got, gotBy, replyOf, held, shows, sameRead, readHandedOn}
 use Rattle.rules.specs.View.{Shown, Move, same, asked, told, sent, lent, dropped, view, view-as}
 use Rattle.rules.specs.Demand3.{crcFine, Over, Delivers, joinedData, dataIn}
 use Rattle.rules.specs.declared.Answer.{Answer}
-use Rattle.rules.specs.declared.Answer.the-variants.{Silent, Said}
+use Rattle.rules.specs.declared.Answer.the-variants.{Silent}
 
 pub clash : {X : Type 0} → _≡_ {A = ℕ} 0 1 → X
 clash e = absurd (omega arith)
@@ -256,17 +256,6 @@ ended-by comp k w c o (sent p ps u a b d r v) =
       free = free;
     }
 
--- ---- every call keeps the state sound (P4)
-
-abbrev pub Keeps : Type 0
-Keeps = (w : World) (c : Call) → Sound (w .state) → handedOver c ≡ true → Sound (step w c .next .state)
-
-pub sound-run : Keeps → (cs : List Call) (w : World) → Sound (w .state) → allHanded cs ≡ true → Sound (run w cs .state)
-unfolding run allHanded
-sound-run keeps [] w d h = d
-sound-run keeps (c ∷ cs) w d h =
-    sound-run keeps cs (step w c .next) (keeps w c d (and-left (handedOver c) _ h)) (and-right (handedOver c) _ h)
-
 -- the data handed over, joined
 pub joined-owed : (comp : ℕ → Completion) (N : ℕ) (w : World) → Owes comp 0 N (held w) → (cs : List Call) → without isEnd w cs ≡ true → readHandedOn w cs
     → length (got w cs) ≡ N → joinedData (got w cs) ≡ datas comp (w .read) 0 N
@@ -274,7 +263,7 @@ joined-owed comp N w o cs q s e = rw (← e) (left comp (w .read) cs 0 N w o ref
 
 -- ---- from a world that owes N completions
 
-module _ (keeps : Keeps) (comp : ℕ → Completion) (N : ℕ) (body : ℕ → List ℕ) (w : World) (d : Sound (w .state)) (o : Owes comp 0 N (held w))
+module _ (comp : ℕ → Completion) (N : ℕ) (body : ℕ → List ℕ) (w : World) (d : Sound (w .state)) (o : Owes comp 0 N (held w))
     (is : (j : ℕ) → j < N → bodyOf (comp j) (w .read) ≡ body j) (cs : List Call) (q : without isEnd w cs ≡ true) (s : readHandedOn w cs) (h : allHanded cs ≡ true) where
   -- with j completions handed over
   owed : (n : ℕ) → length (got w cs) + suc n ≡ N → Owes comp (length (got w cs)) (suc n) (held (run w cs))
@@ -296,7 +285,7 @@ module _ (keeps : Keeps) (comp : ℕ → Completion) (N : ℕ) (body : ℕ → L
       record {
         inOrder = λ c e l. in-order c l (view-as (run w cs) c e);
         accepts = λ check reply l long fine.
-          get-accepted (run w cs) check reply _ _ (sound-run keeps cs w d h) (owed (N - suc (length (got w cs))) (omega arith) .0) long fine;
+            get-accepted (run w cs) check reply _ _ (sound-run w cs d h) (owed (N - suc (length (got w cs))) (omega arith) .0) long fine;
         stands = λ c l. busy-at c l .0;
         held = λ c l. busy-at c l .1;
         last = λ c e l. ended-by comp _ (run w cs) c (owed 0 (omega arith)) (view-as (run w cs) c e);

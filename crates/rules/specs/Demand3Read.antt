@@ -1,12 +1,12 @@
 -- A read that is answered owes its pieces: what `upward` hands over, edge by edge, is the cutting at blocks.
-use Prim.Native.Nat.{ℕ, zero, suc, _+_, _-_, _*_, _/_, _%_, _≤_, _<_}
-use mathlib.Core.Bool.{Bool, true, false, true≢false}
+use Prim.Native.Nat.{ℕ, zero, suc, _+_, _-_, _/_, _%_, _≤_, _<_}
+use mathlib.Core.Bool.{true, true≢false}
 use mathlib.Core.List.{List, [], _∷_, _++_}
 use mathlib.Core.Path.{_≡_, refl, sym, ap, ap₂, _∙_, subst}
 use native.Mathlib.Nat.{mod-eq-of-lt}
 use native.Mathlib.Omega.{arith}
 use lib.Dec.{eqb}
-use lib.ListN.{length, take, drop, length-drop}
+use lib.ListN.{length, drop, length-drop}
 use lib.Seq.{take-append-le, drop-append-le}
 use borrow.Author.Tests.{eq-eqb, ne-eqb}
 use Rattle.base.specs.Pick.{pick}
@@ -14,13 +14,12 @@ use Rattle.base.specs.Bytes.{over}
 use Rattle.pieces.specs.Edges.{edge-le, edge-next, edge-all}
 use Rattle.pieces.specs.Laws.{next-size-edge, next-mark-edge}
 use Rattle.pieces.specs.Marks.{markType}
-use Rattle.pieces.specs.Pieces.{blocks, edge, piece, piecesFrom, part, joined, nextSize, nextMark}
-use Rattle.state.specs.Upward.{upward, handed, nextOf, pieceOf, successOf, afterPiece, afterSuccess}
+use Rattle.pieces.specs.Pieces.{blocks, edge, piece, piecesFrom, part, joined, nextSize}
+use Rattle.state.specs.Upward.{upward, handed, pieceOf, successOf, afterPiece, afterSuccess}
 use Rattle.state.specs.declared.Completion.{Completion}
 use Rattle.state.specs.declared.Kind.{Kind}
 use Rattle.state.specs.declared.Kind.the-variants.{MemoryRead, IoRead, IoWrite}
-use Rattle.state.specs.declared.Np.{Np}
-use Rattle.state.specs.declared.Np.the-variants.{Free, Waiting, Ready, Failed}
+use Rattle.state.specs.declared.Np.the-variants.{Free, Ready}
 use Rattle.state.specs.declared.Request.{Request}
 use Rattle.rules.specs.Reply.{headerBytes, dataBytes}
 use Rattle.rules.specs.Kinds.{isRead}
@@ -73,7 +72,7 @@ module _ (q : Request) (r : isRead (q .kind) ≡ true) (l : 0 < q .length) (p : 
 -- ---- a piece's bytes
 
 -- the length of a piece has no more than 12 bits, so that the header's fields hold it and the tag
-header-is : (k : Completion) → k .tag < 16 → k .length < 4096 → headerBytes k ≡ header (k .cycle) (k .tag) (k .length)
+pub header-is : (k : Completion) → k .tag < 16 → k .length < 4096 → headerBytes k ≡ header (k .cycle) (k .tag) (k .length)
 header-is k t n = ap (λ (x : ℕ). k .cycle ∷ x ∷ k .length % 256 ∷ []) (rw (mod-eq-of-lt t, mod-eq-of-lt (small (k .length) n)))
   where
     small : (n : ℕ) → n < 4096 → n / 256 < 16
