@@ -229,7 +229,7 @@ free-step w c k h q (sent p ps u a b d r v) = clash (cc)
 free-step w c k h q (lent write read f a b d v) = a ∙ h
 free-step w c k h q (dropped a b d v) = a
 
-free-run : (es : List Call) (w : World) → held w ≡ Free → without isAsk w es ≡ true → held (run w es) ≡ Free
+pub free-run : (es : List Call) (w : World) → held w ≡ Free → without isAsk w es ≡ true → held (run w es) ≡ Free
 unfolding without run
 free-run [] w h q = h
 free-run (c ∷ es) w h q =

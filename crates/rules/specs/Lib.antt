@@ -18,3 +18,5 @@ pub mod KeptQueues
 pub mod KeptWires
 pub mod KeptProof
 pub mod KeptFits
+pub mod Serials
+pub mod SerialsProof
