@@ -48,12 +48,12 @@ crcFine s b = not (crcChecked (s .config .r008)) || crcGood b
 -- of the outcome of the N-th accepted GET_PC
 pub record Over (o : Outcome) : Type 0 where
   -- PC_AVAIL is 0 in its reply and stays 0 until a later accepted answer
-  pub drops : shows 4 0 (o .answer)
-  pub staysDown : (es : List Call) (c : Call) → without isTell (o .next) es ≡ true → shows 4 0 (step (run (o .next) es) c .answer)
+  pub drops : shows 4 0 (o .reply)
+  pub staysDown : (es : List Call) (c : Call) → without isTell (o .next) es ≡ true → shows 4 0 (step (run (o .next) es) c .reply)
   -- NP_FREE is 1 in its reply and stays 1 until a later accepted request
-  pub frees : shows 1 1 (o .answer)
+  pub frees : shows 1 1 (o .reply)
   pub staysFree : (es : List Call) (c : Call) → without isAsk (o .next) es ≡ true → isAsk (kind (run (o .next) es) c) ≡ false
-      → shows 1 1 (step (run (o .next) es) c .answer)
+      → shows 1 1 (step (run (o .next) es) c .reply)
   pub free : held (o .next) ≡ Free
 
 -- w: the world after the answer; cs: the calls since; N completions with the bodies body 0, body 1, .. are owed in w
@@ -65,8 +65,8 @@ pub record Delivers (N : ℕ) (body : ℕ → List ℕ) (w : World) (cs : List C
   pub accepts : (check : ℕ) (reply : List ℕ) → length (got w cs) < N → shortStores reply (run w cs) ≡ false
       → crcFine (run w cs .state) (0x01 ∷ check ∷ []) ≡ true → step (run w cs) (exchange (0x01 ∷ check ∷ []) reply) .number ≡ 0
   -- (d), (e) before the N-th, PC_AVAIL is 1 and NP_FREE 0 in every reply
-  pub stands : (c : Call) → length (got w cs) + length (gotBy (run w cs) c) < N → shows 4 1 (step (run w cs) c .answer)
-  pub held : (c : Call) → length (got w cs) + length (gotBy (run w cs) c) < N → shows 1 0 (step (run w cs) c .answer)
+  pub stands : (c : Call) → length (got w cs) + length (gotBy (run w cs) c) < N → shows 4 1 (step (run w cs) c .reply)
+  pub held : (c : Call) → length (got w cs) + length (gotBy (run w cs) c) < N → shows 1 0 (step (run w cs) c .reply)
   -- the N-th
   pub last : (c : Call) → kind (run w cs) c ≡ gets → length (got w cs) + 1 ≡ N → Over (step (run w cs) c)
 
@@ -103,12 +103,12 @@ lookBytes b serial =
 pub record Waits (w : World) (b r : List ℕ) (xs : List Call) (c : Call) : Type 0 where
   -- "Accepting it replies DEFER"; the reply shows NP_FREE 0 and PC_AVAIL 0
   pub defers : step w (exchange b r) .reply ≡ closed (0x01 ∷ []) (status (step w (exchange b r) .next .state))
-  pub deferNp : shows 1 0 (step w (exchange b r) .answer)
-  pub deferPc : shows 4 0 (step w (exchange b r) .answer)
+  pub deferNp : shows 1 0 (step w (exchange b r) .reply)
+  pub deferPc : shows 4 0 (step w (exchange b r) .reply)
   -- no GET_PC is accepted before the answer, PC_AVAIL is 0 and NP_FREE 0 in every reply
   pub noGet : kind (since w b r xs) c ≡ gets → ⊥
-  pub down : shows 4 0 (step (since w b r xs) c .answer)
-  pub taken : shows 1 0 (step (since w b r xs) c .answer)
+  pub down : shows 4 0 (step (since w b r xs) c .reply)
+  pub taken : shows 1 0 (step (since w b r xs) c .reply)
 
 -- the request is held as its bytes ask it, under the sizes of 010h in the state that accepted it, and a look yields it
 pub record HeldAs (w : World) (b r : List ℕ) (xs : List Call) : Type 0 where
@@ -177,7 +177,17 @@ pub record AskedIn (w : World) (cs : List Call) : Type 0 where
 -- e is an ending event in w, cs are the calls after it, c is the next one
 pub record AfterEnd (w : World) (e : Call) (cs : List Call) (c : Call) : Type 0 where
   pub getPc : kind (run (step w e .next) cs) c ≡ gets → AskedIn (step w e .next) cs
-  pub pcAvail : raises 4 (step (run (step w e .next) cs) c .answer) ≡ true → AskedIn (step w e .next) cs
+  pub pcAvail : raises 4 (step (run (step w e .next) cs) c .reply) ≡ true → AskedIn (step w e .next) cs
 
 abbrev pub EventEnds : Type 0
 EventEnds = (w : World) (e : Call) → kind w e ≡ ends → (cs : List Call) (c : Call) → AfterEnd w e cs c
+
+-- ---- all of it
+
+pub record Demand3 : Type 0 where
+  pub before : BeforeAnswer
+  pub held : RequestHeld
+  pub read : ReadAnswered
+  pub failure : FailureAnswered
+  pub ioWrite : IoWriteAnswered
+  pub ended : EventEnds

@@ -5,7 +5,10 @@ use mathlib.Core.List.{List, [], _∷_}
 use mathlib.Core.Logic.{_⊎_, inl, inr}
 use mathlib.Core.Path.{_≡_, refl, sym, ap, _∙_}
 use native.Mathlib.Omega.{arith}
-use borrow.Author.Tests.{eqb-true}
+use lib.Dec.{ltb}
+use lib.ListN.{length}
+use borrow.Author.Tests.{eqb-true, ltb-true}
+use Rattle.base.specs.Pick.{and-left, and-right}
 use Rattle.state.specs.Status.{bit, pcAvail, some}
 use Rattle.state.specs.Upward.{upward}
 use Rattle.state.specs.declared.Np.{Np}
@@ -15,8 +18,6 @@ use Rattle.rules.specs.Step.{World, Call, Outcome, step, run, answer}
 use Rattle.rules.specs.Kinds.{Kind, gets, ends, kind, held, raises}
 use Rattle.rules.specs.View.{Shown, Move, same, asked, told, sent, lent, dropped, view, view-as}
 use Rattle.rules.specs.Demand3.{ToldIn, AskedIn, EventEnds}
-use Rattle.rules.specs.declared.Answer.{Answer}
-use Rattle.rules.specs.declared.Answer.the-variants.{Silent, Said}
 
 clash : {X : Type 0} → _≡_ {A = ℕ} 0 1 → X
 clash e = absurd (omega arith)
@@ -97,20 +98,21 @@ bit-one : (t : Bool) → bit t ≡ 1 → t ≡ true
 bit-one true e = refl
 bit-one false e = absurd (omega arith)
 
-shown-raised : (n : Np) (a : Answer) → Shown n a → raises 4 a ≡ true → pcAvail n ≡ true
-shown-raised n Silent x e = absurd (true≢false (sym e))
-shown-raised n (Said r b st) x e = bit-one (pcAvail n) (sym (x .pc) ∙ eqb-true _ 1 e)
+shown-raised : (n : Np) (a : List ℕ) → Shown n a → raises 4 a ≡ true → pcAvail n ≡ true
+shown-raised n a x e =
+    bit-one (pcAvail n)
+    (sym (x .pc (ltb-true 0 (length a) (and-left (ltb 0 (length a)) _ e))) ∙ eqb-true _ 1 (and-right (ltb 0 (length a)) _ e))
 
-not-silent : (a : Answer) → a ≡ Silent → raises 4 a ≡ true → ⊥
+not-silent : (a : List ℕ) → a ≡ [] → raises 4 a ≡ true → ⊥
 not-silent a f e = absurd (true≢false (sym e ∙ ap (raises 4) f))
 
-raised-ready : {w : World} {c : Call} {o : Outcome} (k : Kind) → raises 4 (o .answer) ≡ true → Move w c o k → pcAvail (held w) ≡ true
-raised-ready {w} {c} {o} k e (same a b d x) = shown-raised (held w) (o .answer) x e
-raised-ready {w} {c} {o} k e (asked b r f a n m d y x) = absurd (not-ready-waiting (held (o .next)) _ (shown-raised (held (o .next)) (o .answer) x e) n)
-raised-ready {w} {c} {o} k e (told q n t d f a b l m x r y) = absurd (not-silent (o .answer) y e)
+raised-ready : {w : World} {c : Call} {o : Outcome} (k : Kind) → raises 4 (o .reply) ≡ true → Move w c o k → pcAvail (held w) ≡ true
+raised-ready {w} {c} {o} k e (same a b d x) = shown-raised (held w) (o .reply) x e
+raised-ready {w} {c} {o} k e (asked b r f a n m d y x) = absurd (not-ready-waiting (held (o .next)) _ (shown-raised (held (o .next)) (o .reply) x e) n)
+raised-ready {w} {c} {o} k e (told q n t d f a b l m x r y) = absurd (not-silent (o .reply) y e)
 raised-ready {w} {c} {o} k e (sent p ps u a b d r x) = ap some u
-raised-ready {w} {c} {o} k e (lent write read f a b d x) = absurd (not-silent (o .answer) x e)
-raised-ready {w} {c} {o} k e (dropped a b d x) = shown-raised (held w) (o .answer) x e
+raised-ready {w} {c} {o} k e (lent write read f a b d x) = absurd (not-silent (o .reply) x e)
+raised-ready {w} {c} {o} k e (dropped a b d x) = shown-raised (held w) (o .reply) x e
 
 pub ended : EventEnds
 ended w e k cs c =

@@ -30,8 +30,6 @@ use Rattle.rules.specs.KeptProof.{sound-run}
 use Rattle.rules.specs.Kinds.{Kind, gets, kind, isEnd, isTell, isAsk, without, got, gotBy, replyOf, held, shows, sameRead, readHandedOn}
 use Rattle.rules.specs.View.{Shown, Move, same, asked, told, sent, lent, dropped, view, view-as}
 use Rattle.rules.specs.Demand3.{crcFine, Over, Delivers, joinedData, dataIn}
-use Rattle.rules.specs.declared.Answer.{Answer}
-use Rattle.rules.specs.declared.Answer.the-variants.{Silent}
 
 pub clash : {X : Type 0} → _≡_ {A = ℕ} 0 1 → X
 clash e = absurd (omega arith)
@@ -165,26 +163,26 @@ module _ (comp : ℕ → Completion) (rd : List ℕ) where
 
 -- ---- what replies show
 
-pub shown-silent : (at value : ℕ) {a : Answer} → a ≡ Silent → shows at value a
-shown-silent at value e = subst (shows at value) (sym e) tt
+pub shown-silent : (at value : ℕ) {a : List ℕ} → a ≡ [] → shows at value a
+shown-silent at value e = subst (shows at value) (sym e) (λ h. absurd (omega arith))
 
-pub pc-shown : {n : Np} {a : Answer} (t : Bool) → pcAvail n ≡ t → Shown n a → shows 4 (bit t) a
+pub pc-shown : {n : Np} {a : List ℕ} (t : Bool) → pcAvail n ≡ t → Shown n a → shows 4 (bit t) a
 pc-shown {n} {a} t e x = subst (λ (u : Bool). shows 4 (bit u) a) e (x .pc)
 
-pub np-shown : {n : Np} {a : Answer} (t : Bool) → npFree n ≡ t → Shown n a → shows 1 (bit t) a
+pub np-shown : {n : Np} {a : List ℕ} (t : Bool) → npFree n ≡ t → Shown n a → shows 1 (bit t) a
 np-shown {n} {a} t e x = subst (λ (u : Bool). shows 1 (bit u) a) e (x .np)
 
 -- PC_AVAIL at 1, NP_FREE at 0
-Busy : Answer → Type 0
+Busy : List ℕ → Type 0
 Busy a = shows 4 1 a × shows 1 0 a
 
-busy : {n : Np} {a : Answer} {k : Completion} {ks : List Completion} → upward n ≡ k ∷ ks → Shown n a → Busy a
+busy : {n : Np} {a : List ℕ} {k : Completion} {ks : List Completion} → upward n ≡ k ∷ ks → Shown n a → Busy a
 unfolding Busy
 busy {n} {a} {k} {ks} u x = (pc-shown true (ap some u) x, np-shown false (ready-taken n k ks u) x)
 
 -- before the last completion, every reply
 stood : (comp : ℕ → Completion) (k n : ℕ) (w : World) (c : Call) (x : Kind) → Owes comp k (suc n) (held w) → length (replyOf x (step w c .reply)) < suc n
-    → Move w c (step w c) x → Busy (step w c .answer)
+    → Move w c (step w c) x → Busy (step w c .reply)
 unfolding upward Busy
 stood comp k n w c x o l (same a b d v) = busy (o .0) v
 stood comp k n w c x o l (asked b r f a m y d z v) = clash (cc (o .0))
@@ -211,7 +209,7 @@ down-run [] w h q = h
 down-run (c ∷ es) w h q =
     down-run es (step w c .next) (down-step w c (kind w c) h (not-true _ (and-left (not (isTell (kind w c))) _ q)) (view w c)) (and-right (not (isTell (kind w c))) _ q)
 
-pub down-shown : (w : World) (c : Call) (k : Kind) → pcAvail (held w) ≡ false → Move w c (step w c) k → shows 4 0 (step w c .answer)
+pub down-shown : (w : World) (c : Call) (k : Kind) → pcAvail (held w) ≡ false → Move w c (step w c) k → shows 4 0 (step w c .reply)
 unfolding upward
 down-shown w c k h (same a b d v) = pc-shown false h v
 down-shown w c k h (asked b r f a m y d z v) = pc-shown false (ap pcAvail m) v
@@ -235,7 +233,7 @@ free-run [] w h q = h
 free-run (c ∷ es) w h q =
     free-run es (step w c .next) (free-step w c (kind w c) h (not-true _ (and-left (not (isAsk (kind w c))) _ q)) (view w c)) (and-right (not (isAsk (kind w c))) _ q)
 
-free-shown : (w : World) (c : Call) (k : Kind) → held w ≡ Free → isAsk k ≡ false → Move w c (step w c) k → shows 1 1 (step w c .answer)
+free-shown : (w : World) (c : Call) (k : Kind) → held w ≡ Free → isAsk k ≡ false → Move w c (step w c) k → shows 1 1 (step w c .reply)
 unfolding upward
 free-shown w c k h q (same a b d v) = np-shown true (ap npFree h) v
 free-shown w c k h q (asked b r f a m y d z v) = clash (cc)
@@ -291,7 +289,7 @@ module _ (comp : ℕ → Completion) (N : ℕ) (body : ℕ → List ℕ) (w : Wo
         last = λ c e l. ended-by comp _ (run w cs) c (owed 0 (omega arith)) (view-as (run w cs) c e);
       }
     where
-      busy-at : (c : Call) → length (got w cs) + length (gotBy (run w cs) c) < N → Busy (step (run w cs) c .answer)
+      busy-at : (c : Call) → length (got w cs) + length (gotBy (run w cs) c) < N → Busy (step (run w cs) c .reply)
       busy-at c l =
           let n = N - suc (length (got w cs)) in
           stood comp _ n (run w cs) c (kind (run w cs) c) (owed n (omega arith)) (omega arith) (view (run w cs) c)

@@ -33,7 +33,8 @@ use Rattle.rules.specs.Kinds.{Kind, asks, tells, gets, opcode, kind, ask
 use Rattle.rules.specs.KeptBytes.{bytes-below}
 use Rattle.rules.specs.KeptProof.{sound-step, sound-run}
 use Rattle.rules.specs.View.{Move, same, asked, told, sent, lent, dropped, view, view-as}
-use Rattle.rules.specs.Demand3.{since, fourBytes, header, pieceBody, Asked, Answered, HandsOver, Delivers, ReadAnswered, FailureAnswered, IoWriteAnswered, BeforeAnswer, RequestHeld}
+use Rattle.rules.specs.Demand3.{since, fourBytes, header, pieceBody, Asked, Answered, HandsOver, Delivers, ReadAnswered, FailureAnswered, IoWriteAnswered, BeforeAnswer, RequestHeld, Demand3}
+use Rattle.rules.specs.Demand3End.{ended}
 use Rattle.rules.specs.Demand3Owed.{clash, Owes, deliver, joined-owed, np-shown, pc-shown, shown-silent, down-shown}
 use Rattle.rules.specs.Demand3Read.{pieceOfRead, owes-read, header-is, body-is, datas-are}
 
@@ -72,7 +73,7 @@ module _ (w : World) (b r : List ℕ) (xs : List Call) (a : Asked w b r xs) wher
 
 -- ---- before the answer
 
-taken-shown : (q : Request) (w : World) (c : Call) (k : Kind) → held w ≡ Waiting q → Move w c (step w c) k → shows 1 0 (step w c .answer)
+taken-shown : (q : Request) (w : World) (c : Call) (k : Kind) → held w ≡ Waiting q → Move w c (step w c) k → shows 1 0 (step w c .reply)
 unfolding upward
 taken-shown q w c k h (same a b d v) = np-shown false (ap npFree h) v
 taken-shown q w c k h (asked b r f a m n d z v) = clash (cc)
@@ -87,8 +88,8 @@ no-get q w c h (sent p ps u a b d r v) = clash (cc)
 
 record Defers (o : Outcome) : Type 0 where
   reply : o .reply ≡ closed (0x01 ∷ []) (status (o .next .state))
-  np : shows 1 0 (o .answer)
-  pc : shows 4 0 (o .answer)
+  np : shows 1 0 (o .reply)
+  pc : shows 4 0 (o .reply)
 
 deferred : {w : World} {c : Call} {o : Outcome} → Move w c o asks → Defers o
 unfolding upward
@@ -279,3 +280,7 @@ request-held w b r xs e a =
       yields = λ report l. looked-at _ (since w b r xs) report (k .0) l .1
           ∙ ap₂ (λ (n : ℕ) (x : List ℕ). kindNumber (askIn b .kind) ∷ (low8 (askIn b .address) ++ (low2 (askIn b .length) ++ (low4 n ++ x)))) (k .1) (four-bytes (opcode b) b e);
     }
+
+pub demand3 : Demand3
+demand3 =
+    record { before = before; held = request-held; read = read-answered; failure = failure-answered; ioWrite = io-write-answered; ended = ended }

@@ -1,10 +1,10 @@
 -- The words of the statements over runs: what a call was for the peripheral channel, what a request's bytes ask, what a reply shows.
-use Prim.Native.Nat.{ℕ, _/_, _%_, _^_}
+use Prim.Native.Nat.{ℕ, _+_, _-_, _*_, _/_, _%_, _^_, _<_}
 use mathlib.Core.Bool.{Bool, true, false, _&&_, not}
 use mathlib.Core.List.{List, [], _∷_, _++_}
 use mathlib.Core.Path.{_≡_}
-use lib.Dec.{eqb}
-use lib.ListN.{getD}
+use lib.Dec.{eqb, ltb}
+use lib.ListN.{length, getD}
 use Rattle.base.specs.Pick.{pick}
 use Rattle.registers.specs.Registers.{on0}
 use Rattle.command.specs.Opcode.{opcodeOf}
@@ -19,8 +19,6 @@ use Rattle.state.specs.declared.Np.{Np}
 use Rattle.state.specs.declared.Request.{Request}
 use Rattle.state.specs.declared.State.{State}
 use Rattle.rules.specs.Decide.{requestOf, bytesOf}
-use Rattle.rules.specs.declared.Answer.{Answer}
-use Rattle.rules.specs.declared.Answer.the-variants.{Silent, Said}
 use Rattle.rules.specs.Step.{World, Call, Outcome, step, start, espiReset, platformReset, exchange, look, answer, takeWrite, setWire, readWire, lend}
 
 -- ---- kinds: refused calls are idle, what an accepted exchange was its bytes say
@@ -186,15 +184,17 @@ got w (c ∷ cs) = gotBy w c ++ got (step w c .next) cs
 abbrev pub held : World → Np
 held w = w .state .peripheral .request
 
+-- the status that a reply shows: the two bytes before its CRC, low byte first
+abbrev pub statusIn : List ℕ → ℕ
+statusIn r = getD r (length r - 3) 0 + getD r (length r - 2) 0 * 256
+
 -- a reply, where there is one, shows this value at this bit of its status
-abbrev pub shows : (at value : ℕ) → Answer → Type 0
-shows at value Silent = Unit {0}
-shows at value (Said response body status) = status / 2 ^ at % 2 ≡ value
+abbrev pub shows : (at value : ℕ) → List ℕ → Type 0
+shows at value r = 0 < length r → statusIn r / 2 ^ at % 2 ≡ value
 
 -- there is a reply, and this bit of its status is 1
-abbrev pub raises : ℕ → Answer → Bool
-raises at Silent = false
-raises at (Said response body status) = eqb (status / 2 ^ at % 2) 1
+abbrev pub raises : ℕ → List ℕ → Bool
+raises at r = ltb 0 (length r) && eqb (statusIn r / 2 ^ at % 2) 1
 
 -- "the read store too": a lend hands on the read store as it was
 abbrev pub sameRead : World → Call → Type 0

@@ -62,3 +62,10 @@ FirstAnswer = (w : World) (q : Call) → kind w q ≡ asks → (xs : List Call) 
     → askedTimes (step w q .next) xs < 2 ^ 32
     → (success : ℕ) (d : List ℕ) → kind (run (step w q .next) xs) (answer (serialOf (step w q .next)) success d) ≡ tells
     → without isTell (step w q .next) xs ≡ true
+
+pub record Serials : Type 0 where
+  pub given : SerialGiven
+  pub forHeld : AnswerForHeld
+  pub late : LateAnswer
+  pub dropped : DroppedAnswer
+  pub first : FirstAnswer

@@ -21,7 +21,7 @@ use Rattle.rules.specs.Step.{World, Call, Outcome, step, run, settled, s
 use Rattle.rules.specs.Step.{start, espiReset, platformReset, exchange, look, takeWrite, setWire, readWire, lend}
 use Rattle.rules.specs.Kinds.{Kind, idle, asks, tells, gets, ends, lends, kind, kindOf, isStart, isAsk, isEnd, isTell, without, held}
 use Rattle.rules.specs.View.{Move, same, asked, told, sent, lent, dropped, view, view-as}
-use Rattle.rules.specs.Serials.{serialOf, SerialGiven, ForHeld, AnswerForHeld, askedTimes, noStart, LateAnswer, DroppedAnswer, FirstAnswer}
+use Rattle.rules.specs.Serials.{serialOf, SerialGiven, ForHeld, AnswerForHeld, askedTimes, noStart, LateAnswer, DroppedAnswer, FirstAnswer, Serials}
 use Rattle.rules.specs.declared.Plan.{Plan}
 use Rattle.rules.specs.Demand3Owed.{clash, free-run}
 
@@ -223,3 +223,6 @@ first-answer w q k xs u few success d t =
     let e = serials xs (step w q .next) below (unended-unstarted xs (step w q .next) u) in
     let none : askedTimes (step w q .next) xs ≡ 0 = omega (arith, f .named) in
     untold xs (step w q .next) (none-asked xs (step w q .next) none) (ap waiting (f .waits))
+
+pub serials-told : Serials
+serials-told = record { given = serial-given; forHeld = answer-for-held; late = late-answer; dropped = dropped-answer; first = first-answer }

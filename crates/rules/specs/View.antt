@@ -1,15 +1,17 @@
 -- All that a call can do to the held request, the serial and the read store, and what its reply shows of them: one sweep over `step`.
 -- The theorems over runs go by cases on it and look at no command again.
-use Prim.Native.Nat.{ℕ, _/_, _%_, _^_, _≤_}
+use Prim.Native.Nat.{ℕ, _+_, _-_, _*_, _/_, _%_, _^_, _<_, _≤_}
 use mathlib.Core.Bool.{Bool, true, false, _&&_, _||_, not, true≢false}
-use mathlib.Core.List.{List, [], _∷_, _++_}
-use mathlib.Core.Path.{_≡_, refl, sym, ap, subst}
+use mathlib.Core.List.{List, [], _∷_, _++_, append-assoc}
+use mathlib.Core.Path.{_≡_, refl, sym, ap, _∙_, subst}
 use native.Mathlib.Omega.{arith}
 use lib.Dec.{eqb, ltb}
-use lib.ListN.{length, getD}
+use lib.ListN.{length, getD, length-append}
+use lib.Seq.{getD-append-add}
 use borrow.Author.Tests.{eqb-true, not-false}
 use Rattle.base.specs.Pick.{pick, pick-ind}
-use Rattle.base.specs.Bytes.{over}
+use Rattle.base.specs.Bytes.{over, low2}
+use Rattle.crc.specs.Crc.{crc}
 use Rattle.registers.specs.Registers.{on0, crcChecked, operatingCount, payloadSize, forbiddenAt, writeAt}
 use Rattle.registers.specs.Laws.{on0-written}
 use Rattle.registers.specs.declared.Config.{Config}
@@ -44,7 +46,7 @@ use Rattle.rules.specs.Board.{bytesFor}
 use Rattle.rules.specs.Reply.{closed, replyBytes, headerBytes, dataBytes, keptBytes}
 use Rattle.rules.specs.Step.{World, Call, Outcome, step, exchanged, settled, shortStores, succeeded, readLength, writeLength, lookLength, takeLength}
 use Rattle.rules.specs.Step.{start, espiReset, platformReset, exchange, look, answer, takeWrite, setWire, readWire, lend}
-use Rattle.rules.specs.Kinds.{Kind, idle, asks, tells, gets, ends, lends, opcode, accessKind, commandKind, kindOf, kind, isStart, askOf, askIn, requestFor, held, shows}
+use Rattle.rules.specs.Kinds.{Kind, idle, asks, tells, gets, ends, lends, opcode, accessKind, commandKind, kindOf, kind, isStart, askOf, askIn, requestFor, held, statusIn, shows}
 use Rattle.rules.specs.declared.Answer.{Answer}
 use Rattle.rules.specs.declared.Answer.the-variants.{Silent, Said}
 use Rattle.rules.specs.declared.Body.{Body}
@@ -53,9 +55,9 @@ use Rattle.rules.specs.declared.Response.{Response}
 
 -- ---- the status of a held request: bit 1, NP_FREE, and bit 4, PC_AVAIL
 
-pub record Shown (n : Np) (a : Answer) : Type 0 where
-  pub np : shows 1 (bit (npFree n)) a
-  pub pc : shows 4 (bit (pcAvail n)) a
+pub record Shown (n : Np) (reply : List ℕ) : Type 0 where
+  pub np : shows 1 (bit (npFree n)) reply
+  pub pc : shows 4 (bit (pcAvail n)) reply
 
 pub bit-below : (b : Bool) → bit b ≤ 1
 bit-below true = omega arith
@@ -75,30 +77,48 @@ status-pc s =
 
 pub data Move (w : World) (c : Call) (o : Outcome) : Kind → Type 0 where
   same : held (o .next) ≡ held w → o .next .state .peripheral .serial ≡ w .state .peripheral .serial → o .next .read ≡ w .read
-      → Shown (held w) (o .answer) → Move w c o idle
+      → Shown (held w) (o .reply) → Move w c o idle
   asked : (b r : List ℕ) → c ≡ exchange b r → held w ≡ Free → held (o .next) ≡ Waiting (requestFor (w .state) (askIn b))
       → o .next .state .peripheral .serial ≡ nextSerial (w .state .peripheral .serial) → o .next .read ≡ w .read
-      → o .reply ≡ closed (0x01 ∷ []) (status (o .next .state)) → Shown (held (o .next)) (o .answer) → Move w c o asks
+      → o .reply ≡ closed (0x01 ∷ []) (status (o .next .state)) → Shown (held (o .next)) (o .reply) → Move w c o asks
   told : (q : Request) (serial success : ℕ) (d : List ℕ) → c ≡ answer serial success d → held w ≡ Waiting q → serial ≡ w .state .peripheral .serial
       → length d ≡ bytesFor q (succeeded success) → held (o .next) ≡ B.answered (w .state) q (succeeded success) .next .peripheral .request
       → o .next .state .peripheral .serial ≡ w .state .peripheral .serial → o .next .read ≡ over (keptBytes (B.answered (w .state) q (succeeded success) .kept) d) (w .read)
-      → o .answer ≡ Silent → Move w c o tells
+      → o .reply ≡ [] → Move w c o tells
   sent : (k : Completion) (ks : List Completion) → upward (held w) ≡ k ∷ ks → held (o .next) ≡ handed (held w)
       → o .next .state .peripheral .serial ≡ w .state .peripheral .serial → o .next .read ≡ w .read
       → o .reply ≡ closed (0x08 ∷ headerBytes k ++ dataBytes k (w .read)) (status (o .next .state))
-      → Shown (handed (held w)) (o .answer) → Move w c o gets
+      → Shown (handed (held w)) (o .reply) → Move w c o gets
   lent : (write read : List ℕ) → c ≡ lend write read → held (o .next) ≡ held w
       → o .next .state .peripheral .serial ≡ w .state .peripheral .serial → o .next .read ≡ read
-      → o .answer ≡ Silent → Move w c o lends
+      → o .reply ≡ [] → Move w c o lends
   dropped : held (o .next) ≡ Free → o .next .state .peripheral .serial ≡ pick (isStart c) 0 (w .state .peripheral .serial) → o .next .read ≡ w .read
-      → Shown (held w) (o .answer) → Move w c o ends
+      → Shown (held w) (o .reply) → Move w c o ends
 
-quiet : {n : Np} → Shown n Silent
-quiet = record { np = tt; pc = tt }
+quiet : {n : Np} → Shown n []
+quiet = record { np = λ h. absurd (omega arith); pc = λ h. absurd (omega arith) }
+
+-- the status stands before the CRC byte
+status-at : (m : List ℕ) (a b x : ℕ) → statusIn (m ++ (a ∷ b ∷ x ∷ [])) ≡ a + b * 256
+status-at m a b x =
+    let t = a ∷ b ∷ x ∷ [] in
+    let n = length-append m t in
+    let low : length (m ++ t) - 3 ≡ length m + 0 = omega arith in
+    let high : length (m ++ t) - 2 ≡ length m + 1 = omega arith in
+    rw (low, high, getD-append-add m t 0 0, getD-append-add m t 1 0)
+
+status-in : (m : List ℕ) (st : ℕ) → st < 256 → statusIn (closed m st) ≡ st
+unfolding closed
+status-in m st h = rw (append-assoc m (low2 st) (crc (m ++ low2 st) ∷ [])) (status-at m (st % 256) (st / 256 % 256) (crc (m ++ low2 st)) ∙ omega arith)
+
+status-below : (s : State) → status s < 256
+unfolding status
+status-below s =
+    omega (arith, bit-below (pcFree (s .peripheral .write)), bit-below (npFree (s .peripheral .request)), bit-below (pcAvail (s .peripheral .request)), bit-below (anyPending (s .wires)))
 
 -- a reply that shows the status of a state
-shown : (s : State) (x : Response) (y : Body) → Shown (s .peripheral .request) (Said x y (status s))
-shown s x y = record { np = status-np s; pc = status-pc s }
+shown : (s : State) (m : List ℕ) → Shown (s .peripheral .request) (closed m (status s))
+shown s m = record { np = λ _. rw (status-in m (status s) (status-below s)) (status-np s); pc = λ _. rw (status-in m (status s) (status-below s)) (status-pc s) }
 
 is-free : (n : Np) → npFree n ≡ true → n ≡ Free
 is-free Free e = refl
@@ -126,55 +146,55 @@ module _ (w : World) (b r : List ℕ) where
   Seen k p = Move w (exchange b r) (exchanged w b p) (pick (eqb (p .number) 0) k idle)
 
   refused-seen : (k : Kind) → Seen k (fatal (w .state))
-  unfolding exchanged
-  refused-seen k = same refl refl refl (shown (w .state) _ _)
+  unfolding exchanged replyBytes
+  refused-seen k = same refl refl refl (shown (w .state) _)
 
   post-seen : (address length from : ℕ) → Seen idle (D.post (w .state) address length from)
-  unfolding exchanged D.post
+  unfolding exchanged replyBytes D.post
   post-seen address length from =
       pick-ind (Seen idle) (not (pcFree (w .state .peripheral .write))) (λ _. refused-seen idle)
-      (λ _. pick-ind (Seen idle) (not (within address length (payloadSize (w .state .config .r010)))) (λ _. refused-seen idle) (λ _. same refl refl refl (shown _ _ _)))
+      (λ _. pick-ind (Seen idle) (not (within address length (payloadSize (w .state .config .r010)))) (λ _. refused-seen idle) (λ _. same refl refl refl (shown _ _)))
 
   ask-seen : (q : Request) → q ≡ requestFor (w .state) (askIn b) → Seen asks (D.ask (w .state) q)
-  unfolding exchanged D.ask replyBytes
+  unfolding exchanged replyBytes D.ask
   ask-seen q e =
       pick-ind (Seen asks) (not (npFree (held w))) (λ _. refused-seen asks)
       (λ f. pick-ind (Seen asks) (not (within (q .address) (q .length) (sizeFor (q .kind) q))) (λ _. refused-seen asks)
-      (λ _. asked b r refl (is-free (held w) (not-false _ f)) (ap Waiting e) refl refl refl (shown _ _ _)))
+      (λ _. asked b r refl (is-free (held w) (not-false _ f)) (ap Waiting e) refl refl refl (shown _ _)))
 
   get-seen : (ks : List Completion) → upward (held w) ≡ ks → Seen gets (D.handing (w .state) ks)
   unfolding exchanged replyBytes
   get-seen [] e = refused-seen gets
-  get-seen (k ∷ ks) e = sent k ks e refl refl refl refl (shown _ _ _)
+  get-seen (k ∷ ks) e = sent k ks e refl refl refl refl (shown _ _)
 
   put-seen : (n : ℕ) → Seen idle (D.putVwire (w .state) n b)
-  unfolding exchanged D.putVwire
+  unfolding exchanged replyBytes D.putVwire
   put-seen n =
-      pick-ind (Seen idle) (ltb (operatingCount (w .state .config .r020)) n) (λ _. refused-seen idle) (λ _. same refl refl refl (shown _ _ _))
+      pick-ind (Seen idle) (ltb (operatingCount (w .state .config .r020)) n) (λ _. refused-seen idle) (λ _. same refl refl refl (shown _ _))
 
   send-seen : (ks : List ℕ) → Seen idle (D.sending (w .state) ks)
-  unfolding exchanged
+  unfolding exchanged replyBytes
   send-seen [] = refused-seen idle
-  send-seen (k ∷ ks) = same refl refl refl (shown _ _ _)
+  send-seen (k ∷ ks) = same refl refl refl (shown _ _)
 
   -- "A write takes effect after its own reply, whose .. status" is the old one
   edge-seen : (c : Config) (t : Bool) → on0 (w .state .config .r010) && not (on0 (c .r010)) ≡ t
       → Move w (exchange b r) (exchanged w b (acceptThen (w .state) (D.reconfigured (w .state) c))) (pick t ends idle)
-  unfolding exchanged
-  edge-seen c true e = dropped (ap (λ (p : Peripheral). p .request) (by e)) (ap (λ (p : Peripheral). p .serial) (by e)) refl (shown _ _ _)
+  unfolding exchanged replyBytes
+  edge-seen c true e = dropped (ap (λ (p : Peripheral). p .request) (by e)) (ap (λ (p : Peripheral). p .serial) (by e)) refl (shown _ _)
     where
       by : on0 (w .state .config .r010) && not (on0 (c .r010)) ≡ true → D.reconfigured (w .state) c .peripheral ≡ Fresh.dropped (w .state .peripheral)
       by e = rw e
-  edge-seen c false e = same (ap (λ (p : Peripheral). p .request) (by e)) (ap (λ (p : Peripheral). p .serial) (by e)) refl (shown _ _ _)
+  edge-seen c false e = same (ap (λ (p : Peripheral). p .request) (by e)) (ap (λ (p : Peripheral). p .serial) (by e)) refl (shown _ _)
     where
       by : on0 (w .state .config .r010) && not (on0 (c .r010)) ≡ false → D.reconfigured (w .state) c .peripheral ≡ w .state .peripheral
       by e = rw e
 
   set-seen : (a v : ℕ) → Seen (pick (eqb a 0x010 && (on0 (w .state .config .r010) && not (eqb (v % 2) 1))) ends idle) (D.setConfiguration (w .state) a v)
-  unfolding exchanged D.setConfiguration
+  unfolding exchanged replyBytes D.setConfiguration
   set-seen a v =
       pick-ind (Seen (pick (eqb a 0x010 && (on0 (w .state .config .r010) && not (eqb (v % 2) 1))) ends idle)) (forbiddenAt a v)
-      (λ _. same refl refl refl (shown _ _ _))
+      (λ _. same refl refl refl (shown _ _))
       (λ _. edge-seen (writeAt (w .state .config) a v) _ (edge-of (w .state .config) a v))
 
   short-seen : (a : Access) (n : ℕ) → opcode b ≡ O.Short a n → Seen (accessKind a) (D.decide (w .state) (commandOf (O.Short a n) b) b)
@@ -185,15 +205,15 @@ module _ (w : World) (b r : List ℕ) where
   short-seen MemoryWrite n e = post-seen _ _ _
 
   decide-seen : (op : Opcode) → opcode b ≡ op → Seen (commandKind (w .state) b op) (D.decide (w .state) (commandOf op b) b)
-  unfolding exchanged D.decide D.getPc D.getVwire
+  unfolding exchanged replyBytes D.decide D.getPc D.getVwire
   decide-seen O.PutPc e = post-seen _ _ _
   decide-seen O.GetPc e = get-seen (upward (held w)) refl
   decide-seen O.PutNp e = ask-seen _ (ap (λ (op : Opcode). requestFor (w .state) (askOf op b)) (sym e))
   decide-seen O.PutVwire e = put-seen _
   decide-seen O.GetVwire e = send-seen (W.sent (w .state .wires) (operatingCount (w .state .config .r020)))
-  decide-seen O.GetConfiguration e = same refl refl refl (shown _ _ _)
+  decide-seen O.GetConfiguration e = same refl refl refl (shown _ _)
   decide-seen O.SetConfiguration e = set-seen (registerAddress b) (registerData b)
-  decide-seen O.GetStatus e = same refl refl refl (shown _ _ _)
+  decide-seen O.GetStatus e = same refl refl refl (shown _ _)
   decide-seen O.Reset e = same refl refl refl quiet
   decide-seen (O.Short a n) e = short-seen a n e
   decide-seen O.Unknown e = same refl refl refl quiet
@@ -203,7 +223,7 @@ module _ (w : World) (b r : List ℕ) where
   Through d = Seen (commandKind (w .state) b (opcode b)) (byDecoded (w .state) b (checkedBy (crcChecked (w .state .config .r008)) b d))
 
   known-seen : (op : Opcode) → opcode b ≡ op → Through (Known (commandOf op b))
-  unfolding exchanged
+  unfolding exchanged replyBytes
   known-seen op e =
       pick-ind (λ (d : Decoded). Seen (commandKind (w .state) b (opcode b)) (byDecoded (w .state) b d))
       (crcChecked (w .state .config .r008) && (hasCrc (commandOf op b) && not (crcGood b)))
@@ -211,7 +231,7 @@ module _ (w : World) (b r : List ℕ) where
       (λ _. rw e (decide-seen op e))
 
   decode-seen : (op : Opcode) → opcode b ≡ op → Through (decodeAs (channelsOf (w .state .config)) b op)
-  unfolding exchanged
+  unfolding exchanged replyBytes
   decode-seen op e =
       pick-ind Through (not (opcodeKnown op b)) (λ _. same refl refl refl quiet)
       (λ _. pick-ind Through (not (channelOn (channelsOf (w .state .config)) op)) (λ _. same refl refl refl quiet)
@@ -221,7 +241,7 @@ module _ (w : World) (b r : List ℕ) where
       (λ _. known-seen op e)))))
 
   exchange-seen : Seen (commandKind (w .state) b (opcode b)) (D.exchange (w .state) b)
-  unfolding D.exchange admit decode exchanged opcode
+  unfolding D.exchange admit decode exchanged replyBytes opcode
   exchange-seen = pick-ind Through (eqb (length b) 0) (λ _. same refl refl refl quiet) (λ _. decode-seen (opcode b) refl)
 
 -- ---- the board's calls
@@ -261,7 +281,7 @@ either true m = m
 either false m = m
 
 pub view : (w : World) (c : Call) → Move w c (step w c) (kind w c)
-unfolding step kindOf exchanged settled over B.setWireCall B.takeWrite B.answer
+unfolding step kindOf exchanged replyBytes settled over B.setWireCall B.takeWrite B.answer
 view w start = dropped refl refl refl quiet
 view w espiReset = dropped refl refl refl quiet
 view w platformReset = dropped refl refl refl quiet
