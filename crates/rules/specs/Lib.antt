@@ -12,6 +12,13 @@ pub mod WireRuns
 pub mod Bound
 pub mod BoundProof
 pub mod WireRunsProof
+pub mod Kinds
+pub mod View
+pub mod Demand3
+pub mod Demand3End
+pub mod Demand3Owed
+pub mod Demand3Read
+pub mod Demand3Proof
 pub mod Kept
 pub mod KeptBytes
 pub mod KeptParts
@@ -22,3 +29,5 @@ pub mod KeptFits
 pub mod KeptClauses
 pub mod KeptRegisters
 pub mod SoundMeans
+pub mod Serials
+pub mod SerialsProof
