@@ -4,3 +4,9 @@ pub mod Board
 pub mod Reply
 pub mod Step
 pub mod Calls
+pub mod Fields
+pub mod FieldsProof
+pub mod Admitted
+pub mod Refusals
+pub mod RefusalsProof
+pub mod RefusalsCallsProof
