@@ -1,6 +1,6 @@
 -- Marks over any cutting of a whole into positive lengths: the bytes gone before say the same as the place in the cutting.
-use Prim.Native.Nat.{ℕ, zero, suc, _+_, _<_}
-use mathlib.Core.Bool.{true, false}
+use Prim.Native.Nat.{ℕ, _+_, _<_}
+use mathlib.Core.Bool.{false}
 use mathlib.Core.List.{List, [], _∷_, _++_}
 use mathlib.Core.Path.{_≡_, refl}
 use native.Mathlib.Omega.{arith}
@@ -8,7 +8,6 @@ use lib.Dec.{eqb}
 use lib.ListN.{length, replicate}
 use borrow.Author.Tests.{eq-eqb, ne-eqb}
 use Rattle.pieces.specs.Marks.{markOf, marksFrom, marks, marksBy}
-use Rattle.pieces.specs.declared.Mark.{Mark}
 use Rattle.pieces.specs.declared.Mark.the-variants.{Only, First, Middle, Last}
 
 abbrev pub sum : List ℕ → ℕ

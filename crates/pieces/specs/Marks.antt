@@ -1,5 +1,5 @@
 -- Marks of completions (01, Requests, answers, pieces): only, first, middle, last, over any cutting of a whole into positive lengths.
-use Prim.Native.Nat.{ℕ, zero, suc, _+_}
+use Prim.Native.Nat.{ℕ, _+_}
 use mathlib.Core.Bool.{Bool, true, false}
 use mathlib.Core.List.{List, [], _∷_}
 use lib.Dec.{eqb}

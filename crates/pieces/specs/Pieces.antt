@@ -1,6 +1,5 @@
 -- A read of L bytes at A, cut at blocks of P bytes (01, Requests, answers, pieces; demand 3).
 use Prim.Native.Nat.{ℕ, zero, suc, _+_, _-_, _*_, _/_, _%_, min}
-use mathlib.Core.Bool.{Bool, true, false}
 use mathlib.Core.List.{List, [], _∷_, _++_}
 use lib.Dec.{eqb}
 use lib.ListN.{take, drop}

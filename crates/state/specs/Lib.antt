@@ -3,3 +3,7 @@ pub mod Upward
 pub mod Status
 pub mod Sound
 pub mod Layout
+pub mod Facts
+pub mod Round
+pub mod Bounds
+pub mod Packing

@@ -1,14 +1,13 @@
 -- Virtual wires (01, Wires): levels, pending marks and the going-round place, and what each command and board call makes of them.
-use Prim.Native.Nat.{ℕ, zero, suc, _+_, _-_, _*_, _/_, _%_, _^_}
-use mathlib.Core.Bool.{Bool, true, false, _&&_, _||_, not}
-use mathlib.Core.List.{List, [], _∷_, map}
-use lib.ListN.{getD, set, length}
+use Prim.Native.Nat.{ℕ, _+_, _-_, _*_, _/_, _%_, _^_}
+use mathlib.Core.Bool.{Bool, false, _&&_, _||_, not}
+use mathlib.Core.List.{List, [], _∷_}
+use lib.ListN.{getD, set}
 use lib.Bits.{bitAnd, bitOr}
 use lib.Dec.{eqb, ltb, leb}
 use Rattle.base.specs.Pick.{pick}
 use Rattle.wires.specs.Table.{rowAt, isGroup, resets}
 use Rattle.wires.specs.Turn.{turn, placeAfter}
-use Rattle.wires.specs.declared.WireRow.{WireRow}
 use Rattle.wires.specs.declared.Wires.{Wires}
 use Rattle.wires.specs.declared.Group.{Group}
 use Rattle.wires.specs.declared.Packet.{Packet}

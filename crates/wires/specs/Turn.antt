@@ -1,7 +1,7 @@
 -- Going round: which senders a packet takes. Over any number of senders, each with a size, and any capacity (01, Wires: GET_VWIRE;
 -- there three senders, groups 4, 5 and 6, of size 1 each, and the operating count for the capacity).
-use Prim.Native.Nat.{ℕ, zero, suc, _+_, _-_}
-use mathlib.Core.Bool.{Bool, true, false}
+use Prim.Native.Nat.{ℕ, zero, suc, _-_}
+use mathlib.Core.Bool.{Bool}
 use mathlib.Core.List.{List, [], _∷_}
 use lib.Dec.{ltb, leb}
 use Rattle.base.specs.Pick.{pick}

@@ -1,10 +1,12 @@
 // Virtual wires: the table of six rows, and the six groups by value.
 ghost use mathlib.Core.Path.{_≡_};
-ghost use mathlib.Core.Bool.{Bool};
+ghost use mathlib.Core.Bool.{Bool, true, _&&_};
 ghost use Prim.Native.Nat.{ℕ, _+_, _-_, _*_, _≤_, _<_};
 ghost use lib.ListN.{length, take};
 ghost use Rattle.wires.specs.Table.{rowAt, isGroup};
-ghost use Rattle.wires.specs.Groups.{freshWires, withGroup, nibble, putPair, putPairs, definedBit, settable, setWire, readWire, sent, packetOf, afterSent, anyPending, enabled, disabled, platformWires, soundWires};
+ghost use lib.Bits.{bitAnd};
+ghost use lib.Dec.{eqb, ltb};
+ghost use Rattle.wires.specs.Groups.{freshWires, withGroup, levelAt, nibble, putPair, putPairs, definedBit, settable, setWire, readWire, sent, packetOf, afterSent, anyPending, differs, enabled, disabled, placed, resetGroup, platformWires, undefinedZero, marksRight, placeRight, soundWires};
 
 pub struct WireRow {
     pub index: u8,
@@ -14,12 +16,42 @@ pub struct WireRow {
 }
 
 pub const TABLE: [WireRow; 6] = [
-    WireRow { index: 2, down: true, defined: 0x7, reset: 0x0 },
-    WireRow { index: 3, down: true, defined: 0x7, reset: 0x0 },
-    WireRow { index: 4, down: false, defined: 0xD, reset: 0xC },
-    WireRow { index: 5, down: false, defined: 0xF, reset: 0x0 },
-    WireRow { index: 6, down: false, defined: 0xF, reset: 0x7 },
-    WireRow { index: 7, down: true, defined: 0x7, reset: 0x6 },
+    WireRow {
+        index: 2,
+        down: true,
+        defined: 0x7,
+        reset: 0x0,
+    },
+    WireRow {
+        index: 3,
+        down: true,
+        defined: 0x7,
+        reset: 0x0,
+    },
+    WireRow {
+        index: 4,
+        down: false,
+        defined: 0xD,
+        reset: 0xC,
+    },
+    WireRow {
+        index: 5,
+        down: false,
+        defined: 0xF,
+        reset: 0x0,
+    },
+    WireRow {
+        index: 6,
+        down: false,
+        defined: 0xF,
+        reset: 0x7,
+    },
+    WireRow {
+        index: 7,
+        down: true,
+        defined: 0x7,
+        reset: 0x6,
+    },
 ];
 
 // Index i stands at place i - 2 of both arrays; `place` is the index that the next GET_VWIRE begins with.
@@ -41,6 +73,48 @@ pub enum Packet {
     One(Group),
     Two(Group, Group),
     Three(Group, Group, Group),
+}
+
+// Four bits: those of `val` where the mask has ones, those of `old` elsewhere.
+fn nibble_of(old: u8, val: u8, mask: u8) -> u8
+    requires { ⌜ mask ≤ 15 ⌝ }
+    ensures { λ r. ⌜ r ≡ nibble old val mask ⌝ }
+{
+    (old & (15 - mask)) | (val & mask)
+}
+
+// "undefined wire bits are 0"
+fn only_defined(level: u8, defined: u8) -> bool
+    requires { ⌜ defined ≤ 15 ⌝ }
+    ensures { λ r. ⌜ r ≡ (eqb (bitAnd level (15 - defined)) 0 && ltb level 16) ⌝ }
+{
+    (level & (15 - defined) == 0) & (level < 16)
+}
+
+pub fn defined_bit(index: u32, bit: u32) -> bool
+    ensures { λ r. ⌜ r ≡ definedBit index bit ⌝ }
+{
+    if index < 2 {
+        return false;
+    }
+    if 7 < index {
+        return false;
+    }
+    if 4 <= bit {
+        return false;
+    }
+    let at = (index - 2) as usize;
+    (TABLE[at].defined >> bit) % 2 == 1
+}
+
+pub fn settable(index: u32, bit: u32, value: u32) -> bool
+    ensures { λ r. ⌜ r ≡ settable index bit value ⌝ }
+{
+    if !defined_bit(index, bit) {
+        return false;
+    }
+    let at = (index - 2) as usize;
+    !TABLE[at].down & (value <= 1)
 }
 
 impl Wires {
@@ -71,5 +145,146 @@ impl Wires {
         next.level[i] = level;
         next.pending[i] = mark;
         next
+    }
+
+    // Only valid and defined bits of a down group change.
+    fn put_pair(self, index: u8, byte: u8) -> Wires
+        ensures { λ r. ⌜ r ≡ putPair self index byte ⌝ }
+    {
+        if index < 2 {
+            return self;
+        }
+        if 7 < index {
+            return self;
+        }
+        let at = (index - 2) as usize;
+        if !TABLE[at].down {
+            return self;
+        }
+        let level = nibble_of(self.level[at], byte % 16, (byte / 16) & TABLE[at].defined);
+        self.with(index as usize, level, self.pending[at])
+    }
+
+    pub fn put(self, pairs: &[u8], n: usize) -> Wires
+        requires { ⌜ n * 2 ≤ length (now pairs) ⌝ }
+        ensures { λ r. ⌜ r ≡ putPairs self (take (n * 2) (now (pairs .entry))) ⌝ }
+    {
+        let mut next = self;
+        let mut i: usize = 0;
+        while i < n {
+            next = next.put_pair(pairs[i * 2], pairs[i * 2 + 1]);
+            i += 1;
+        }
+        next
+    }
+
+    pub fn set(self, on: bool, index: u32, bit: u32, value: u32) -> Wires
+        requires { ⌜ settable index bit value ≡ true ⌝ }
+        ensures { λ r. ⌜ r ≡ setWire on self index bit value ⌝ }
+    {
+        let at = (index - 2) as usize;
+        let old = self.level[at];
+        let level = nibble_of(old, (value as u8) << bit, 1 << bit);
+        self.with(
+            index as usize,
+            level,
+            self.pending[at] | (on & (level != old)),
+        )
+    }
+
+    pub fn read(self, index: u32, bit: u32) -> u32
+        requires { ⌜ definedBit index bit ≡ true ⌝ }
+        ensures { λ r. ⌜ r ≡ readWire self index bit ⌝ }
+    {
+        let at = (index - 2) as usize;
+        ((self.level[at] >> bit) % 2) as u32
+    }
+
+    pub fn any_pending(self) -> bool
+        ensures { λ r. ⌜ r ≡ anyPending self ⌝ }
+    {
+        self.pending[2] | (self.pending[3] | self.pending[4])
+    }
+
+    fn differs(self, index: usize) -> bool
+        requires { ⌜ (2 ≤ index) × (index ≤ 7) ⌝ }
+        ensures { λ r. ⌜ r ≡ differs self index ⌝ }
+    {
+        let at = index - 2;
+        self.level[at] != TABLE[at].reset
+    }
+
+    // "Enabling it from disabled makes each up group pending that differs from its reset value."
+    pub fn enabled(self) -> Wires
+        ensures { λ r. ⌜ r ≡ enabled self ⌝ }
+    {
+        self.with(4, self.level[2], self.differs(4))
+            .with(5, self.level[3], self.differs(5))
+            .with(6, self.level[4], self.differs(6))
+    }
+
+    pub fn disabled(self) -> Wires
+        ensures { λ r. ⌜ r ≡ disabled self ⌝ }
+    {
+        let level = self.level;
+        Wires {
+            level,
+            pending: [false; 6],
+            place: 4,
+        }
+    }
+
+    fn placed(self, place: u8) -> Wires
+        ensures { λ r. ⌜ r ≡ placed self place ⌝ }
+    {
+        let level = self.level;
+        let pending = self.pending;
+        Wires {
+            level,
+            pending,
+            place,
+        }
+    }
+
+    fn reset_group(self, index: usize) -> Wires
+        requires { ⌜ (2 ≤ index) × (index ≤ 7) ⌝ }
+        ensures { λ r. ⌜ r ≡ resetGroup self index ⌝ }
+    {
+        self.with(index, TABLE[index - 2].reset, false)
+    }
+
+    pub fn platform(self) -> Wires
+        ensures { λ r. ⌜ r ≡ platformWires self ⌝ }
+    {
+        self.reset_group(6).reset_group(7).placed(4)
+    }
+
+    fn undefined_zero(self) -> bool
+        ensures { λ r. ⌜ r ≡ undefinedZero self ⌝ }
+    {
+        only_defined(self.level[0], TABLE[0].defined)
+            & only_defined(self.level[1], TABLE[1].defined)
+            & only_defined(self.level[2], TABLE[2].defined)
+            & only_defined(self.level[3], TABLE[3].defined)
+            & only_defined(self.level[4], TABLE[4].defined)
+            & only_defined(self.level[5], TABLE[5].defined)
+    }
+
+    fn marks_right(self, on: bool) -> bool
+        ensures { λ r. ⌜ r ≡ marksRight on self ⌝ }
+    {
+        !(self.pending[0] | (self.pending[1] | self.pending[5])) & (on | !self.any_pending())
+    }
+
+    fn place_right(self) -> bool
+        ensures { λ r. ⌜ r ≡ placeRight self ⌝ }
+    {
+        (4 <= self.place) & (self.place <= 6)
+    }
+
+    pub fn sound(self, on: bool) -> bool
+        ensures { λ r. ⌜ r ≡ soundWires on self ⌝ }
+    {
+        self.undefined_zero() & self.marks_right(on) & self.place_right()
     }
 }

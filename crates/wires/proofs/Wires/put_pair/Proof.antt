@@ -1,0 +1,66 @@
+use Rattle.wires.specs.Rows.{row-right}
+use Rattle.wires.specs.Table.{rowAt}
+use lib.Bits.{and-le-r}
+use native.Mathlib.Omega.{arith}
+use Prim.Native.Nat.{_-_, _/_}
+use borrow.Author.Tests.{le-leb, lt-leb, not-true, not-false}
+use borrow.Author.Needs.{needs}
+use Rattle.wires.proofs.Wires.put_pair.Statement.{statement}
+use Rattle.wires.proofs.Wires.put_pair.Tie as tie
+
+returns : tie.Need-returns
+returns c = simp (lt-leb _ _ (c .if1 .taken))
+
+returns-2 : tie.Need-returns-2
+returns-2 c = simp (le-leb _ _ (c .before .if1 .left), lt-leb _ _ (c .if2 .taken))
+
+cast-at : tie.Need-cast-at
+cast-at c = search needs
+
+mul-if3 : tie.Need-mul-if3
+mul-if3 c = search needs
+
+element-copy-out-if3 : tie.Need-element-copy-out-if3
+element-copy-out-if3 c = search needs
+
+returns-3 : tie.Need-returns-3
+returns-3 c = simp (le-leb _ _ (c .before .before .if1 .left), le-leb _ _ (c .before .if2 .left), not-true (rowAt (c .before .before .before .args .index - 2) .down) (c .if3 .taken))
+
+element-copy-out-nibble-of : tie.Need-element-copy-out-nibble-of
+element-copy-out-nibble-of c = search needs
+
+mul-nibble-of : tie.Need-mul-nibble-of
+mul-nibble-of c = search needs
+
+element-copy-out-nibble-of-2 : tie.Need-element-copy-out-nibble-of-2
+element-copy-out-nibble-of-2 c = search needs
+
+nibble-of-requires : tie.Need-nibble-of-requires
+nibble-of-requires c κs = let i = c .before .before .before .before .args .index in omega (arith, and-le-r (c .before .before .before .before .args .byte / 16) (rowAt (i - 2) .defined), row-right (i - 2) (omega arith) .defined-small)
+
+element-copy-out-with : tie.Need-element-copy-out-with
+element-copy-out-with c = search needs
+
+with-requires : tie.Need-with-requires
+with-requires c κs = search needs
+
+returns-4 : tie.Need-returns-4
+returns-4 c = simp (le-leb _ _ (c .before .before .before .before .before .before .if1 .left), le-leb _ _ (c .before .before .before .before .before .if2 .left), not-false (rowAt (c .before .before .before .before .before .before .before .args .index - 2) .down) (c .before .before .before .before .if3 .left), c .with .ensures, c .before .before .nibble-of .ensures)
+
+pub put-pair-spec : {M : Type 1} → statement M
+put-pair-spec =
+    tie.close
+    (tie.spec
+    returns
+    returns-2
+    cast-at
+    mul-if3
+    element-copy-out-if3
+    returns-3
+    element-copy-out-nibble-of
+    mul-nibble-of
+    element-copy-out-nibble-of-2
+    nibble-of-requires
+    element-copy-out-with
+    with-requires
+    returns-4)

@@ -1,0 +1,40 @@
+use Rattle.wires.specs.Rows.{defined-bit, stops, goes-on}
+use native.Mathlib.Omega.{arith}
+use mathlib.Core.Path.{sym, _∙_}
+use borrow.Author.Tests.{not-true, not-false}
+use borrow.Author.Needs.{needs}
+use Rattle.wires.proofs.settable.Statement.{statement}
+use Rattle.wires.proofs.settable.Tie as tie
+
+defined-bit-requires : tie.Need-defined-bit-requires
+defined-bit-requires c κs = search needs
+
+returns : tie.Need-returns
+returns c = stops _ (sym (c .before .defined-bit .ensures) ∙ not-true (c .before .defined-bit .result) (c .if1 .taken))
+
+sub-at : tie.Need-sub-at
+sub-at c = defined-bit (c .before .before .args .index) (c .before .before .args .bit) (sym (c .before .defined-bit .ensures) ∙ not-false (c .before .defined-bit .result) (c .if1 .left)) .from
+
+cast-at : tie.Need-cast-at
+cast-at c = search needs
+
+mul-result : tie.Need-mul-result
+mul-result c = search needs
+
+element-copy-out-result : tie.Need-element-copy-out-result
+element-copy-out-result c = let d = defined-bit (c .before .before .args .index) (c .before .before .args .bit) (sym (c .before .defined-bit .ensures) ∙ not-false (c .before .defined-bit .result) (c .if1 .left)) in omega (arith, d .upto)
+
+returns-2 : tie.Need-returns-2
+returns-2 c = goes-on _ (sym (c .before .defined-bit .ensures) ∙ not-false (c .before .defined-bit .result) (c .if1 .left))
+
+pub settable-spec : {M : Type 1} → statement M
+settable-spec =
+    tie.close
+    (tie.spec
+    defined-bit-requires
+    returns
+    sub-at
+    cast-at
+    mul-result
+    element-copy-out-result
+    returns-2)
