@@ -13,7 +13,7 @@ use Rattle.command.specs.declared.Opcode.{Opcode}
 use Rattle.command.specs.declared.Opcode.the-variants as O
 use Rattle.rules.specs.Fields.{isListed}
 
-one : (Q : ℕ → Type 0) (op k : ℕ) → Q k → (eqb op k ≡ false → Q op) → Q op
+pub one : (Q : ℕ → Type 0) (op k : ℕ) → Q k → (eqb op k ≡ false → Q op) → Q op
 one Q op k q else = go (eqb op k) refl
   where
     go : (t : Bool) → eqb op k ≡ t → Q op

@@ -10,3 +10,6 @@ pub mod Admitted
 pub mod Refusals
 pub mod RefusalsProof
 pub mod RefusalsCallsProof
+pub mod FirstApplies
+pub mod FirstAppliesProof
+pub mod FirstAppliesCallsProof

@@ -1,20 +1,19 @@
 -- P5 proved of the nine calls over lent bytes.
 use Prim.Native.Nat.{ℕ, zero, suc, _/_, _≤_, zero-le}
 use mathlib.Core.Bool.{Bool, true, false, not}
-use mathlib.Core.List.{List, _++_}
+use mathlib.Core.List.{List}
 use mathlib.Core.Logic.{_≢_}
 use mathlib.Core.Path.{_≡_, refl, sym, ap, _∙_, subst}
-use native.Mathlib.Nat.{le-refl, le-of-eq, add-zero}
+use native.Mathlib.Nat.{le-refl, add-zero}
 use native.Mathlib.Omega.{arith}
 use lib.Dec.{ltb}
 use lib.ListN.{length, drop}
-use lib.Seq.{take-all}
 use borrow.Author.Tests.{not-false, ltb-true, ltb-false}
-use Rattle.base.specs.Pick.{pick, pick-ind, and-right}
-use Rattle.base.specs.Bytes.{over, over-none, over-take, drop-over, low4, agree, agree-take}
+use Rattle.base.specs.Pick.{pick, pick-ind}
+use Rattle.base.specs.Bytes.{over, over-none, drop-over}
 use Rattle.wires.specs.Groups.{definedBit, readWire as readWireOf}
-use Rattle.state.specs.Sound.{sound}
-use Rattle.state.specs.Layout.{stateLength, configBytes, writeBytes, npBytes, wiresBytes, packed, unpacked, holds}
+use Rattle.state.specs.Packing.{packed-length, stored-same}
+use Rattle.state.specs.Layout.{stateLength, packed, unpacked, holds}
 use Rattle.state.specs.declared.Np.{Np}
 use Rattle.state.specs.declared.Np.the-variants.{Free, Waiting, Ready, Failed}
 use Rattle.state.specs.declared.Write.{Write}
@@ -32,36 +31,10 @@ use Rattle.rules.specs.RefusalsProof.{PlanAs, SettledAs, exchange-planne
 
 -- ---- the nine calls
 
--- the bytes of a state that is not changed are not changed
-pub length-packed : (s : State) → length (packed s) ≡ stateLength
-unfolding packed
-length-packed s = by-parts (s .peripheral .write) (s .peripheral .request)
-  where
-    by-parts : (t : Write) (np : Np)
-        → length (configBytes (s .config) ++ (writeBytes t ++ (npBytes np ++ (low4 (s .peripheral .serial) ++ wiresBytes (s .wires))))) ≡ stateLength
-    by-parts Empty Free = refl
-    by-parts Empty (Waiting q) = refl
-    by-parts Empty (Ready q k) = refl
-    by-parts Empty (Failed q) = refl
-    by-parts (Held x) Free = refl
-    by-parts (Held x) (Waiting q) = refl
-    by-parts (Held x) (Ready q k) = refl
-    by-parts (Held x) (Failed q) = refl
-
-stored-same : (l : List ℕ) → stateLength ≤ length l → holds l ≡ true → over (packed (unpacked l)) l ≡ l
-unfolding holds
-stored-same l h e =
-    let p = packed (unpacked l) in
-    let n : length p ≡ stateLength = length-packed (unpacked l) in
-    ap (λ (x : List ℕ). over x l)
-    (sym (take-all stateLength p (le-of-eq n))
-    ∙ agree-take stateLength p l (le-of-eq (sym n)) h (and-right (sound (unpacked l)) (agree stateLength p l) e))
-    ∙ over-take l stateLength h
-
-number-small : (n : ℕ) → ltb n 256 ≡ true → numberOf n ≡ n
+pub number-small : (n : ℕ) → ltb n 256 ≡ true → numberOf n ≡ n
 number-small n h = omega (arith, ltb-true n 256 h)
 
-number-word : (n v : ℕ) → ltb n 256 ≡ true → numberOf (word n v) ≡ n
+pub number-word : (n v : ℕ) → ltb n 256 ≡ true → numberOf (word n v) ≡ n
 number-word n v h = omega (arith, ltb-true n 256 h)
 
 module _ (st : List ℕ) (long : ltb (length st) stateLength ≡ false) (ok : not (holds st) ≡ false) where
@@ -216,9 +189,9 @@ calls-refuse =
 -- ---- the bytes past what a call writes
 
 past-state : (s : State) (st : List ℕ) → drop stateLength (kept s st) ≡ drop stateLength st
-past-state s st = drop-over (packed s) st stateLength (length-packed s)
+past-state s st = drop-over (packed s) st stateLength (packed-length s)
 
-planned-small : (n : ℕ) (s : State) (p : Plan) → PlanAs n s p → ltb n 256 ≡ true
+pub planned-small : (n : ℕ) (s : State) (p : Plan) → PlanAs n s p → ltb n 256 ≡ true
 planned-small zero s p h = refl
 planned-small (suc zero) s p h = refl
 planned-small (suc (suc zero)) s p h = refl
