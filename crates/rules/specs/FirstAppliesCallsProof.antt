@@ -35,11 +35,11 @@ use Rattle.rules.specs.FirstAppliesProof.{read-off, command-number}
 
 -- ---- 0 exactly where no row applies
 
-abbrev numbered : List Row → Bool
+abbrev pub numbered : List Row → Bool
 numbered [] = true
 numbered (r ∷ rs) = not (eqb (r .number) 0) && numbered rs
 
-none-first : (rows : List Row) → numbered rows ≡ true → (firstOf rows ≡ 0) ↔ (noneApplies rows ≡ true)
+pub none-first : (rows : List Row) → numbered rows ≡ true → (firstOf rows ≡ 0) ↔ (noneApplies rows ≡ true)
 none-first [] h = (λ _. refl, λ _. refl)
 none-first (r ∷ rs) h = go (none-first rs (and-right (not (eqb (r .number) 0)) (numbered rs) h)) (r .applies)
   where

@@ -13,3 +13,7 @@ pub mod RefusalsCallsProof
 pub mod FirstApplies
 pub mod FirstAppliesProof
 pub mod FirstAppliesCallsProof
+pub mod Shape
+pub mod ShapeProof
+pub mod StatusSays
+pub mod StatusSaysProof
