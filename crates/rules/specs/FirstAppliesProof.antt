@@ -222,16 +222,16 @@ forbidden-as a v =
 
 -- ---- addresses and values
 
-address2-as : (b : List ℕ) (k : ℕ) → address2 b k ≡ highFirst 2 k b
+pub address2-as : (b : List ℕ) (k : ℕ) → address2 b k ≡ highFirst 2 k b
 address2-as b k = simp add-zero (omega arith)
 
-address4-as : (b : List ℕ) (k : ℕ) → address4 b k ≡ highFirst 4 k b
+pub address4-as : (b : List ℕ) (k : ℕ) → address4 b k ≡ highFirst 4 k b
 address4-as b k = simp add-zero (omega arith)
 
 address8-as : (b : List ℕ) → address8 b 4 ≡ highFirst 8 4 b
 address8-as b = omega arith
 
-data-as : (b : List ℕ) → registerData b ≡ lowFirst 4 3 b
+pub data-as : (b : List ℕ) → registerData b ≡ lowFirst 4 3 b
 data-as b = omega arith
 
 all-FF : (b : List ℕ) → allFF b ≡ onlyFF b
@@ -244,20 +244,20 @@ some-length n = pick-ind (λ (k : ℕ). 1 ≤ k) (eqb n 0) (λ _. omega arith) (
 
 -- ---- cycle types
 
-one-of : (Q : ℕ → Type 0) (t a b : ℕ) → Q a → Q b → (eqb t a || eqb t b) ≡ true → Q t
+pub one-of : (Q : ℕ → Type 0) (t a b : ℕ) → Q a → Q b → (eqb t a || eqb t b) ≡ true → Q t
 one-of Q t a b qa qb h = one Q t a qa λ ea. one Q t b qb λ eb. absurd (true≢false (sym h ∙ rw (ea, eb)))
 
-abbrev Wide : ℕ → Type 0
+abbrev pub Wide : ℕ → Type 0
 Wide t = wideCycle t ≡ (eqb t 2 || eqb t 3)
 
-address-as : (b : List ℕ) (t : ℕ) → Wide t → pick (wideCycle t) (address8 b 4) (address4 b 4) ≡ highFirst (cycleWidth t) 4 b
+pub address-as : (b : List ℕ) (t : ℕ) → Wide t → pick (wideCycle t) (address8 b 4) (address4 b 4) ≡ highFirst (cycleWidth t) 4 b
 address-as b t e = ap (λ (u : Bool). pick u (address8 b 4) (address4 b 4)) e ∙ go (eqb t 2 || eqb t 3)
   where
     go : (u : Bool) → pick u (address8 b 4) (address4 b 4) ≡ highFirst (pick u 8 4) 4 b
     go true = address8-as b
     go false = address4-as b 4
 
-width-as : (t : ℕ) → Wide t → pick (wideCycle t) 8 4 ≡ cycleWidth t
+pub width-as : (t : ℕ) → Wide t → pick (wideCycle t) 8 4 ≡ cycleWidth t
 width-as t e = ap (λ (u : Bool). pick u 8 4) e
 
 -- a header of n bytes, then the whole

@@ -17,3 +17,5 @@ pub mod Shape
 pub mod ShapeProof
 pub mod StatusSays
 pub mod StatusSaysProof
+pub mod Effects
+pub mod EffectsProof

@@ -27,7 +27,7 @@ use Rattle.state.specs.declared.State.{State}
 use Rattle.rules.specs.Decide as D
 use Rattle.rules.specs.Step.{World, Call, exchange, step, exchanged, shortStores, refused, Outcome, replyLength, writeLength, readLength}
 use Rattle.rules.specs.Fields.{byte, isPosted, isNonPosted}
-use Rattle.rules.specs.FieldsProof.{one}
+use Rattle.rules.specs.FieldsProof.{by-posted, by-asked}
 use Rattle.rules.specs.FirstApplies.{Row, firstOf, noneApplies, formRows, creditRows, sizeRows, valueRows, commandRows, enabled0, enabled1, writeHeld, requestHeld, completionReady, groupPending, fitsSize}
 use Rattle.rules.specs.FirstAppliesProof.{command-number}
 use Rattle.rules.specs.FirstAppliesCallsProof.{none-first}
@@ -104,16 +104,6 @@ first-after (x ∷ xs) ys h =
 none-after : (xs ys : List Row) → noneApplies (xs ++ ys) ≡ true → noneApplies ys ≡ true
 none-after [] ys h = h
 none-after (x ∷ xs) ys h = none-after xs ys (and-right (not (x .applies)) (noneApplies (xs ++ ys)) h)
-
--- ---- the opcodes of a kind
-
-by-posted : (Q : ℕ → Type 0) → Q 0x00 → Q 0x4C → Q 0x4D → Q 0x4F → (op : ℕ) → isPosted op ≡ true → Q op
-by-posted Q a b c d op h = one Q op 0x00 a λ e0. one Q op 0x4C b λ e1. one Q op 0x4D c λ e2. one Q op 0x4F d λ e3. absurd (true≢false (sym h ∙ simp (e0, e1, e2, e3)))
-
-by-asked : (Q : ℕ → Type 0) → Q 0x02 → Q 0x40 → Q 0x41 → Q 0x43 → Q 0x44 → Q 0x45 → Q 0x47 → Q 0x48 → Q 0x49 → Q 0x4B → (op : ℕ) → isNonPosted op ≡ true → Q op
-by-asked Q a b c d e f g i j k op h =
-    one Q op 0x02 a λ e0. one Q op 0x40 b λ e1. one Q op 0x41 c λ e2. one Q op 0x43 d λ e3. one Q op 0x44 e λ e4. one Q op 0x45 f λ e5. one Q op 0x47 g λ e6.
-    one Q op 0x48 i λ e7. one Q op 0x49 j λ e8. one Q op 0x4B k λ e9. absurd (true≢false (sym h ∙ simp (e0, e1, e2, e3, e4, e5, e6, e7, e8, e9)))
 
 -- a command that needs its channel and something waiting
 avail : (bit n : ℕ) (on waits : Bool) → (on ≡ false → waits ≡ false) → bit ≡ bitFor waits → n ≡ pick (not on) 14 (pick (not waits) 1 0) → (bit ≡ 1) ↔ (n ≡ 0)
