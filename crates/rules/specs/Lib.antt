@@ -19,3 +19,5 @@ pub mod StatusSays
 pub mod StatusSaysProof
 pub mod Effects
 pub mod EffectsProof
+pub mod ConfigWrites
+pub mod ConfigWritesProof
