@@ -122,7 +122,7 @@ module _ (w : World) (v : ℕ) where
       λ e10. one (λ (y : ℕ). x ≢ y → valueAt (after y .state .config) x ≡ valueAt c x) a 0x020 (λ n. rw (ne-eqb x 0x020 n))
       λ e20 _. rw (e8, e10, e20)) ne
 
-  queues-at : (a : ℕ) → (eqb a 0x010 && (enabled0 c && not (valueEnables v))) ≡ false → after a .state .peripheral ≡ w .state .peripheral
+  pub queues-at : (a : ℕ) → (eqb a 0x010 && (enabled0 c && not (valueEnables v))) ≡ false → after a .state .peripheral ≡ w .state .peripheral
   queues-at a h =
       pick-ind (λ (u : World). u .state .peripheral ≡ w .state .peripheral) (eqb a 0x008) (λ _. refl)
       λ _. pick-ind (λ (u : World). u .state .peripheral ≡ w .state .peripheral) (eqb a 0x010)
@@ -149,7 +149,7 @@ module _ (w : World) (v : ℕ) where
       no-edge false true e = absurd (true≢false e)
       no-edge false false e = refl
 
-  stores-at : (a : ℕ) → (after a .write ≡ w .write) × (after a .read ≡ w .read)
+  pub stores-at : (a : ℕ) → (after a .write ≡ w .write) × (after a .read ≡ w .read)
   stores-at a =
       let Q : World → Type 0 = λ u. (u .write ≡ w .write) × (u .read ≡ w .read) in
       pick-ind Q (eqb a 0x008) (λ _. (refl, refl)) λ _. pick-ind Q (eqb a 0x010) (λ _. (refl, refl)) λ _. pick-ind Q (eqb a 0x020) (λ _. (refl, refl)) (λ _. (refl, refl))

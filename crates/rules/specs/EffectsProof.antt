@@ -209,14 +209,19 @@ module _ (w : World) (r : List ℕ) where
   t : ℕ
   t = getD r 0 0
 
+  put-pc-long : Admitted (w .state) (0x00 ∷ r) O.PutPc → dataFrom (0x00 ∷ r) + accessLength (0x00 ∷ r) ≤ length (0x00 ∷ r)
+  unfolding t
+  put-pc-long a =
+      let b : List ℕ = 0x00 ∷ r in
+      let n : length b ≡ 4 + pick (wideCycle t) 8 4 + accessLength b + 1 = right-length 4 b (4 + pick (wideCycle t) 8 4 + accessLength b + 1) (a .right) in
+      omega (arith, width-as t (one-of Wide t 1 3 refl refl (a .listed)))
+
   put-pc : atOpcode 0x00
   unfolding D.decide t
   put-pc = admitted 0x00 λ a.
       let b : List ℕ = 0x00 ∷ r in
       let wide : Wide t = one-of Wide t 1 3 refl refl (a .listed) in
-      let n : length b ≡ 4 + pick (wideCycle t) 8 4 + accessLength b + 1 = right-length 4 b (4 + pick (wideCycle t) 8 4 + accessLength b + 1) (a .right) in
-      post-becomes w b _ (accessLength b) _ (address-as b t wide) refl (place (wideCycle t) ∙ ap (λ (k : ℕ). 4 + k) (width-as t wide))
-      (omega (arith, width-as t wide))
+      post-becomes w b _ (accessLength b) _ (address-as b t wide) refl (place (wideCycle t) ∙ ap (λ (k : ℕ). 4 + k) (width-as t wide)) (put-pc-long a)
     where
       place : (u : Bool) → pick u 12 8 ≡ 4 + pick u 8 4
       place true = refl
@@ -263,6 +268,27 @@ exchange-becomes : (w : World) (b : List ℕ) → Becomes w b (afterCommand w b)
 unfolding D.exchange admit decode
 exchange-becomes w [] = λ e. absurd (omega arith)
 exchange-becomes w (op ∷ r) = at-opcode w r op
+
+-- an accepted posted write has all its data
+pub posted-long : (w : World) (b reply : List ℕ) → isPosted (byte b 0) ≡ true → step w (exchange b reply) .number ≡ 0 → length (writtenData b) ≡ accessLength b
+unfolding step exchanged D.exchange admit decode
+posted-long w b reply =
+    pick-ind (λ (o : Outcome). isPosted (byte b 0) ≡ true → o .number ≡ 0 → length (writtenData b) ≡ accessLength b) (shortStores reply w) (λ _ _ e. absurd (omega arith))
+    (λ _. by-bytes b)
+  where
+    by-bytes : (l : List ℕ) → isPosted (byte l 0) ≡ true → D.exchange (w .state) l .number ≡ 0 → length (writtenData l) ≡ accessLength l
+    by-bytes [] h = λ e. absurd (omega arith)
+    by-bytes (op ∷ r) h =
+        by-posted (λ (x : ℕ). D.exchange (w .state) (x ∷ r) .number ≡ 0 → length (writtenData (x ∷ r)) ≡ accessLength (x ∷ r))
+        (at 0x00 (put-pc-long w r))
+        (at 0x4C (λ a. long-enough w r 0x4C (a .right))) (at 0x4D (λ a. long-enough w r 0x4D (a .right))) (at 0x4F (λ a. long-enough w r 0x4F (a .right))) op h
+      where
+        at : (x : ℕ) → (Admitted (w .state) (x ∷ r) (opcodeOf x) → dataFrom (x ∷ r) + accessLength (x ∷ r) ≤ length (x ∷ r))
+            → D.exchange (w .state) (x ∷ r) .number ≡ 0 → length (writtenData (x ∷ r)) ≡ accessLength (x ∷ r)
+        at x q =
+            exchange-by (λ (p : Plan). p .number ≡ 0 → length (writtenData (x ∷ r)) ≡ accessLength (x ∷ r)) (w .state) (x ∷ r)
+            (λ e. absurd (omega arith)) (λ e. absurd (omega arith)) (λ e. absurd (omega arith)) (λ e. absurd (omega arith)) (λ e. absurd (omega arith))
+            (λ a _. data-length (x ∷ r) (q a))
 
 -- ---- the board's calls
 

@@ -21,3 +21,5 @@ pub mod Effects
 pub mod EffectsProof
 pub mod ConfigWrites
 pub mod ConfigWritesProof
+pub mod PostedWrites
+pub mod PostedWritesProof
