@@ -330,7 +330,7 @@ forQueues (answer serial success bytes) = true
 forQueues (takeWrite report) = true
 forQueues (setWire index bit value) = false
 forQueues (readWire index bit) = false
-forQueues (lend write read) = true
+forQueues (lend write read) = false
 
 abbrev pub forWires : Call → Bool
 forWires start = false

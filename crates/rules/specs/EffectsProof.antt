@@ -481,7 +481,7 @@ module _ (w : World) where
   effect-queues (takeWrite report) h = (refl, refl)
   effect-queues (setWire index bit value) h = absurd (true≢false (sym h))
   effect-queues (readWire index bit) h = absurd (true≢false (sym h))
-  effect-queues (lend write read) h = (refl, refl)
+  effect-queues (lend write read) h = absurd (true≢false (sym h))
 
   effect-wires : (c : Call) → forWires c ≡ true → WiresOnly (effect w c)
   effect-wires start h = absurd (true≢false (sym h))

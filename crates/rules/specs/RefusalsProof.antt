@@ -124,14 +124,6 @@ module _ (s : State) where
   unfolding B.answer
   answer-settled serial success n = answering-settled serial success n (s .peripheral .request)
 
-  taking-settled : (t : Write) → Settled s (B.taking s t)
-  taking-settled Empty = (refl, refl)
-  taking-settled (Held x) = tt
-
-  pub take-settled : Settled s (B.takeWrite s)
-  unfolding B.takeWrite
-  take-settled = taking-settled (s .peripheral .write)
-
   pub set-settled : (index bit value : ℕ) → Settled s (B.setWireCall s index bit value)
   unfolding B.setWireCall
   set-settled index bit value = pick-ind (Settled s) (not (settable index bit value)) (λ _. (refl, refl)) (λ _. tt)

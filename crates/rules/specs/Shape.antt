@@ -1,6 +1,7 @@
 -- P8. Which numbers have a reply, and its shape (01, Replies and refusals: "Reply: response byte .., body, status low byte first, CRC over
 -- all before it").
 use Prim.Native.Nat.{ℕ, zero, suc, _+_, _*_, _/_, _%_, _≤_}
+use mathlib.Core.Bool.{false}
 use mathlib.Core.List.{List, [], _∷_, _++_}
 use mathlib.Core.Logic.{_≢_}
 use mathlib.Core.Path.{_≡_}
@@ -12,7 +13,8 @@ use Rattle.state.specs.Sound.{Sound}
 use Rattle.state.specs.Status.{status}
 use Rattle.state.specs.declared.State.{State}
 use Rattle.rules.specs.Fields.{byte, isNonPosted}
-use Rattle.rules.specs.Step.{World, exchange, Outcome, step, replyLength}
+use Rattle.rules.specs.Refusals.{isExchange}
+use Rattle.rules.specs.Step.{World, Call, exchange, Outcome, step, replyLength}
 
 -- with the CRC of all before it
 abbrev pub withCrc : List ℕ → List ℕ
@@ -68,3 +70,7 @@ pub record ExchangeShape (w : World) (b : List ℕ) (o : Outcome) : Type 0 where
 
 abbrev pub RepliesHaveShape : Type 0
 RepliesHaveShape = (w : World) → Sound (w .state) → (b reply : List ℕ) → ExchangeShape w b (step w (exchange b reply))
+
+-- no other call has a reply
+abbrev pub OnlyExchangesReply : Type 0
+OnlyExchangesReply = (w : World) (c : Call) → isExchange c ≡ false → step w c .reply ≡ []

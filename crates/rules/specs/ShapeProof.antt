@@ -29,11 +29,11 @@ use Rattle.state.specs.declared.State.{State}
 use Rattle.rules.specs.Decide as D
 use Rattle.rules.specs.Reply.{replyBytes, closed, headerBytes, dataBytes}
 use Rattle.rules.specs.declared.Plan.{Plan}
-use Rattle.rules.specs.Step.{step, exchanged, shortStores, replyLength, writeLength, readLength}
+use Rattle.rules.specs.Step.{start, espiReset, platformReset, exchange, look, answer, takeWrite, setWire, readWire, lend, Outcome, step, exchanged, settled, shortStores, replyLength, writeLength, readLength, lookLength, takeLength}
 use Rattle.rules.specs.Fields.{byte}
 use Rattle.rules.specs.FieldsProof.{by-opcode}
 use Rattle.rules.specs.Admitted.{exchange-by}
-use Rattle.rules.specs.Shape.{replyOf, acceptCode, bodyLength, statusShown, AcceptedReply, Shape, ExchangeShape, RepliesHaveShape}
+use Rattle.rules.specs.Shape.{replyOf, acceptCode, bodyLength, statusShown, AcceptedReply, Shape, ExchangeShape, RepliesHaveShape, OnlyExchangesReply}
 
 -- what an opcode says of the reply; at a numeral it computes
 record Traits : Type 0 where
@@ -184,3 +184,17 @@ replies-have-shape w h b reply =
         third true y z e = absurd (true≢false e)
         third false true z e = absurd (true≢false e)
         third false false z e = e
+
+pub only-exchanges-reply : OnlyExchangesReply
+unfolding step settled
+only-exchanges-reply w start e = refl
+only-exchanges-reply w espiReset e = refl
+only-exchanges-reply w platformReset e = refl
+only-exchanges-reply w (exchange b reply) e = absurd (true≢false e)
+only-exchanges-reply w (look report) e = pick-ind (λ (o : Outcome). o .reply ≡ []) (ltb (length report) lookLength) (λ _. refl) (λ _. refl)
+only-exchanges-reply w (answer serial success bytes) e = pick-ind (λ (o : Outcome). o .reply ≡ []) (ltb (length (w .read)) readLength) (λ _. refl) (λ _. refl)
+only-exchanges-reply w (takeWrite report) e =
+    pick-ind (λ (o : Outcome). o .reply ≡ []) (ltb (length (w .write)) writeLength || ltb (length report) takeLength) (λ _. refl) (λ _. refl)
+only-exchanges-reply w (setWire index bit value) e = refl
+only-exchanges-reply w (readWire index bit) e = refl
+only-exchanges-reply w (lend write read) e = refl

@@ -88,11 +88,6 @@ word-bits s =
     rw (← free-as (s .peripheral .write), ← idle-as (s .peripheral .request), ← avail-as (s .peripheral .request))
     (bits-of (pcFree (s .peripheral .write)) (npFree (s .peripheral .request)) (pcAvail (s .peripheral .request)) (anyPending (s .wires)))
 
--- a bit is 1 exactly where its test holds
-bit-one : (n : ℕ) (t : Bool) → n ≡ bitFor t → (n ≡ 1) ↔ (t ≡ true)
-bit-one n true e = (λ _. refl, λ _. e)
-bit-one n false e = (λ h. absurd (omega arith), λ h. absurd (true≢false (sym h)))
-
 -- ---- rows one after the other
 
 first-after : (xs ys : List Row) → noneApplies xs ≡ true → firstOf (xs ++ ys) ≡ firstOf ys
