@@ -54,7 +54,6 @@ static void check_refused(uint32_t word)
 {
     check_same(&state, 0);
     check_same(&write_store, 0);
-    check_same(&report, 0);
     if (word != espi_number(word))
         fail("a refusal with a value");
 }
@@ -432,7 +431,8 @@ static void random_run(unsigned long calls)
         if (damaged)
             bytes(&state)[below(ESPI_STATE_LEN)] ^= (uint8_t)(1u << below(8));
         some_call();
-        if (damaged)
+        /* guard bytes stand where a slice was cut short */
+        if (damaged || state.length < ESPI_STATE_LEN)
             memcpy(bytes(&state), kept, sizeof kept);
     }
     static const int all[] = {0, 1, 2, 10, 11, 12, 13, 14, 15, 16, 20, 21, 22, 23};
