@@ -1,6 +1,5 @@
 -- The fields of a masked write, and of each register that is written (01, Registers and status).
 use Prim.Native.Nat.{ℕ, _+_, _-_, _*_, _/_, _%_, _^_, _<_}
-use mathlib.Core.Bool.{Bool}
 use mathlib.Core.Path.{_≡_, refl, _∙_, ap, sym}
 use native.Mathlib.Nat.{mod-mod, div-one, lt-of-le-of-lt}
 use native.Mathlib.Omega.{arith}

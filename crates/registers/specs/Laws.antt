@@ -79,15 +79,17 @@ pub record Fitting (c : Config) : Type 0 where
 pub fits-fresh : Fitting freshConfig
 fits-fresh = record { fit008 = lit< tt; fit010 = lit< tt; fit020 = lit< tt }
 
-readied-fits : (w : ℕ) → w < 2 ^ 32 → readied w < 2 ^ 32
-readied-fits w h = masked-fits w (2 * (w % 2)) 2 h (omega arith)
+readied-fits : (old v mask : ℕ) → old < 2 ^ 32 → v < 2 ^ 32 → readied (masked old v mask) < 2 ^ 32
+readied-fits old v mask ho hv =
+    let w = masked old v mask in
+    masked-fits w (2 * (w % 2)) 2 (masked-fits old v mask ho hv) (omega arith)
 
 pub fits-write : (c : Config) (a v : ℕ) → Fitting c → v < 2 ^ 32 → Fitting (writeAt c a v)
 fits-write c a v h l =
     by-address (λ (x : ℕ). Fitting (writeAt c x v))
     (record { fit008 = masked-fits (c .r008 .value) v writable008 (h .fit008) l; fit010 = h .fit010; fit020 = h .fit020 })
-    (record { fit008 = h .fit008; fit010 = readied-fits (masked (c .r010 .value) v writable010) (masked-fits (c .r010 .value) v writable010 (h .fit010) l); fit020 = h .fit020 })
-    (record { fit008 = h .fit008; fit010 = h .fit010; fit020 = readied-fits (masked (c .r020 .value) v writable020) (masked-fits (c .r020 .value) v writable020 (h .fit020) l) })
+    (record { fit008 = h .fit008; fit010 = readied-fits (c .r010 .value) v writable010 (h .fit010) l; fit020 = h .fit020 })
+    (record { fit008 = h .fit008; fit010 = h .fit010; fit020 = readied-fits (c .r020 .value) v writable020 (h .fit020) l })
     (λ x e f g. subst Fitting (sym (write-other c x v e f g)) h) a
 
 -- ---- reachable values stay so
@@ -95,13 +97,37 @@ fits-write c a v h l =
 pub reachable-fresh : reachable freshConfig ≡ true
 reachable-fresh = refl
 
--- the last part of a test in a new register, the others being as they were; and the same where ready stands between
+-- each register of a reachable configuration, and back
+module _ (c : Config) where
+  abbrev r8 : Bool
+  r8 = reachable008 (c .r008 .value)
+
+  abbrev r10 : Bool
+  r10 = reachable010 (c .r010 .value)
+
+  abbrev r20 : Bool
+  r20 = reachable020 (c .r020 .value)
+
+  pub reachable-r008 : reachable c ≡ true → reachable008 (c .r008 .value) ≡ true
+  reachable-r008 h = and-left r8 r10 (and-left (r8 && r10) r20 h)
+
+  pub reachable-r010 : reachable c ≡ true → reachable010 (c .r010 .value) ≡ true
+  reachable-r010 h = and-right r8 r10 (and-left (r8 && r10) r20 h)
+
+  pub reachable-r020 : reachable c ≡ true → reachable020 (c .r020 .value) ≡ true
+  reachable-r020 h = and-right (r8 && r10) r20 h
+
+  pub reachable-all : reachable008 (c .r008 .value) ≡ true → reachable010 (c .r010 .value) ≡ true → reachable020 (c .r020 .value) ≡ true → reachable c ≡ true
+  reachable-all e f g = and-true {a = r8 && r10} {b = r20} (and-true {a = r8} {b = r10} e f) g
+
+-- a new value that is not forbidden, the rest being as it was; and the same where ready stands between
 unforbidden : (a f g : Bool) → a && not f ≡ true → g ≡ false → a && not g ≡ true
 unforbidden a f g h e = and-true {a = a} {b = not g} (and-left a (not f) h) (ap not e)
 
-ready-unforbidden : (a b d f g : Bool) → a && b && not f ≡ true → d ≡ true → g ≡ false → a && d && not g ≡ true
-ready-unforbidden a b d f g h r e =
-    and-true {a = a && d} {b = not g} (and-true {a = a} {b = d} (and-left a b (and-left (a && b) (not f) h)) r) (ap not e)
+ready-unforbidden : (a b f g : Bool) (n : ℕ) → a && b && not f ≡ true → g ≡ false → a && eqb n n && not g ≡ true
+ready-unforbidden a b f g n h e =
+    let kept = and-left a b (and-left (a && b) (not f) h) in
+    and-true {a = a && eqb n n} {b = not g} (and-true {a = a} {b = eqb n n} kept (eq-eqb n n refl)) (ap not e)
 
 pub reachable-write008 : (r : Reg008) (v : ℕ) → reachable008 (r .value) ≡ true → forbidden008 v ≡ false → reachable008 (write008 r v .value) ≡ true
 reachable-write008 r v h f =
@@ -113,24 +139,21 @@ pub reachable-write010 : (r : Reg010) (v : ℕ) → reachable010 (r .value) ≡ 
 reachable-write010 r v h f =
     let w = written010 r v in
     rw (w .kept31, w .kept11, w .kept7, w .readCode, w .payloadCode, w .ready, w .enable)
-    (ready-unforbidden (fixed010 (r .value)) (readyIsEnable (r .value)) (eqb (v % 2) (v % 2)) (forbidden010 (r .value)) (forbidden010 v) h (eq-eqb (v % 2) (v % 2) refl) f)
+    (ready-unforbidden (fixed010 (r .value)) (readyIsEnable (r .value)) (forbidden010 (r .value)) (forbidden010 v) (v % 2) h f)
 
 pub reachable-write020 : (r : Reg020) (v : ℕ) → reachable020 (r .value) ≡ true → forbidden020 v ≡ false → reachable020 (write020 r v .value) ≡ true
 reachable-write020 r v h f =
     let w = written020 r v in
     rw (w .kept31, w .kept15, w .count, w .ready, w .enable)
-    (ready-unforbidden (fixed020 (r .value)) (readyIsEnable (r .value)) (eqb (v % 2) (v % 2)) (forbidden020 (r .value)) (forbidden020 v) h (eq-eqb (v % 2) (v % 2) refl) f)
+    (ready-unforbidden (fixed020 (r .value)) (readyIsEnable (r .value)) (forbidden020 (r .value)) (forbidden020 v) (v % 2) h f)
 
 pub reachable-write : (c : Config) (a v : ℕ) → reachable c ≡ true → forbiddenAt a v ≡ false → reachable (writeAt c a v) ≡ true
 reachable-write c a v h =
-    let r8 = reachable008 (c .r008 .value) in
-    let r10 = reachable010 (c .r010 .value) in
-    let r20 = reachable020 (c .r020 .value) in
-    let h8 : r8 ≡ true = and-left r8 r10 (and-left (r8 && r10) r20 h) in
-    let h10 : r10 ≡ true = and-right r8 r10 (and-left (r8 && r10) r20 h) in
-    let h20 : r20 ≡ true = and-right (r8 && r10) r20 h in
+    let h8 = reachable-r008 c h in
+    let h10 = reachable-r010 c h in
+    let h20 = reachable-r020 c h in
     by-address (λ (x : ℕ). forbiddenAt x v ≡ false → reachable (writeAt c x v) ≡ true)
-    (λ f. rw (h10, h20, reachable-write008 (c .r008) v h8 f))
-    (λ f. rw (h8, h20, reachable-write010 (c .r010) v h10 f))
-    (λ f. rw (h8, h10, reachable-write020 (c .r020) v h20 f))
+    (λ f. reachable-all (writeAt c 0x008 v) (reachable-write008 (c .r008) v h8 f) h10 h20)
+    (λ f. reachable-all (writeAt c 0x010 v) h8 (reachable-write010 (c .r010) v h10 f) h20)
+    (λ f. reachable-all (writeAt c 0x020 v) h8 h10 (reachable-write020 (c .r020) v h20 f))
     (λ x e f g k. rw (write-other c x v e f g) h) a

@@ -1,6 +1,6 @@
 -- The configuration registers (01, Registers and status; 004, 6.2.1): reset values, writable bits, forbidden values, what is read off them.
 use Prim.Native.Nat.{ℕ, suc, _+_, _-_, _*_, _/_, _%_, _^_}
-use mathlib.Core.Bool.{Bool, true, false, _&&_, _||_, not}
+use mathlib.Core.Bool.{Bool, false, _&&_, _||_, not}
 use lib.Bits.{bitAnd, bitOr}
 use lib.Dec.{eqb, ltb}
 use Rattle.base.specs.Pick.{pick}
