@@ -2,7 +2,7 @@
 use Prim.Native.Nat.{ℕ, _+_, _-_, _*_, _/_, _%_, _^_}
 use mathlib.Core.Bool.{Bool, false, _&&_, _||_, not}
 use mathlib.Core.List.{List, [], _∷_}
-use lib.ListN.{getD, set}
+use lib.ListN.{getD, set, length}
 use lib.Bits.{bitAnd, bitOr}
 use lib.Dec.{eqb, ltb, leb}
 use Rattle.base.specs.Pick.{pick}
@@ -171,3 +171,7 @@ placeRight w = leb 4 (w .place) && leb (w .place) 6
 
 abbrev pub soundWires : Bool → Wires → Bool
 soundWires on w = undefinedZero w && marksRight on w && placeRight w
+
+-- six groups: what the code's arrays have by their type
+abbrev pub wholeWires : Wires → Bool
+wholeWires w = eqb (length (w .level)) 6 && eqb (length (w .pending)) 6

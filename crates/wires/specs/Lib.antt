@@ -3,5 +3,8 @@ pub mod Turn
 pub mod Groups
 pub mod Rows
 pub mod Round
-pub mod Changes
 pub mod Sending
+pub mod Nibbles
+pub mod Kept
+pub mod Changes
+pub mod Sent

@@ -1,14 +1,13 @@
 // Virtual wires: the table of six rows, and the six groups by value.
 ghost use mathlib.Core.Path.{_≡_};
-ghost use mathlib.Core.Bool.{Bool, true, false, _&&_};
-ghost use Prim.Native.Nat.{ℕ, _+_, _-_, _*_, _≤_, _<_};
+ghost use mathlib.Core.Bool.{true, _&&_};
+ghost use Prim.Native.Nat.{_+_, _-_, _*_, _≤_, _<_};
 ghost use lib.ListN.{length, take};
-ghost use Rattle.wires.specs.Table.{rowAt, isGroup};
 ghost use lib.Bits.{bitAnd};
 ghost use lib.Dec.{eqb, ltb};
 ghost use Rattle.wires.specs.Turn.{after};
-ghost use Rattle.wires.specs.Sending.{takenList, takenAnd, asked, Sendable};
-ghost use Rattle.wires.specs.Groups.{senders, groupOf, freshWires, withGroup, levelAt, nibble, putPair, putPairs, definedBit, settable, setWire, readWire, sent, packetOf, afterSent, anyPending, differs, enabled, disabled, placed, resetGroup, platformWires, undefinedZero, marksRight, placeRight, soundWires};
+ghost use Rattle.wires.specs.Sending.{packetAnd, leftBy, asked, sending, Sendable};
+ghost use Rattle.wires.specs.Groups.{senders, groupOf, freshWires, withGroup, levelAt, nibble, putPair, putPairs, definedBit, settable, setWire, readWire, anyPending, differs, enabled, disabled, placed, resetGroup, platformWires, undefinedZero, marksRight, placeRight, soundWires};
 
 pub struct WireRow {
     pub index: u8,
@@ -69,26 +68,25 @@ pub struct Group {
     pub byte: u8,
 }
 
-// The senders that a packet takes, in order: 0, 1, 2 for groups 4, 5, 6.
-enum Taken {
-    None,
-    One(u8),
-    Two(u8, u8),
-    Three(u8, u8, u8),
-}
-
-// Going round: the senders taken so far, and how many more the packet holds.
-struct Asking {
-    taken: Taken,
-    left: u32,
-}
-
 // What a GET_VWIRE sends: at most the three up groups.
 pub enum Packet {
     Nothing,
     One(Group),
     Two(Group, Group),
     Three(Group, Group, Group),
+}
+
+// What a GET_VWIRE sends, and the wires after it.
+pub struct Sending {
+    pub packet: Packet,
+    pub next: Wires,
+}
+
+// Going round: the packet so far, the wires after it, and how many groups more it holds.
+struct Asking {
+    packet: Packet,
+    next: Wires,
+    left: u32,
 }
 
 // Four bits: those of `val` where the mask has ones, those of `old` elsewhere.
@@ -109,16 +107,16 @@ fn after_sender(k: u8) -> u8
     0
 }
 
-impl Taken {
-    // One more; a packet never takes a fourth.
-    fn and(self, k: u8) -> Taken
-        ensures { λ r. ⌜ r ≡ takenAnd self k ⌝ }
+impl Packet {
+    // One group more; there is no fourth.
+    fn and(self, group: Group) -> Packet
+        ensures { λ r. ⌜ r ≡ packetAnd self group ⌝ }
     {
         match self {
-            Taken::None => Taken::One(k),
-            Taken::One(a) => Taken::Two(a, k),
-            Taken::Two(a, b) => Taken::Three(a, b, k),
-            Taken::Three(a, b, c) => Taken::Three(a, b, c),
+            Packet::Nothing => Packet::One(group),
+            Packet::One(a) => Packet::Two(a, group),
+            Packet::Two(a, b) => Packet::Three(a, b, group),
+            Packet::Three(a, b, c) => Packet::Three(a, b, c),
         }
     }
 }
@@ -240,78 +238,67 @@ impl Wires {
         ((self.level[at] >> bit) % 2) as u32
     }
 
-    // Sender k is asked: it is taken if it waits and the packet has room.
-    fn asked(self, round: Asking, k: u8) -> Asking
-        requires { ⌜ k < 3 ⌝ }
-        ensures { λ r. ⌜ r ≡ asked self round k ⌝ }
-    {
-        let at = (k + 2) as usize;
-        if !self.pending[at] {
-            return round;
-        }
-        if round.left < 1 {
-            return round;
-        }
-        let taken = round.taken;
-        Asking { taken: taken.and(k), left: round.left - 1 }
-    }
-
-    fn taken(self, capacity: u32) -> Taken
-        requires { ⌜ (4 ≤ self .place) × (self .place ≤ 6) ⌝ }
-        ensures { λ r. ⌜ takenList r ≡ sent self capacity ⌝ }
-    {
-        let a = self.place - 4;
-        let b = after_sender(a);
-        let c = after_sender(b);
-        let start = Asking { taken: Taken::None, left: capacity };
-        let one = self.asked(start, a);
-        let two = self.asked(one, b);
-        let all = self.asked(two, c);
-        all.taken
-    }
-
+    // "with all defined bits valid"
     fn group(self, k: u8) -> Group
         requires { ⌜ (k < 3) × (levelAt self (k + 4) < 16) ⌝ }
         ensures { λ r. ⌜ r ≡ groupOf self k ⌝ }
     {
         let at = (k + 2) as usize;
-        Group { index: k + 4, byte: TABLE[at].defined * 16 + self.level[at] }
-    }
-
-    pub fn packet(self, capacity: u32) -> Packet
-        requires { ⌜ Sendable self ⌝ }
-        ensures { λ r. ⌜ r ≡ packetOf self (sent self capacity) ⌝ }
-    {
-        let t = self.taken(capacity);
-        match t {
-            Taken::None => Packet::Nothing,
-            Taken::One(a) => Packet::One(self.group(a)),
-            Taken::Two(a, b) => Packet::Two(self.group(a), self.group(b)),
-            Taken::Three(a, b, c) => Packet::Three(self.group(a), self.group(b), self.group(c)),
+        Group {
+            index: k + 4,
+            byte: TABLE[at].defined * 16 + self.level[at],
         }
     }
 
-    fn unmarked(self, k: u8) -> Wires
+    // Sender k is sent: its mark goes, and the place moves behind it.
+    fn left_by(self, k: u8) -> Wires
         requires { ⌜ k < 3 ⌝ }
-        ensures { λ r. ⌜ r ≡ withGroup self (k + 4) (levelAt self (k + 4)) false ⌝ }
+        ensures { λ r. ⌜ r ≡ leftBy self k ⌝ }
     {
         let at = (k + 2) as usize;
         self.with((k + 4) as usize, self.level[at], false)
+            .placed(after_sender(k) + 4)
     }
 
-    pub fn after_sent(self, capacity: u32) -> Wires
-        requires { ⌜ (4 ≤ self .place) × (self .place ≤ 6) ⌝ }
-        ensures { λ r. ⌜ r ≡ afterSent self (sent self capacity) ⌝ }
+    // Sender k is asked: it is taken if it waits and the packet has room.
+    fn asked(self, so_far: Asking, k: u8) -> Asking
+        requires { ⌜ (k < 3) × (levelAt self (k + 4) < 16) ⌝ }
+        ensures { λ r. ⌜ r ≡ asked self «so_far» k ⌝ }
     {
-        let t = self.taken(capacity);
-        match t {
-            Taken::None => self,
-            Taken::One(a) => self.unmarked(a).placed(after_sender(a) + 4),
-            Taken::Two(a, b) => self.unmarked(a).unmarked(b).placed(after_sender(b) + 4),
-            Taken::Three(a, b, c) => {
-                self.unmarked(a).unmarked(b).unmarked(c).placed(after_sender(c) + 4)
-            }
+        let at = (k + 2) as usize;
+        if !self.pending[at] {
+            return so_far;
         }
+        if so_far.left < 1 {
+            return so_far;
+        }
+        let packet = so_far.packet;
+        let next = so_far.next;
+        Asking {
+            packet: packet.and(self.group(k)),
+            next: next.left_by(k),
+            left: so_far.left - 1,
+        }
+    }
+
+    pub fn send(self, capacity: u32) -> Sending
+        requires { ⌜ Sendable self ⌝ }
+        ensures { λ r. ⌜ r ≡ sending self capacity ⌝ }
+    {
+        let a = self.place - 4;
+        let b = after_sender(a);
+        let c = after_sender(b);
+        let none = Asking {
+            packet: Packet::Nothing,
+            next: self,
+            left: capacity,
+        };
+        let one = self.asked(none, a);
+        let two = self.asked(one, b);
+        let all = self.asked(two, c);
+        let packet = all.packet;
+        let next = all.next;
+        Sending { packet, next }
     }
 
     pub fn any_pending(self) -> bool

@@ -1,24 +1,28 @@
+use Rattle.wires.specs.Groups.{senders}
+use Rattle.wires.specs.Turn.{after}
+use Rattle.base.specs.Pick.{taken, passed}
+use native.Mathlib.Numerals.{add-one}
+use native.Mathlib.Omega.{arith}
+use mathlib.Core.Path.{refl}
+use Prim.Native.Nat.{suc, _≤_, _<_}
+use borrow.Author.Tests.{lt-ltb, le-ltb}
 use borrow.Author.Needs.{needs}
 use Rattle.wires.proofs.after_sender.Statement.{statement}
 use Rattle.wires.proofs.after_sender.Tie as tie
-use Rattle.wires.proofs.after_sender.Reads as reads
-use Rattle.wires.proofs.after_sender.Lts as lts
 
--- src/lib.rt:106:8
 add-if1 : tie.Need-add-if1
 add-if1 c = search needs
 
--- src/lib.rt:107:16
 add-result : tie.Need-add-result
 add-result c = search needs
 
--- src/lib.rt:107:9
 returns : tie.Need-returns
-returns c = ?
+unfolding after
+returns c = (let e : suc (c .before .args .k) < senders = omega arith in taken _ _ (lt-ltb _ _ e) (add-one _), omega arith)
 
--- src/lib.rt:102:1
 returns-2 : tie.Need-returns-2
-returns-2 c = ?
+unfolding after
+returns-2 c = (let e : senders ≤ suc (c .before .args .k) = omega arith in passed _ _ (le-ltb _ _ e) refl, omega arith)
 
 pub after-sender-spec : {M : Type 1} → statement M
 after-sender-spec = tie.close (tie.spec add-if1 add-result returns returns-2)

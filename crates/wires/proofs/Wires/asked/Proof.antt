@@ -1,39 +1,51 @@
+use Rattle.wires.specs.Sending.{waits-as}
+use Rattle.base.specs.Pick.{taken, passed}
+use lib.ListN.{getD}
+use mathlib.Core.Path.{refl}
+use mathlib.Core.Bool.{false}
+use Prim.Native.Nat.{_+_}
+use borrow.Author.Tests.{not-true, not-false, le-leb, lt-leb}
 use borrow.Author.Needs.{needs}
 use Rattle.wires.proofs.Wires.asked.Statement.{statement}
 use Rattle.wires.proofs.Wires.asked.Tie as tie
-use Rattle.wires.proofs.Wires.asked.Reads as reads
-use Rattle.wires.proofs.Wires.asked.Lts as lts
-use Rattle.wires.proofs.Taken.and.Reads as and-reads
 
--- src/lib.rt:248:19
 add-at : tie.Need-add-at
 add-at c = search needs
 
--- src/lib.rt:248:18
 cast-at : tie.Need-cast-at
 cast-at c = search needs
 
--- src/lib.rt:249:13
 element-copy-out-if1 : tie.Need-element-copy-out-if1
 element-copy-out-if1 c = search needs
 
--- src/lib.rt:250:13
 returns : tie.Need-returns
-returns c = ?
+returns c = passed _ _ (waits-as (c .before .before .args .t1) (c .before .before .args .k) _ (not-true (getD (c .before .before .args .t1 .pending) (c .before .before .args .k + 2) false) (c .if1 .taken))) refl
 
--- src/lib.rt:253:13
 returns-2 : tie.Need-returns-2
-returns-2 c = ?
+returns-2 c = taken _ _ (waits-as (c .before .before .before .before .args .t1) (c .before .before .before .before .args .k) _ (not-false (getD (c .before .before .before .before .args .t1 .pending) (c .before .before .before .before .args .k + 2) false) (c .before .before .if1 .left))) (passed _ _ (lt-leb _ _ (c .if2 .taken)) refl)
 
--- src/lib.rt:256:25
+group-requires : tie.Need-group-requires
+group-requires c κs = search needs
+
 and-requires : tie.Need-and-requires
 and-requires c κs = search needs
 
--- src/lib.rt:244:5
+left-by-requires : tie.Need-left-by-requires
+left-by-requires c κs = search needs
+
 returns-3 : tie.Need-returns-3
-returns-3 c = ?
+returns-3 c = taken _ _ (waits-as (c .before .before .before .before .before .before .before .before .before .args .t1) (c .before .before .before .before .before .before .before .before .before .args .k) _ (not-false (getD (c .before .before .before .before .before .before .before .before .before .args .t1 .pending) (c .before .before .before .before .before .before .before .before .before .args .k + 2) false) (c .before .before .before .before .before .before .before .if1 .left))) (taken _ _ (le-leb _ _ (c .before .before .before .before .before .if2 .left)) (cc))
 
 pub asked-spec : {M : Type 1} → statement M
 asked-spec =
     tie.close
-    (tie.spec add-at cast-at element-copy-out-if1 returns returns-2 and-requires returns-3)
+    (tie.spec
+    add-at
+    cast-at
+    element-copy-out-if1
+    returns
+    returns-2
+    group-requires
+    and-requires
+    left-by-requires
+    returns-3)

@@ -1,44 +1,37 @@
+use Rattle.wires.specs.Sending.{sender-place}
+use Rattle.wires.specs.Rows.{row-right}
+use native.Mathlib.Omega.{arith}
+use Prim.Native.Nat.{_+_}
 use borrow.Author.Needs.{needs}
 use Rattle.wires.proofs.Wires.group.Statement.{statement}
 use Rattle.wires.proofs.Wires.group.Tie as tie
-use Rattle.wires.proofs.Wires.group.Reads as reads
-use Rattle.wires.proofs.Wires.group.Lts as lts
 
--- src/lib.rt:277:19
 add-at : tie.Need-add-at
 add-at c = search needs
 
--- src/lib.rt:277:18
 cast-at : tie.Need-cast-at
 cast-at c = search needs
 
--- src/lib.rt:278:24
 add-t5 : tie.Need-add-t5
 add-t5 c = search needs
 
--- src/lib.rt:278:37
 mul-t13 : tie.Need-mul-t13
 mul-t13 c = search needs
 
--- src/lib.rt:278:37
 element-copy-out-t16 : tie.Need-element-copy-out-t16
 element-copy-out-t16 c = search needs
 
--- src/lib.rt:278:37
 mul-t17 : tie.Need-mul-t17
-mul-t17 c = ?
+mul-t17 c = omega (arith, row-right (c .args .k + 2) (omega arith) .defined-small)
 
--- src/lib.rt:278:62
 element-copy-out-t20 : tie.Need-element-copy-out-t20
 element-copy-out-t20 c = search needs
 
--- src/lib.rt:278:37
 add-t21 : tie.Need-add-t21
-add-t21 c = ?
+add-t21 c = let k = c .before .args .k in let e = sender-place k in let h = rw (sender-place k) at (c .before .pre .1) in omega (arith, h, row-right (k + 2) (omega arith) .defined-small)
 
--- src/lib.rt:273:5
 returns : tie.Need-returns
-returns c = ?
+returns c = rw (sender-place (c .before .args .k))
 
 pub group-spec : {M : Type 1} → statement M
 group-spec =
