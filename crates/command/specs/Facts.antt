@@ -8,11 +8,11 @@ use native.Mathlib.Omega.{arith}
 use borrow.Author.Tests.{leb-true, eqb-true, eqb-false, eq-eqb, not-false}
 use lib.Dec.{T, eqb, ltb}
 use lib.ListN.{length, getD}
-use Rattle.base.specs.Pick.{pick, taken, pick-ind, and-left}
+use Rattle.base.specs.Pick.{pick, pick-ind, and-left}
 use Rattle.base.specs.Bytes.{high2}
-use Rattle.command.specs.Opcode.{sizeOfCode, shortOf, shortOpcode, opcodeOf, channelOn, hasCycle, cycleListed, wideCycle}
-use Rattle.command.specs.Needs.{lengthOf, groupCount, shortNeed, needOf, lengthRight}
-use Rattle.command.specs.Decode.{address2, address4, address8, headOf, registerAddress, registerData, shortAddress, commandOf, allFF, opcodeKnown, decodeAs, decode, hasCrc, crcGood, checkedBy, admit}
+use Rattle.command.specs.Opcode.{shortOf, opcodeOf, channelOn, hasCycle, cycleListed, wideCycle}
+use Rattle.command.specs.Needs.{lengthOf, shortNeed, needOf, lengthRight}
+use Rattle.command.specs.Decode.{address2, address4, headOf, shortAddress, commandOf, allFF, opcodeKnown, decodeAs, decode, hasCrc, crcGood, checkedBy, admit}
 use Rattle.command.specs.Laws.{headed-right}
 use Rattle.command.specs.declared.Access.{Access}
 use Rattle.command.specs.declared.Access.the-variants.{IoRead, IoWrite, MemoryRead, MemoryWrite}

@@ -4,19 +4,17 @@ use mathlib.Core.Bool.{Bool, true, false, _&&_, not}
 use mathlib.Core.List.{List, [], _∷_}
 use mathlib.Core.Path.{_≡_, refl, sym, ap, subst, _∙_}
 use native.Mathlib.Omega.{arith}
-use native.Mathlib.Nat.{le-of-eq}
 use native.Mathlib.Numerals.{add-one}
 use borrow.Author.Tests.{ltb-false, eqb-true, eqb-false, eq-eqb, ne-eqb}
 use lib.Dec.{T, eqb, ltb}
 use lib.ListN.{length, getD, drop}
 use lib.Seq.{drop-cons}
 use Rattle.base.specs.Pick.{pick, pick-ind}
-use Rattle.command.specs.Opcode.{shortOpcode, opcodeOf, addressBytes}
-use Rattle.command.specs.Needs.{lengthOf, groupCount, headed, shortNeed, needOf, lengthRight}
+use Rattle.command.specs.Opcode.{shortOpcode, opcodeOf}
+use Rattle.command.specs.Needs.{headed, shortNeed, lengthRight}
 use Rattle.command.specs.Decode.{allFF, decodeAs, decode, hasCrc, crcGood, checkedBy, admit}
 use Rattle.command.specs.declared.Access.{Access}
 use Rattle.command.specs.declared.Access.the-variants.{IoRead, IoWrite, MemoryRead, MemoryWrite}
-use Rattle.command.specs.declared.Opcode.{Opcode}
 use Rattle.command.specs.declared.Opcode.the-variants as O
 use Rattle.command.specs.declared.Need.{Need}
 use Rattle.command.specs.declared.Channels.{Channels}

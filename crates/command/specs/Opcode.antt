@@ -1,5 +1,5 @@
 -- Opcodes and cycle types (01, Commands; 004, table 2).
-use Prim.Native.Nat.{ℕ, _+_, _/_, _%_}
+use Prim.Native.Nat.{ℕ, _/_, _%_}
 use mathlib.Core.Bool.{Bool, true, false, _||_}
 use lib.Dec.{eqb}
 use Rattle.base.specs.Pick.{pick}

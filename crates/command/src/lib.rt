@@ -1,7 +1,7 @@
 // Commands: the opcode, how many bytes a command needs, and the decoder.
 ghost use mathlib.Core.Path.{_≡_};
-ghost use mathlib.Core.Bool.{Bool, true, _&&_, not};
-ghost use Prim.Native.Nat.{ℕ, _+_, _-_, _*_, _≤_, _<_};
+ghost use mathlib.Core.Bool.{true, _&&_, not};
+ghost use Prim.Native.Nat.{_+_, _≤_, _<_};
 ghost use lib.ListN.{length, getD};
 ghost use Rattle.base.specs.Pick.{pick};
 ghost use Rattle.command.specs.Opcode.{sizeOfCode, shortOf, opcodeOf, channelOn, hasCycle, cycleListed, wideCycle, addressBytes};
@@ -357,7 +357,10 @@ fn command_of(op: Opcode, b: &[u8]) -> Command
         Opcode::PutVwire => Command::PutVwire(group_count(b[1])),
         Opcode::GetVwire => Command::GetVwire,
         Opcode::GetConfiguration => Command::GetConfiguration(register_address(b)),
-        Opcode::SetConfiguration => Command::SetConfiguration(register_address(b), register_data(b)),
+        Opcode::SetConfiguration => Command::SetConfiguration(
+            register_address(b),
+            register_data(b),
+        ),
         Opcode::GetStatus => Command::GetStatus,
         Opcode::Reset => Command::Reset,
         Opcode::Short(a, n) => Command::Short(

@@ -1,21 +1,15 @@
-use mathlib.Core.Path.{_≡_, sym, _∙_}
+use mathlib.Core.Path.{sym, _∙_}
 use native.Mathlib.Omega.{arith}
 use borrow.Author.Needs.{needs}
 use Rattle.command.proofs.address_bytes.Statement.{statement}
 use Rattle.command.proofs.address_bytes.Tie as tie
-use Rattle.command.proofs.address_bytes.Reads as reads
-use Rattle.command.proofs.address_bytes.Lts as lts
-use Rattle.command.proofs.wide_cycle.Reads as wide-cycle-reads
 
--- src/lib.rt:187:8
 wide-cycle-requires : tie.Need-wide-cycle-requires
 wide-cycle-requires c κs = search needs
 
--- src/lib.rt:188:9
 returns : tie.Need-returns
 returns c = (simp (sym (c .before .wide-cycle .ensures) ∙ c .if1 .taken), omega arith)
 
--- src/lib.rt:184:1
 returns-2 : tie.Need-returns-2
 returns-2 c = (simp (sym (c .before .wide-cycle .ensures) ∙ c .if1 .left), omega arith)
 

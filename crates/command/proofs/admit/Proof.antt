@@ -1,41 +1,40 @@
-use Rattle.base.specs.Pick.{taken, passed}
 use mathlib.Core.Path.{refl}
-use Rattle.command.specs.Laws.{decode-some, admit-silent, admit-known}
 use borrow.Author.Needs.{needs}
+use Rattle.base.specs.Pick.{taken, passed}
+use Rattle.command.specs.Laws.{decode-some, admit-silent, admit-known}
 use Rattle.command.proofs.admit.Statement.{statement}
 use Rattle.command.proofs.admit.Tie as tie
-use Rattle.command.proofs.admit.Reads as reads
-use Rattle.command.proofs.admit.Lts as lts
-use Rattle.command.proofs.crc_wrong.Reads as crc-wrong-reads
-use Rattle.command.proofs.decode.Reads as decode-reads
 
--- src/lib.rt:487:9
 decode-requires : tie.Need-decode-requires
 decode-requires c κs = search needs
 
--- src/lib.rt:488:24
 enum-known-d : tie.Need-enum-known-d
 enum-known-d c = search needs
 
--- src/lib.rt:489:9
 enum-told : tie.Need-enum-told
 enum-told c = search needs
 
--- src/lib.rt:489:9
 returns : tie.Need-returns
-returns c = let a = c .before .before .before .before .args in admit-silent (a .on) (a .checked) (a .b .now) _ _ (c .before .before .decode .ensures) (c .enum-told .given .1)
+returns c =
+    let a = c .before .before .before .before .args in
+    admit-silent (a .on) (a .checked) (a .b .now) _ _ (c .before .before .decode .ensures) (c .enum-told .given .1)
 
--- src/lib.rt:491:8
 crc-wrong-requires : tie.Need-crc-wrong-requires
-crc-wrong-requires c κs = let a = c .before .before .before .before .before .args in decode-some (a .on) (a .b .now) _ _ (c .before .before .before .decode .ensures) (c .before .d .given .1)
+crc-wrong-requires c κs =
+    let a = c .before .before .before .before .before .args in
+    decode-some (a .on) (a .b .now) _ _ (c .before .before .before .decode .ensures) (c .before .d .given .1)
 
--- src/lib.rt:492:9
 returns-2 : tie.Need-returns-2
-returns-2 c = let a = c .before .before .before .before .before .before .before .args in admit-known (a .on) (a .checked) (a .b .now) _ _ _ _ (c .before .before .before .before .before .decode .ensures) (c .before .before .before .d .given .1) (c .before .crc-wrong .ensures) (taken _ _ (c .if1 .taken) refl)
+returns-2 c =
+    let k = c .before .before .before in
+    let a = k .before .before .before .before .args in
+    admit-known (a .on) (a .checked) (a .b .now) _ _ _ _ (k .before .before .decode .ensures) (k .d .given .1) (c .before .crc-wrong .ensures) (taken _ _ (c .if1 .taken) refl)
 
--- src/lib.rt:484:1
 returns-3 : tie.Need-returns-3
-returns-3 c = let a = c .before .before .before .before .before .before .before .args in admit-known (a .on) (a .checked) (a .b .now) _ _ _ _ (c .before .before .before .before .before .decode .ensures) (c .before .before .before .d .given .1) (c .before .crc-wrong .ensures) (passed _ _ (c .if1 .left) refl)
+returns-3 c =
+    let k = c .before .before .before in
+    let a = k .before .before .before .before .args in
+    admit-known (a .on) (a .checked) (a .b .now) _ _ _ _ (k .before .before .decode .ensures) (k .d .given .1) (c .before .crc-wrong .ensures) (passed _ _ (c .if1 .left) refl)
 
 pub admit-spec : {M : Type 1} → statement M
 admit-spec =

@@ -1,13 +1,11 @@
-use Prim.Native.Nat.{ℕ, _≤_, _-_}
+use Prim.Native.Nat.{_≤_, _-_}
 use mathlib.Core.Path.{_≡_, refl, sym, _∙_}
+use borrow.Author.Needs.{needs}
 use lib.ListN.{length, drop}
 use Rattle.command.specs.Decode.{allFF}
 use Rattle.command.specs.Laws.{allFF-end, allFF-next, allFF-stop}
-use borrow.Author.Needs.{needs}
 use Rattle.command.proofs.all_ff.Statement.{statement}
 use Rattle.command.proofs.all_ff.Tie as tie
-use Rattle.command.proofs.all_ff.Reads as reads
-use Rattle.command.proofs.all_ff.Lts as lts
 
 abbrev Inv-loop : tie.InvT-loop
 Inv-loop b i₀ i = (i ≤ length b) × (allFF (drop i b) ≡ allFF b)
@@ -15,31 +13,24 @@ Inv-loop b i₀ i = (i ≤ length b) × (allFF (drop i b) ≡ allFF b)
 abbrev μ-loop : tie.MeasureT-loop
 μ-loop b i₀ i = length b - i
 
--- src/lib.rt:378:5
 loop-holds : tie.Need-loop-holds Inv-loop μ-loop
 loop-holds c = (search needs, refl)
 
--- src/lib.rt:379:12
 shared-slice-read-if1 : tie.Need-shared-slice-read-if1 Inv-loop μ-loop
 shared-slice-read-if1 c = search needs
 
--- src/lib.rt:380:13
 returns : tie.Need-returns Inv-loop μ-loop
 returns c = sym (allFF-stop _ _ (c .before .before .loop-test .taken) (c .if1 .taken)) ∙ c .before .before .before .loop .inv .1
 
--- src/lib.rt:382:9
 add-i : tie.Need-add-i Inv-loop μ-loop
 add-i c = search needs
 
--- src/lib.rt:378:5
 loop-less : tie.Need-loop-less Inv-loop μ-loop
 loop-less c = search needs
 
--- src/lib.rt:378:5
 loop-again : tie.Need-loop-again Inv-loop μ-loop
 loop-again c = (search needs, allFF-next _ _ (c .before .before .loop-test .taken) (c .if1 .left) ∙ c .before .before .before .loop .inv .1)
 
--- src/lib.rt:374:1
 returns-2 : tie.Need-returns-2 Inv-loop μ-loop
 returns-2 c = sym (allFF-end _ _ (c .loop-test .left)) ∙ c .before .loop .inv .1
 

@@ -1,30 +1,21 @@
-use borrow.Author.Tests.{not-true, not-false}
 use mathlib.Core.Path.{sym, _∙_}
+use borrow.Author.Tests.{not-true, not-false}
 use borrow.Author.Needs.{needs}
 use Rattle.command.proofs.crc_wrong.Statement.{statement}
 use Rattle.command.proofs.crc_wrong.Tie as tie
-use Rattle.command.proofs.crc_wrong.Reads as reads
-use Rattle.command.proofs.crc_wrong.Lts as lts
-use Rattle.command.proofs.crc_good.Reads as crc-good-reads
-use Rattle.command.proofs.has_crc.Reads as has-crc-reads
 
--- src/lib.rt:475:9
 returns : tie.Need-returns
 returns c = simp (not-true (c .before .before .args .checked) (c .if1 .taken))
 
--- src/lib.rt:477:9
 has-crc-requires : tie.Need-has-crc-requires
 has-crc-requires c κs = search needs
 
--- src/lib.rt:478:9
 returns-2 : tie.Need-returns-2
 returns-2 c = simp (not-false (c .before .before .before .before .args .checked) (c .before .before .if1 .left), sym (c .before .has-crc .ensures) ∙ not-true (c .before .has-crc .result) (c .if2 .taken))
 
--- src/lib.rt:480:6
 crc-good-requires : tie.Need-crc-good-requires
 crc-good-requires c κs = search needs
 
--- src/lib.rt:470:1
 returns-3 : tie.Need-returns-3
 returns-3 c = simp (not-false (c .before .before .before .before .before .args .checked) (c .before .before .before .if1 .left), sym (c .before .before .has-crc .ensures) ∙ not-false (c .before .before .has-crc .result) (c .before .if2 .left), c .crc-good .ensures)
 

@@ -1,24 +1,17 @@
-use Rattle.base.specs.Pick.{taken, passed}
-use native.Mathlib.Omega.{arith}
-use borrow.Author.Tests.{eq-eqb, ne-eqb}
 use mathlib.Core.Path.{refl, sym, _∙_}
 use native.Mathlib.Omega.{arith}
+use borrow.Author.Tests.{eq-eqb, ne-eqb}
 use borrow.Author.Needs.{needs}
+use Rattle.base.specs.Pick.{taken, passed}
 use Rattle.command.proofs.length_of.Statement.{statement}
 use Rattle.command.proofs.length_of.Tie as tie
-use Rattle.command.proofs.length_of.Reads as reads
-use Rattle.command.proofs.length_of.Lts as lts
-use Rattle.base.proofs.from_high2.Reads as from-high2-reads
 
--- src/lib.rt:196:9
 from-high2-requires : tie.Need-from-high2-requires
 from-high2-requires c κs = search needs
 
--- src/lib.rt:198:9
 returns : tie.Need-returns
 returns c = (taken _ _ (eq-eqb _ _ (sym (c .before .from-high2 .ensures .0) ∙ c .if1 .taken)) refl, omega arith)
 
--- src/lib.rt:193:1
 returns-2 : tie.Need-returns-2
 returns-2 c = (passed _ _ (ne-eqb _ _ (λ e. c .if1 .left (c .before .from-high2 .ensures .0 ∙ e))) (c .before .from-high2 .ensures .0), omega arith)
 

@@ -1,114 +1,82 @@
 use borrow.Author.Needs.{needs}
 use Rattle.command.proofs.need_of.Statement.{statement}
 use Rattle.command.proofs.need_of.Tie as tie
-use Rattle.command.proofs.need_of.Reads as reads
-use Rattle.command.proofs.need_of.Lts as lts
-use Rattle.command.proofs.need_put_np.Reads as need-put-np-reads
-use Rattle.command.proofs.need_put_pc.Reads as need-put-pc-reads
-use Rattle.command.proofs.need_put_vwire.Reads as need-put-vwire-reads
-use Rattle.command.proofs.short_need.Reads as short-need-reads
 
--- src/lib.rt:255:26
 enum-told : tie.Need-enum-told
 enum-told c = search needs
 
--- src/lib.rt:255:26
 need-put-pc-requires : tie.Need-need-put-pc-requires
 need-put-pc-requires c κs = search needs
 
--- src/lib.rt:256:26
 enum-told-2 : tie.Need-enum-told-2
 enum-told-2 c = search needs
 
--- src/lib.rt:257:26
 enum-told-3 : tie.Need-enum-told-3
 enum-told-3 c = search needs
 
--- src/lib.rt:257:26
 need-put-np-requires : tie.Need-need-put-np-requires
 need-put-np-requires c κs = search needs
 
--- src/lib.rt:258:29
 enum-told-4 : tie.Need-enum-told-4
 enum-told-4 c = search needs
 
--- src/lib.rt:258:29
 need-put-vwire-requires : tie.Need-need-put-vwire-requires
 need-put-vwire-requires c κs = search needs
 
--- src/lib.rt:259:29
 enum-told-5 : tie.Need-enum-told-5
 enum-told-5 c = search needs
 
--- src/lib.rt:260:37
 enum-told-6 : tie.Need-enum-told-6
 enum-told-6 c = search needs
 
--- src/lib.rt:261:37
 enum-told-7 : tie.Need-enum-told-7
 enum-told-7 c = search needs
 
--- src/lib.rt:262:30
 enum-told-8 : tie.Need-enum-told-8
 enum-told-8 c = search needs
 
--- src/lib.rt:263:26
 enum-told-9 : tie.Need-enum-told-9
 enum-told-9 c = search needs
 
--- src/lib.rt:264:23
 enum-known-op : tie.Need-enum-known-op
 enum-known-op c = search needs
 
--- src/lib.rt:264:44
 short-need-requires : tie.Need-short-need-requires
 short-need-requires c κs = search needs
 
--- src/lib.rt:265:28
 enum-told-10 : tie.Need-enum-told-10
 enum-told-10 c = search needs
 
--- src/lib.rt:251:1
 returns : tie.Need-returns
 returns c = simp (c .before .enum-told .given .1, c .need-put-pc .ensures)
 
--- src/lib.rt:251:1
 returns-2 : tie.Need-returns-2
 returns-2 c = search needs
 
--- src/lib.rt:251:1
 returns-3 : tie.Need-returns-3
 returns-3 c = simp (c .before .enum-told3 .given .1, c .need-put-np .ensures)
 
--- src/lib.rt:251:1
 returns-4 : tie.Need-returns-4
 returns-4 c = simp (c .before .enum-told4 .given .1, c .need-put-vwire .ensures)
 
--- src/lib.rt:251:1
 returns-5 : tie.Need-returns-5
 returns-5 c = search needs
 
--- src/lib.rt:251:1
 returns-6 : tie.Need-returns-6
 returns-6 c = search needs
 
--- src/lib.rt:251:1
 returns-7 : tie.Need-returns-7
 returns-7 c = search needs
 
--- src/lib.rt:251:1
 returns-8 : tie.Need-returns-8
 returns-8 c = search needs
 
--- src/lib.rt:251:1
 returns-9 : tie.Need-returns-9
 returns-9 c = search needs
 
--- src/lib.rt:251:1
 returns-10 : tie.Need-returns-10
 returns-10 c = simp (c .before .before .op .given .1, c .short-need .ensures)
 
--- src/lib.rt:251:1
 returns-11 : tie.Need-returns-11
 returns-11 c = search needs
 

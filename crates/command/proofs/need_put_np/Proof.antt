@@ -1,42 +1,31 @@
-use Rattle.base.specs.Pick.{taken, passed}
-use borrow.Author.Tests.{lt-ltb, le-ltb}
 use mathlib.Core.Path.{refl}
+use borrow.Author.Tests.{lt-ltb, le-ltb}
 use borrow.Author.Needs.{needs}
+use Rattle.base.specs.Pick.{taken, passed}
 use Rattle.command.proofs.need_put_np.Statement.{statement}
 use Rattle.command.proofs.need_put_np.Tie as tie
-use Rattle.command.proofs.need_put_np.Reads as reads
-use Rattle.command.proofs.need_put_np.Lts as lts
-use Rattle.command.proofs.address_bytes.Reads as address-bytes-reads
 
--- src/lib.rt:224:32
 cast-t6 : tie.Need-cast-t6
 cast-t6 c = search needs
 
--- src/lib.rt:224:27
 sub-t7 : tie.Need-sub-t7
 sub-t7 c = search needs
 
--- src/lib.rt:224:9
 returns : tie.Need-returns
 returns c = taken _ _ (lt-ltb _ _ (c .if1 .taken)) refl
 
--- src/lib.rt:226:27
 shared-slice-read-address-bytes : tie.Need-shared-slice-read-address-bytes
 shared-slice-read-address-bytes c = search needs
 
--- src/lib.rt:226:9
 address-bytes-requires : tie.Need-address-bytes-requires
 address-bytes-requires c κs = search needs
 
--- src/lib.rt:227:17
 add-t10 : tie.Need-add-t10
 add-t10 c = search needs
 
--- src/lib.rt:227:17
 add-t11 : tie.Need-add-t11
 add-t11 c = search needs
 
--- src/lib.rt:220:1
 returns-2 : tie.Need-returns-2
 returns-2 c = passed _ _ (le-ltb _ _ (c .before .before .if1 .left)) (simp (c .address-bytes .ensures .0))
 

@@ -1,59 +1,43 @@
-use Rattle.base.specs.Pick.{taken, passed}
-use borrow.Author.Tests.{lt-ltb, le-ltb}
 use mathlib.Core.Path.{refl}
+use borrow.Author.Tests.{lt-ltb, le-ltb}
 use borrow.Author.Needs.{needs}
+use Rattle.base.specs.Pick.{taken, passed}
 use Rattle.command.proofs.need_put_pc.Statement.{statement}
 use Rattle.command.proofs.need_put_pc.Tie as tie
-use Rattle.command.proofs.need_put_pc.Reads as reads
-use Rattle.command.proofs.need_put_pc.Lts as lts
-use Rattle.command.proofs.address_bytes.Reads as address-bytes-reads
-use Rattle.command.proofs.length_of.Reads as length-of-reads
 
--- src/lib.rt:213:32
 cast-t7 : tie.Need-cast-t7
 cast-t7 c = search needs
 
--- src/lib.rt:213:27
 sub-t8 : tie.Need-sub-t8
 sub-t8 c = search needs
 
--- src/lib.rt:213:9
 returns : tie.Need-returns
 returns c = taken _ _ (lt-ltb _ _ (c .if1 .taken)) refl
 
--- src/lib.rt:215:27
 shared-slice-read-address-bytes : tie.Need-shared-slice-read-address-bytes
 shared-slice-read-address-bytes c = search needs
 
--- src/lib.rt:215:9
 address-bytes-requires : tie.Need-address-bytes-requires
 address-bytes-requires c κs = search needs
 
--- src/lib.rt:216:23
 shared-slice-read-length-of : tie.Need-shared-slice-read-length-of
 shared-slice-read-length-of c = search needs
 
--- src/lib.rt:216:29
 shared-slice-read-length-of-2 : tie.Need-shared-slice-read-length-of-2
 shared-slice-read-length-of-2 c = search needs
 
--- src/lib.rt:216:9
 length-of-requires : tie.Need-length-of-requires
 length-of-requires c κs = search needs
 
--- src/lib.rt:217:17
 add-t14 : tie.Need-add-t14
 add-t14 c = search needs
 
--- src/lib.rt:217:17
 add-t15 : tie.Need-add-t15
 add-t15 c = search needs
 
--- src/lib.rt:217:17
 add-t16 : tie.Need-add-t16
 add-t16 c = search needs
 
--- src/lib.rt:209:1
 returns-2 : tie.Need-returns-2
 returns-2 c = passed _ _ (le-ltb _ _ (c .before .before .before .before .before .if1 .left)) (simp (c .before .before .before .address-bytes .ensures .0, c .length-of .ensures .0))
 

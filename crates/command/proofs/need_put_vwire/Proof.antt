@@ -1,46 +1,34 @@
-use Rattle.base.specs.Pick.{taken, passed}
-use borrow.Author.Tests.{lt-ltb, le-ltb}
 use mathlib.Core.Path.{refl}
+use borrow.Author.Tests.{lt-ltb, le-ltb}
 use borrow.Author.Needs.{needs}
+use Rattle.base.specs.Pick.{taken, passed}
 use Rattle.command.proofs.need_put_vwire.Statement.{statement}
 use Rattle.command.proofs.need_put_vwire.Tie as tie
-use Rattle.command.proofs.need_put_vwire.Reads as reads
-use Rattle.command.proofs.need_put_vwire.Lts as lts
-use Rattle.command.proofs.group_count.Reads as group-count-reads
 
--- src/lib.rt:234:32
 cast-t6 : tie.Need-cast-t6
 cast-t6 c = search needs
 
--- src/lib.rt:234:27
 sub-t7 : tie.Need-sub-t7
 sub-t7 c = search needs
 
--- src/lib.rt:234:9
 returns : tie.Need-returns
 returns c = taken _ _ (lt-ltb _ _ (c .if1 .taken)) refl
 
--- src/lib.rt:236:25
 shared-slice-read-group-count : tie.Need-shared-slice-read-group-count
 shared-slice-read-group-count c = search needs
 
--- src/lib.rt:236:9
 group-count-requires : tie.Need-group-count-requires
 group-count-requires c κs = search needs
 
--- src/lib.rt:237:21
 mul-t10 : tie.Need-mul-t10
 mul-t10 c = search needs
 
--- src/lib.rt:237:17
 add-t11 : tie.Need-add-t11
 add-t11 c = search needs
 
--- src/lib.rt:237:17
 add-t12 : tie.Need-add-t12
 add-t12 c = search needs
 
--- src/lib.rt:230:1
 returns-2 : tie.Need-returns-2
 returns-2 c = passed _ _ (le-ltb _ _ (c .before .before .if1 .left)) (simp (c .group-count .ensures .0))
 

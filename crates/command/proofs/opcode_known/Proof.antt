@@ -1,99 +1,73 @@
 use borrow.Author.Needs.{needs}
 use Rattle.command.proofs.opcode_known.Statement.{statement}
 use Rattle.command.proofs.opcode_known.Tie as tie
-use Rattle.command.proofs.opcode_known.Reads as reads
-use Rattle.command.proofs.opcode_known.Lts as lts
-use Rattle.command.proofs.all_ff.Reads as all-ff-reads
 
--- src/lib.rt:391:26
 enum-told : tie.Need-enum-told
 enum-told c = search needs
 
--- src/lib.rt:392:26
 enum-told-2 : tie.Need-enum-told-2
 enum-told-2 c = search needs
 
--- src/lib.rt:393:26
 enum-told-3 : tie.Need-enum-told-3
 enum-told-3 c = search needs
 
--- src/lib.rt:394:29
 enum-told-4 : tie.Need-enum-told-4
 enum-told-4 c = search needs
 
--- src/lib.rt:395:29
 enum-told-5 : tie.Need-enum-told-5
 enum-told-5 c = search needs
 
--- src/lib.rt:396:37
 enum-told-6 : tie.Need-enum-told-6
 enum-told-6 c = search needs
 
--- src/lib.rt:397:37
 enum-told-7 : tie.Need-enum-told-7
 enum-told-7 c = search needs
 
--- src/lib.rt:398:30
 enum-told-8 : tie.Need-enum-told-8
 enum-told-8 c = search needs
 
--- src/lib.rt:399:32
 enum-told-9 : tie.Need-enum-told-9
 enum-told-9 c = search needs
 
--- src/lib.rt:399:43
 all-ff-requires : tie.Need-all-ff-requires
 all-ff-requires c κs = search needs
 
--- src/lib.rt:400:32
 enum-told-10 : tie.Need-enum-told-10
 enum-told-10 c = search needs
 
--- src/lib.rt:401:28
 enum-told-11 : tie.Need-enum-told-11
 enum-told-11 c = search needs
 
--- src/lib.rt:387:1
 returns : tie.Need-returns
 returns c = search needs
 
--- src/lib.rt:387:1
 returns-2 : tie.Need-returns-2
 returns-2 c = search needs
 
--- src/lib.rt:387:1
 returns-3 : tie.Need-returns-3
 returns-3 c = search needs
 
--- src/lib.rt:387:1
 returns-4 : tie.Need-returns-4
 returns-4 c = search needs
 
--- src/lib.rt:387:1
 returns-5 : tie.Need-returns-5
 returns-5 c = search needs
 
--- src/lib.rt:387:1
 returns-6 : tie.Need-returns-6
 returns-6 c = search needs
 
--- src/lib.rt:387:1
 returns-7 : tie.Need-returns-7
 returns-7 c = search needs
 
--- src/lib.rt:387:1
 returns-8 : tie.Need-returns-8
 returns-8 c = search needs
 
--- src/lib.rt:387:1
 returns-9 : tie.Need-returns-9
 returns-9 c = simp (c .before .enum-told9 .given .1, c .all-ff .ensures)
 
--- src/lib.rt:387:1
 returns-10 : tie.Need-returns-10
 returns-10 c = search needs
 
--- src/lib.rt:387:1
 returns-11 : tie.Need-returns-11
 returns-11 c = search needs
 

@@ -1,97 +1,74 @@
-use Prim.Native.Nat.{_/_}
-use mathlib.Core.Path.{_≡_, sym, _∙_}
+use mathlib.Core.Path.{sym, _∙_}
 use native.Mathlib.Omega.{arith}
-use Rattle.command.specs.Laws.{no-single, middle, quad, short-none}
 use borrow.Author.Needs.{needs}
+use Rattle.command.specs.Laws.{no-single, middle, quad, short-none}
 use Rattle.command.proofs.opcode_of.Statement.{statement}
 use Rattle.command.proofs.opcode_of.Tie as tie
-use Rattle.command.proofs.opcode_of.Reads as reads
-use Rattle.command.proofs.opcode_of.Lts as lts
-use Rattle.command.proofs.short_of.Reads as short-of-reads
 
--- src/lib.rt:115:24
 short-of-requires : tie.Need-short-of-requires
 short-of-requires c κs = search needs
 
--- src/lib.rt:116:24
 short-of-requires-2 : tie.Need-short-of-requires-2
 short-of-requires-2 c κs = search needs
 
--- src/lib.rt:117:24
 short-of-requires-3 : tie.Need-short-of-requires-3
 short-of-requires-3 c κs = search needs
 
--- src/lib.rt:118:24
 short-of-requires-4 : tie.Need-short-of-requires-4
 short-of-requires-4 c κs = search needs
 
--- src/lib.rt:103:1
 returns : tie.Need-returns
 returns c = simp (c .match .keys1)
 
--- src/lib.rt:103:1
 returns-2 : tie.Need-returns-2
 returns-2 c = simp (c .match .keys2)
 
--- src/lib.rt:103:1
 returns-3 : tie.Need-returns-3
 returns-3 c = simp (c .match .keys3)
 
--- src/lib.rt:103:1
 returns-4 : tie.Need-returns-4
 returns-4 c = simp (c .match .keys4)
 
--- src/lib.rt:103:1
 returns-5 : tie.Need-returns-5
 returns-5 c = simp (c .match .keys5)
 
--- src/lib.rt:103:1
 returns-6 : tie.Need-returns-6
 returns-6 c = simp (c .match .keys6)
 
--- src/lib.rt:103:1
 returns-7 : tie.Need-returns-7
 returns-7 c = simp (c .match .keys7)
 
--- src/lib.rt:103:1
 returns-8 : tie.Need-returns-8
 returns-8 c = simp (c .match .keys8)
 
--- src/lib.rt:103:1
 returns-9 : tie.Need-returns-9
 returns-9 c = simp (c .match .keys9)
 
--- src/lib.rt:103:1
 returns-10 : tie.Need-returns-10
 returns-10 c =
     let op = c .before .before .before .before .args .op in
     c .short-of .ensures ∙ sym (middle op (omega arith) (omega arith) ∙ simp (quad 0x10 op (omega arith) (omega arith)))
 
--- src/lib.rt:103:1
 returns-11 : tie.Need-returns-11
 returns-11 c =
     let op = c .before .before .before .before .before .args .op in
     c .short-of2 .ensures ∙ sym (middle op (omega arith) (omega arith) ∙ simp (quad 0x11 op (omega arith) (omega arith)))
 
--- src/lib.rt:103:1
 returns-12 : tie.Need-returns-12
 returns-12 c =
     let op = c .before .before .before .before .before .before .args .op in
     c .short-of3 .ensures ∙ sym (middle op (omega arith) (omega arith) ∙ simp (quad 0x12 op (omega arith) (omega arith)))
 
--- src/lib.rt:103:1
 returns-13 : tie.Need-returns-13
 returns-13 c =
     let op = c .before .before .before .before .before .before .before .args .op in
     c .short-of4 .ensures ∙ sym (middle op (omega arith) (omega arith) ∙ simp (quad 0x13 op (omega arith) (omega arith)))
 
--- src/lib.rt:103:1
 returns-14 : tie.Need-returns-14
 returns-14 c =
     let op = c .before .before .args .op in
     sym (no-single op (c .before .match .rest) ∙ short-none op (λ e. omega arith) (λ e. omega arith) (λ e. omega arith) (λ e. omega arith))
 
--- src/lib.rt:103:1
 returns-15 : tie.Need-returns-15
 returns-15 c =
     let op = c .before .before .before .before .before .before .args .op in
