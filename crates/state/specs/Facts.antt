@@ -12,9 +12,10 @@ use Rattle.registers.specs.Registers.{on0, on1, payloadLegal, readLegal, reacha
 use Rattle.wires.specs.Groups.{soundWires}
 use Rattle.pieces.specs.Pieces.{nextSize}
 use Rattle.pieces.specs.Edges.{next-le, next-pos, next-ok}
+use Rattle.state.specs.Fresh.{freshState, dropped}
 use Rattle.state.specs.Upward.{nextOf, handed, afterPiece, afterSuccess}
 use Rattle.state.specs.Status.{pcFree, npFree}
-use Rattle.state.specs.Sound.{within, shortSize, ioMade, madeAs, requestMade, writeMade, sentRight, soundRequest, soundWrite, nothingHeld, soundPeripheral, sound, fitsRequest, fitsWrite, fitsConfig, fitsPeripheral, fits}
+use Rattle.state.specs.Sound.{within, shortSize, ioMade, madeAs, requestMade, sentRight, soundRequest, soundWrite, nothingHeld, soundPeripheral, sound, fitsRequest, fitsWrite, fitsConfig, fitsPeripheral, fits, Sound}
 use Rattle.state.specs.declared.Kind.{Kind}
 use Rattle.state.specs.declared.Kind.the-variants.{MemoryRead, IoRead, IoWrite}
 use Rattle.state.specs.declared.Request.{Request}
@@ -388,6 +389,17 @@ fit-made s p =
     and-true
     (and-true (lt-ltb _ _ (p .r008)) (and-true (lt-ltb _ _ (p .r010)) (lt-ltb _ _ (p .r020))))
     (and-true (and-true (p .request) (and-true (p .write) (lt-ltb _ _ (p .serial)))) (and-true (eq-eqb _ _ (p .level)) (eq-eqb _ _ (p .pending))))
+
+-- ---- the fresh state, and a queue that was dropped
+
+pub fresh-sound : Sound freshState
+unfolding sound fits soundRequest soundWrite
+fresh-sound = record { isSound = refl; isFit = refl }
+
+pub dropped-sound : (p : Peripheral) (on : Bool) → soundPeripheral on (dropped p) ≡ true
+unfolding soundRequest soundWrite
+dropped-sound p true = refl
+dropped-sound p false = refl
 
 -- ---- what is held once a completion is handed over is sound, and fits
 

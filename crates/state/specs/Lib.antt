@@ -4,3 +4,7 @@ pub mod Status
 pub mod Sound
 pub mod Layout
 pub mod Facts
+pub mod Coded
+pub mod Round
+pub mod Bounds
+pub mod Packing

@@ -12,6 +12,8 @@ use Rattle.state.specs.declared.Request.{Request}
 use Rattle.state.specs.declared.Np.{Np}
 use Rattle.state.specs.declared.Np.the-variants.{Free, Waiting, Ready, Failed}
 use Rattle.state.specs.declared.Completion.{Completion}
+use Rattle.state.specs.declared.Next.{Next}
+use Rattle.state.specs.declared.Next.the-variants.{Nothing, One}
 
 -- the next piece of a read, when `sent` bytes have gone
 abbrev pub nextOf : Request → ℕ → ℕ
@@ -35,6 +37,11 @@ upward Free = []
 upward (Waiting q) = []
 upward (Ready q sent) = successOf (q .kind) q sent ∷ []
 upward (Failed q) = bare 0x0E q ∷ []
+
+-- the head of that list, as a value
+abbrev pub firstOf : List Completion → Next
+firstOf [] = Nothing
+firstOf (c ∷ cs) = One c
 
 -- what is held once it is handed over: "until its last completion is sent"
 abbrev pub afterPiece : Request → ℕ → Np
