@@ -241,6 +241,9 @@ tells on b =
     pick-ind (DecodeTells on b op) (eqb (length b) 0) (λ _. (omega arith, omega arith))
     (λ e. let z : length b ≡ 0 → ⊥ = eqb-false _ _ e in tells-as on b op (omega arith))
 
+pub decode-decodes : (on : Channels) (b : List ℕ) (c : Command) → decode on b ≡ Known c → Decodes on b (opcodeOf (getD b 0 0)) c
+decode-decodes on b c e = subst (DecodeTells on b (opcodeOf (getD b 0 0))) e (tells on b)
+
 -- the same with the CRC check
 abbrev AdmitTells : Channels → Bool → List ℕ → Decoded → Type 0
 AdmitTells on checked b (Known c) = Decodes on b (opcodeOf (getD b 0 0)) c × (checked ≡ true → hasCrc c ≡ true → crcGood b ≡ true)

@@ -5,14 +5,14 @@ use mathlib.Core.List.{List, [], _∷_}
 use mathlib.Core.Path.{_≡_, refl, sym, ap, subst, _∙_}
 use native.Mathlib.Omega.{arith}
 use native.Mathlib.Numerals.{add-one}
-use borrow.Author.Tests.{ltb-false, eqb-true, eqb-false, eq-eqb, ne-eqb}
-use lib.Dec.{T, eqb, ltb}
+use borrow.Author.Tests.{ltb-false, eqb-true, eq-eqb, ne-eqb}
+use lib.Dec.{T, ltb}
 use lib.ListN.{length, getD, drop}
 use lib.Seq.{drop-cons}
 use Rattle.base.specs.Pick.{pick, pick-ind}
 use Rattle.command.specs.Opcode.{shortOpcode, opcodeOf}
 use Rattle.command.specs.Needs.{headed, shortNeed, lengthRight}
-use Rattle.command.specs.Decode.{allFF, decodeAs, decode, hasCrc, crcGood, checkedBy, admit}
+use Rattle.command.specs.Decode.{allFF, decode, hasCrc, crcGood, checkedBy, admit}
 use Rattle.command.specs.declared.Access.{Access}
 use Rattle.command.specs.declared.Access.the-variants.{IoRead, IoWrite, MemoryRead, MemoryWrite}
 use Rattle.command.specs.declared.Opcode.the-variants as O
@@ -57,8 +57,14 @@ middle op l h =
 pub quad : (q op : ℕ) → q * 4 ≤ op → op ≤ q * 4 + 3 → op / 4 ≡ q
 quad q op l h = omega arith
 
-pub short-none : (op : ℕ) → (op / 4 ≡ 0x10 → ⊥) → (op / 4 ≡ 0x11 → ⊥) → (op / 4 ≡ 0x12 → ⊥) → (op / 4 ≡ 0x13 → ⊥) → shortOpcode op ≡ O.Unknown
+short-none : (op : ℕ) → (op / 4 ≡ 0x10 → ⊥) → (op / 4 ≡ 0x11 → ⊥) → (op / 4 ≡ 0x12 → ⊥) → (op / 4 ≡ 0x13 → ⊥) → shortOpcode op ≡ O.Unknown
 short-none op h0 h1 h2 h3 = simp (ne-eqb (op / 4) 0x10 h0, ne-eqb (op / 4) 0x11 h1, ne-eqb (op / 4) 0x12 h2, ne-eqb (op / 4) 0x13 h3)
+
+pub short-below : (op : ℕ) → op < 0x40 → shortOpcode op ≡ O.Unknown
+short-below op h = short-none op (λ e. omega arith) (λ e. omega arith) (λ e. omega arith) (λ e. omega arith)
+
+pub short-above : (op : ℕ) → 0x4F < op → shortOpcode op ≡ O.Unknown
+short-above op h = short-none op (λ e. omega arith) (λ e. omega arith) (λ e. omega arith) (λ e. omega arith)
 
 -- ---- lengths
 
@@ -94,14 +100,6 @@ unfolding allFF
 allFF-stop b i h e = rw (drop-cons b i 0, ne-eqb (getD b i 0) 0xFF e)
 
 -- ---- the decoder and the CRC check
-
-pub decode-some : (on : Channels) (b : List ℕ) (d : Decoded) (c : Command) → d ≡ decode on b → d ≡ Known c → 1 ≤ length b
-unfolding decode
-decode-some on b d c e k =
-    pick-ind (λ (x : Decoded). x ≡ Known c → 1 ≤ length b) (eqb (length b) 0) {x = Refused 12} {y = decodeAs on b (opcodeOf (getD b 0 0))}
-    (λ _ r. let z : _≡_ {A = ℕ} 0 1 = cc in absurd (omega arith))
-    (λ n _. let h : length b ≡ 0 → ⊥ = eqb-false (length b) 0 n in omega arith)
-    (sym e ∙ k)
 
 pub admit-silent : (on : Channels) (checked : Bool) (b : List ℕ) (d : Decoded) (n : ℕ) → d ≡ decode on b → d ≡ Refused n → d ≡ admit on checked b
 unfolding admit

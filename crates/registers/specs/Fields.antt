@@ -39,7 +39,7 @@ masked-fits old val mask ho hv =
 pub bit-zero : (v : ℕ) → bits 0 0 v ≡ v % 2
 bit-zero v = ap (λ (x : ℕ). x % 2) (div-one v)
 
--- ---- a register that is written: each of its fields (P10)
+-- ---- a register that is written: each of its fields
 
 -- through the ready bit's own write, which touches bit 1 alone
 module _ (old val mask k n : ℕ) (z : field 2 k n ≡ 0) (o : field (2 ^ 32 - 1 - 2) k n ≡ 2 ^ n - 1) where

@@ -3,8 +3,9 @@ pub mod Upward
 pub mod Status
 pub mod Sound
 pub mod Layout
+pub mod Groups
 pub mod Facts
-pub mod Coded
 pub mod Round
+pub mod Coded
 pub mod Bounds
 pub mod Packing

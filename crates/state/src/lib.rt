@@ -1,14 +1,21 @@
 // The state: configuration, peripheral channel, wires. A status bit is computed from the queue, never stored beside it.
 use registers::Config;
+use registers::Reg008;
+use registers::Reg010;
+use registers::Reg020;
 use wires::Wires;
 ghost use mathlib.Core.Path.{_≡_};
-ghost use mathlib.Core.Bool.{Bool, true};
+ghost use mathlib.Core.Bool.{Bool, true, _&&_};
 ghost use Prim.Native.Nat.{ℕ, _+_, _*_, _^_, _≤_, _<_};
 ghost use lib.ListN.{length};
+ghost use Rattle.base.specs.Bytes.{over};
 ghost use Rattle.state.specs.Fresh.{idle, freshState, dropped};
 ghost use Rattle.state.specs.Status.{pcFree, npFree, pcAvail, bit, status};
 ghost use Rattle.state.specs.Upward.{bare, pieceOf, successOf, upward, firstOf, afterPiece, afterSuccess, handed};
-ghost use Rattle.state.specs.Sound.{within, shortSize, ioMade, madeAs, requestMade, writeMade, soundRequest};
+ghost use Rattle.state.specs.Sound.{within, shortSize, ioMade, madeAs, requestMade, writeMade, sentRight, soundRequest, soundWrite, soundPeripheral, sound};
+ghost use Rattle.state.specs.Layout.{stateLength, configBytes, writeBytes, kindByte, requestBytes, npBytes, packed, configIn, postedIn, writeOf, kindOf, requestIn, npOf, wiresIn, peripheralIn, unpacked, loaded};
+ghost use Rattle.state.specs.Groups.{numberBytes, levelBytes, markBytes};
+ghost use Rattle.state.specs.declared.Write.the-variants.{Held};
 ghost use Rattle.state.specs.declared.Kind.the-variants.{MemoryRead, IoRead, IoWrite};
 ghost use Rattle.registers.specs.Registers.{payloadLegal, readLegal};
 ghost use lib.Dec.{ltb};
@@ -292,15 +299,13 @@ fn read_legal(p: u32) -> bool
     ensures { λ r. ⌜ r ≡ readLegal p ⌝ }
 {
     (p == 64)
-        | ((p == 128)
-            | ((p == 256) | ((p == 512) | ((p == 1024) | ((p == 2048) | (p == 4096))))))
+        | ((p == 128) | ((p == 256) | ((p == 512) | ((p == 1024) | ((p == 2048) | (p == 4096))))))
 }
 
 fn io_made(q: Request) -> bool
     ensures { λ r. ⌜ r ≡ ioMade q ⌝ }
 {
-    (q.tag == 0)
-        & ((q.address < 65536) & ((q.length == 1) | ((q.length == 2) | (q.length == 4))))
+    (q.tag == 0) & ((q.address < 65536) & ((q.length == 1) | ((q.length == 2) | (q.length == 4))))
 }
 
 // An I/O write's bytes are as many as its length.
@@ -321,8 +326,7 @@ fn memory_read_made(q: Request) -> bool
     requires { ⌜ 1 ≤ q .readsize ⌝ }
     ensures { λ r. ⌜ r ≡ madeAs MemoryRead q ⌝ }
 {
-    (1 <= q.length)
-        & (within(q.address, q.length, q.readsize) & ((q.tag < 16) & (q.bytes == 0)))
+    (1 <= q.length) & (within(q.address, q.length, q.readsize) & ((q.tag < 16) & (q.bytes == 0)))
 }
 
 fn io_read_made(q: Request) -> bool
@@ -373,4 +377,385 @@ fn write_made(w: Posted) -> bool
         return false;
     }
     (1 <= w.length) & within(w.address, w.length, w.payload)
+}
+
+// "end at a piece's edge, short of the whole"
+fn at_edge(q: Request, sent: u32) -> bool
+    requires { ⌜ 1 ≤ q .payload ⌝ }
+    ensures { λ r. ⌜ r ≡ sentRight MemoryRead q sent ⌝ }
+{
+    let p = q.payload as u64;
+    (sent < q.length) & ((sent == 0) | ((q.address % p + (sent as u64)) % p == 0))
+}
+
+fn sent_right(q: Request, sent: u32) -> bool
+    requires { ⌜ 1 ≤ q .payload ⌝ }
+    ensures { λ r. ⌜ r ≡ sentRight (q .kind) q sent ⌝ }
+{
+    let k = q.kind;
+    match k {
+        Kind::MemoryRead => at_edge(q, sent),
+        Kind::IoRead => at_edge(q, sent),
+        Kind::IoWrite => sent == 0,
+    }
+}
+
+fn ready_made(q: Request, sent: u32) -> bool
+    ensures { λ r. ⌜ r ≡ (requestMade q && sentRight (q .kind) q sent) ⌝ }
+{
+    if !request_made(q) {
+        return false;
+    }
+    sent_right(q, sent)
+}
+
+fn sound_request(n: Np) -> bool
+    ensures { λ r. ⌜ r ≡ soundRequest n ⌝ }
+{
+    match n {
+        Np::Free => true,
+        Np::Waiting(q) => request_made(q),
+        Np::Ready(q, sent) => ready_made(q, sent),
+        Np::Failed(q) => request_made(q),
+    }
+}
+
+fn sound_write(w: Write) -> bool
+    ensures { λ r. ⌜ r ≡ soundWrite w ⌝ }
+{
+    match w {
+        Write::Empty => true,
+        Write::Held(p) => write_made(p),
+    }
+}
+
+impl Peripheral {
+    fn sound(self, on: bool) -> bool
+        ensures { λ r. ⌜ r ≡ soundPeripheral on self ⌝ }
+    {
+        let w = self.write;
+        let n = self.request;
+        (on | (pc_free(w) & np_free(n))) & (sound_request(n) & sound_write(w))
+    }
+}
+
+impl State {
+    fn sound(self) -> bool
+        ensures { λ r. ⌜ r ≡ sound self ⌝ }
+    {
+        let c = self.config;
+        let p = self.peripheral;
+        let w = self.wires;
+        c.reachable() & (p.sound(c.r010.on()) & w.sound(c.r020.on()))
+    }
+}
+
+// ---- packing (docs/STATE.md)
+
+fn config_bytes(c: Config) -> [u8; 12]
+    ensures { λ r. ⌜ r ≡ configBytes c ⌝ }
+{
+    let a = c.r008.value;
+    let b = c.r010.value;
+    let d = c.r020.value;
+    [
+        (a % 256) as u8,
+        (a / 256 % 256) as u8,
+        (a / 65536 % 256) as u8,
+        (a / 16777216 % 256) as u8,
+        (b % 256) as u8,
+        (b / 256 % 256) as u8,
+        (b / 65536 % 256) as u8,
+        (b / 16777216 % 256) as u8,
+        (d % 256) as u8,
+        (d / 256 % 256) as u8,
+        (d / 65536 % 256) as u8,
+        (d / 16777216 % 256) as u8,
+    ]
+}
+
+fn posted_bytes(w: Posted) -> [u8; 17]
+    ensures { λ r. ⌜ r ≡ writeBytes (Held w) ⌝ }
+{
+    [
+        1,
+        (w.address % 256) as u8,
+        (w.address / 256 % 256) as u8,
+        (w.address / 65536 % 256) as u8,
+        (w.address / 16777216 % 256) as u8,
+        (w.address / 4294967296 % 256) as u8,
+        (w.address / 1099511627776 % 256) as u8,
+        (w.address / 281474976710656 % 256) as u8,
+        (w.address / 72057594037927936 % 256) as u8,
+        (w.length % 256) as u8,
+        (w.length / 256 % 256) as u8,
+        (w.length / 65536 % 256) as u8,
+        (w.length / 16777216 % 256) as u8,
+        (w.payload % 256) as u8,
+        (w.payload / 256 % 256) as u8,
+        (w.payload / 65536 % 256) as u8,
+        (w.payload / 16777216 % 256) as u8,
+    ]
+}
+
+fn write_bytes(w: Write) -> [u8; 17]
+    ensures { λ r. ⌜ r ≡ writeBytes w ⌝ }
+{
+    match w {
+        Write::Empty => [0; 17],
+        Write::Held(p) => posted_bytes(p),
+    }
+}
+
+fn kind_byte(k: Kind) -> u8
+    ensures { λ r. ⌜ r ≡ kindByte k ⌝ }
+{
+    match k {
+        Kind::MemoryRead => 0,
+        Kind::IoRead => 1,
+        Kind::IoWrite => 2,
+    }
+}
+
+fn number_bytes(phase: u8, kind: u8, q: Request, sent: u32) -> [u8; 31]
+    ensures { λ r. ⌜ r ≡ numberBytes phase kind q sent ⌝ }
+{
+    [
+        phase,
+        kind,
+        q.tag,
+        (q.address % 256) as u8,
+        (q.address / 256 % 256) as u8,
+        (q.address / 65536 % 256) as u8,
+        (q.address / 16777216 % 256) as u8,
+        (q.address / 4294967296 % 256) as u8,
+        (q.address / 1099511627776 % 256) as u8,
+        (q.address / 281474976710656 % 256) as u8,
+        (q.address / 72057594037927936 % 256) as u8,
+        (q.length % 256) as u8,
+        (q.length / 256 % 256) as u8,
+        (q.length / 65536 % 256) as u8,
+        (q.length / 16777216 % 256) as u8,
+        (q.payload % 256) as u8,
+        (q.payload / 256 % 256) as u8,
+        (q.payload / 65536 % 256) as u8,
+        (q.payload / 16777216 % 256) as u8,
+        (q.readsize % 256) as u8,
+        (q.readsize / 256 % 256) as u8,
+        (q.readsize / 65536 % 256) as u8,
+        (q.readsize / 16777216 % 256) as u8,
+        (q.bytes % 256) as u8,
+        (q.bytes / 256 % 256) as u8,
+        (q.bytes / 65536 % 256) as u8,
+        (q.bytes / 16777216 % 256) as u8,
+        (sent % 256) as u8,
+        (sent / 256 % 256) as u8,
+        (sent / 65536 % 256) as u8,
+        (sent / 16777216 % 256) as u8,
+    ]
+}
+
+fn request_bytes(phase: u8, q: Request, sent: u32) -> [u8; 31]
+    ensures { λ r. ⌜ r ≡ requestBytes phase q sent ⌝ }
+{
+    let k = q.kind;
+    number_bytes(phase, kind_byte(k), q, sent)
+}
+
+fn np_bytes(n: Np) -> [u8; 31]
+    ensures { λ r. ⌜ r ≡ npBytes n ⌝ }
+{
+    match n {
+        Np::Free => [0; 31],
+        Np::Waiting(q) => request_bytes(1, q, 0),
+        Np::Ready(q, sent) => request_bytes(2, q, sent),
+        Np::Failed(q) => request_bytes(3, q, 0),
+    }
+}
+
+fn level_bytes(serial: u32, w: Wires) -> [u8; 10]
+    ensures { λ r. ⌜ r ≡ levelBytes serial w ⌝ }
+{
+    [
+        (serial % 256) as u8,
+        (serial / 256 % 256) as u8,
+        (serial / 65536 % 256) as u8,
+        (serial / 16777216 % 256) as u8,
+        w.level[0],
+        w.level[1],
+        w.level[2],
+        w.level[3],
+        w.level[4],
+        w.level[5],
+    ]
+}
+
+fn mark_bytes(w: Wires) -> [u8; 7]
+    ensures { λ r. ⌜ r ≡ markBytes w ⌝ }
+{
+    [
+        w.pending[0] as u8,
+        w.pending[1] as u8,
+        w.pending[2] as u8,
+        w.pending[3] as u8,
+        w.pending[4] as u8,
+        w.pending[5] as u8,
+        w.place,
+    ]
+}
+
+// The state's 77 bytes at the start of `dst`; what is past them stays.
+pub fn pack(s: State, dst: &mut [u8])
+    requires { ⌜ stateLength ≤ length (now dst) ⌝ }
+    ensures { λ _. ⌜ now (dst .exit) ≡ over (packed s) (now (dst .entry)) ⌝ }
+{
+    let p = s.peripheral;
+    let held = p.write;
+    let np = p.request;
+    let w = s.wires;
+    let config = config_bytes(s.config);
+    let write = write_bytes(held);
+    let request = np_bytes(np);
+    let levels = level_bytes(p.serial, w);
+    let marks = mark_bytes(w);
+    base::put_at(dst, 0, &config);
+    base::put_at(dst, 12, &write);
+    base::put_at(dst, 29, &request);
+    base::put_at(dst, 60, &levels);
+    base::put_at(dst, 70, &marks);
+}
+
+fn config_in(b: &[u8]) -> Config
+    requires { ⌜ stateLength ≤ length (now b) ⌝ }
+    ensures { λ r. ⌜ r ≡ configIn (now (b .entry)) ⌝ }
+{
+    let r008 = Reg008 {
+        value: base::get4(b, 0),
+    };
+    let r010 = Reg010 {
+        value: base::get4(b, 4),
+    };
+    let r020 = Reg020 {
+        value: base::get4(b, 8),
+    };
+    Config { r008, r010, r020 }
+}
+
+fn posted_in(b: &[u8]) -> Posted
+    requires { ⌜ stateLength ≤ length (now b) ⌝ }
+    ensures { λ r. ⌜ r ≡ postedIn (now (b .entry)) ⌝ }
+{
+    Posted {
+        address: base::get8(b, 13),
+        length: base::get4(b, 21),
+        payload: base::get4(b, 25),
+    }
+}
+
+fn write_of(n: u8, w: Posted) -> Write
+    ensures { λ r. ⌜ r ≡ writeOf n w ⌝ }
+{
+    match n {
+        0 => Write::Empty,
+        _ => Write::Held(w),
+    }
+}
+
+fn kind_of(n: u8) -> Kind
+    ensures { λ r. ⌜ r ≡ kindOf n ⌝ }
+{
+    match n {
+        0 => Kind::MemoryRead,
+        1 => Kind::IoRead,
+        _ => Kind::IoWrite,
+    }
+}
+
+fn request_in(b: &[u8]) -> Request
+    requires { ⌜ stateLength ≤ length (now b) ⌝ }
+    ensures { λ r. ⌜ r ≡ requestIn (now (b .entry)) ⌝ }
+{
+    let kind = kind_of(b[30]);
+    Request {
+        kind,
+        address: base::get8(b, 32),
+        length: base::get4(b, 40),
+        tag: b[31],
+        payload: base::get4(b, 44),
+        readsize: base::get4(b, 48),
+        bytes: base::get4(b, 52),
+    }
+}
+
+fn np_of(n: u8, q: Request, sent: u32) -> Np
+    ensures { λ r. ⌜ r ≡ npOf n q sent ⌝ }
+{
+    match n {
+        0 => Np::Free,
+        1 => Np::Waiting(q),
+        2 => Np::Ready(q, sent),
+        _ => Np::Failed(q),
+    }
+}
+
+fn peripheral_in(b: &[u8]) -> Peripheral
+    requires { ⌜ stateLength ≤ length (now b) ⌝ }
+    ensures { λ r. ⌜ r ≡ peripheralIn (now (b .entry)) ⌝ }
+{
+    let write = write_of(b[12], posted_in(b));
+    let request = np_of(b[29], request_in(b), base::get4(b, 56));
+    Peripheral {
+        write,
+        request,
+        serial: base::get4(b, 60),
+    }
+}
+
+fn wires_in(b: &[u8]) -> Wires
+    requires { ⌜ stateLength ≤ length (now b) ⌝ }
+    ensures { λ r. ⌜ r ≡ wiresIn (now (b .entry)) ⌝ }
+{
+    Wires {
+        level: [b[64], b[65], b[66], b[67], b[68], b[69]],
+        pending: [
+            b[70] == 1,
+            b[71] == 1,
+            b[72] == 1,
+            b[73] == 1,
+            b[74] == 1,
+            b[75] == 1,
+        ],
+        place: b[76],
+    }
+}
+
+// The state whose bytes stand at the start of `b`, sound or not.
+fn unpack(b: &[u8]) -> State
+    requires { ⌜ stateLength ≤ length (now b) ⌝ }
+    ensures { λ r. ⌜ r ≡ unpacked (now (b .entry)) ⌝ }
+{
+    let config = config_in(b);
+    let peripheral = peripheral_in(b);
+    let wires = wires_in(b);
+    State {
+        config,
+        peripheral,
+        wires,
+    }
+}
+
+// The state that the bytes pack, and whether they pack a sound one: it is packed again and compared.
+pub fn load(b: &[u8]) -> Loaded
+    requires { ⌜ stateLength ≤ length (now b) ⌝ }
+    ensures { λ r. ⌜ r ≡ loaded (now (b .entry)) ⌝ }
+{
+    let state = unpack(b);
+    let sound = state.sound();
+    let mut again: [u8; 77] = [0; 77];
+    pack(state, &mut again);
+    let same = base::same(&again, b, 77);
+    Loaded {
+        ok: sound & same,
+        state,
+    }
 }

@@ -1,7 +1,8 @@
-use mathlib.Core.Path.{refl}
+use mathlib.Core.Path.{refl, sym, _∙_}
 use borrow.Author.Needs.{needs}
 use Rattle.base.specs.Pick.{taken, passed}
-use Rattle.command.specs.Laws.{decode-some, admit-silent, admit-known}
+use Rattle.command.specs.Laws.{admit-silent, admit-known}
+use Rattle.command.specs.Facts.{decode-decodes}
 use Rattle.command.proofs.admit.Statement.{statement}
 use Rattle.command.proofs.admit.Tie as tie
 
@@ -22,7 +23,7 @@ returns c =
 crc-wrong-requires : tie.Need-crc-wrong-requires
 crc-wrong-requires c κs =
     let a = c .before .before .before .before .before .args in
-    decode-some (a .on) (a .b .now) _ _ (c .before .before .before .decode .ensures) (c .before .d .given .1)
+    decode-decodes (a .on) (a .b .now) _ (sym (c .before .before .before .decode .ensures) ∙ c .before .d .given .1) .some
 
 returns-2 : tie.Need-returns-2
 returns-2 c =

@@ -1,7 +1,7 @@
 use mathlib.Core.Path.{sym, _∙_}
 use native.Mathlib.Omega.{arith}
 use borrow.Author.Needs.{needs}
-use Rattle.command.specs.Laws.{no-single, middle, quad, short-none}
+use Rattle.command.specs.Laws.{no-single, middle, quad, short-below, short-above}
 use Rattle.command.proofs.opcode_of.Statement.{statement}
 use Rattle.command.proofs.opcode_of.Tie as tie
 
@@ -67,12 +67,12 @@ returns-13 c =
 returns-14 : tie.Need-returns-14
 returns-14 c =
     let op = c .before .before .args .op in
-    sym (no-single op (c .before .match .rest) ∙ short-none op (λ e. omega arith) (λ e. omega arith) (λ e. omega arith) (λ e. omega arith))
+    sym (no-single op (c .before .match .rest) ∙ short-below op (c .if1 .taken))
 
 returns-15 : tie.Need-returns-15
 returns-15 c =
     let op = c .before .before .before .before .before .before .args .op in
-    sym (no-single op (c .before .before .before .before .before .match .rest) ∙ short-none op (λ e. omega arith) (λ e. omega arith) (λ e. omega arith) (λ e. omega arith))
+    sym (no-single op (c .before .before .before .before .before .match .rest) ∙ short-above op (c .if5 .left))
 
 pub opcode-of-spec : {M : Type 1} → statement M
 opcode-of-spec =

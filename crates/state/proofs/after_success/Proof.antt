@@ -4,39 +4,28 @@ use Rattle.state.specs.declared.Kind.{Kind}
 use borrow.Author.Needs.{needs}
 use Rattle.state.proofs.after_success.Statement.{statement}
 use Rattle.state.proofs.after_success.Tie as tie
-use Rattle.state.proofs.after_success.Reads as reads
-use Rattle.state.proofs.after_success.Lts as lts
-use Rattle.state.proofs.after_piece.Reads as after-piece-reads
 
--- src/lib.rt:261:29
 enum-told : tie.Need-enum-told
 enum-told c = search needs
 
--- src/lib.rt:261:29
 after-piece-requires : tie.Need-after-piece-requires
 after-piece-requires c κs = search needs
 
--- src/lib.rt:262:25
 enum-told-2 : tie.Need-enum-told-2
 enum-told-2 c = search needs
 
--- src/lib.rt:262:25
 after-piece-requires-2 : tie.Need-after-piece-requires-2
 after-piece-requires-2 c κs = search needs
 
--- src/lib.rt:263:26
 enum-told-3 : tie.Need-enum-told-3
 enum-told-3 c = search needs
 
--- src/lib.rt:255:1
 returns : tie.Need-returns
 returns c = c .after-piece .ensures ∙ ap (λ (k : Kind). afterSuccess k (c .before .before .before .args .q) (c .before .before .before .args .sent)) (sym (c .before .enum-told .given .1))
 
--- src/lib.rt:255:1
 returns-2 : tie.Need-returns-2
 returns-2 c = c .after-piece2 .ensures ∙ ap (λ (k : Kind). afterSuccess k (c .before .before .before .args .q) (c .before .before .before .args .sent)) (sym (c .before .enum-told2 .given .1))
 
--- src/lib.rt:255:1
 returns-3 : tie.Need-returns-3
 returns-3 c = search needs
 

@@ -1,22 +1,17 @@
 use Prim.Native.Nat.{_^_}
-use mathlib.Core.Path.{ap, sym, _∙_}
+use mathlib.Core.Path.{sym}
 use native.Mathlib.Omega.{arith}
 use borrow.Author.Tests.{lt-ltb}
 use Rattle.state.specs.Coded.{four-left}
 use Rattle.state.proofs.bytes_fit.Statement.{statement}
 use Rattle.state.proofs.bytes_fit.Tie as tie
-use Rattle.state.proofs.bytes_fit.Reads as reads
-use Rattle.state.proofs.bytes_fit.Lts as lts
 
--- src/lib.rt:312:9
 returns : tie.Need-returns
 returns c = rw (c .if1 .taken)
 
--- src/lib.rt:315:9
 returns-2 : tie.Need-returns-2
 returns-2 c = rw (c .if2 .taken)
 
--- src/lib.rt:307:1
 returns-3 : tie.Need-returns-3
 returns-3 c = rw (four-left (c .before .before .args .length) (c .before .before .pre) (c .before .if1 .left) (c .if2 .left)) (sym (lt-ltb (c .before .before .args .bytes) (2 ^ 32) (omega arith)))
 

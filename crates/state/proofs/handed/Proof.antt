@@ -4,46 +4,34 @@ use Rattle.state.specs.Coded.{piece-facts}
 use borrow.Author.Needs.{needs}
 use Rattle.state.proofs.handed.Statement.{statement}
 use Rattle.state.proofs.handed.Tie as tie
-use Rattle.state.proofs.handed.Reads as reads
-use Rattle.state.proofs.handed.Lts as lts
-use Rattle.state.proofs.after_success.Reads as after-success-reads
 
--- src/lib.rt:273:21
 enum-told : tie.Need-enum-told
 enum-told c = search needs
 
--- src/lib.rt:274:27
 enum-told-2 : tie.Need-enum-told-2
 enum-told-2 c = search needs
 
--- src/lib.rt:275:19
 enum-known-n : tie.Need-enum-known-n
 enum-known-n c = search needs
 
--- src/lib.rt:275:31
 after-success-requires : tie.Need-after-success-requires
 after-success-requires c κs = piece-facts (c .before .before .before .args .n) (c .before .n .given .0 .0) (c .before .n .given .0 .1 .0) (c .before .before .before .pre) (c .before .n .given .1)
 
--- src/lib.rt:276:26
 enum-told-3 : tie.Need-enum-told-3
 enum-told-3 c = search needs
 
--- src/lib.rt:268:1
 returns : tie.Need-returns
 unfolding handed
 returns c = cc
 
--- src/lib.rt:268:1
 returns-2 : tie.Need-returns-2
 unfolding handed
 returns-2 c = cc
 
--- src/lib.rt:268:1
 returns-3 : tie.Need-returns-3
 unfolding handed
 returns-3 c = c .after-success .ensures ∙ ap handed (sym (c .before .before .n .given .1))
 
--- src/lib.rt:268:1
 returns-4 : tie.Need-returns-4
 unfolding handed
 returns-4 c = cc

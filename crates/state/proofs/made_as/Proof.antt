@@ -4,45 +4,31 @@ use Rattle.state.specs.declared.Kind.{Kind}
 use borrow.Author.Needs.{needs}
 use Rattle.state.proofs.made_as.Statement.{statement}
 use Rattle.state.proofs.made_as.Tie as tie
-use Rattle.state.proofs.made_as.Reads as reads
-use Rattle.state.proofs.made_as.Lts as lts
-use Rattle.state.proofs.io_read_made.Reads as io-read-made-reads
-use Rattle.state.proofs.io_write_made.Reads as io-write-made-reads
-use Rattle.state.proofs.memory_read_made.Reads as memory-read-made-reads
 
--- src/lib.rt:351:29
 enum-told : tie.Need-enum-told
 enum-told c = search needs
 
--- src/lib.rt:351:29
 memory-read-made-requires : tie.Need-memory-read-made-requires
 memory-read-made-requires c κs = search needs
 
--- src/lib.rt:352:25
 enum-told-2 : tie.Need-enum-told-2
 enum-told-2 c = search needs
 
--- src/lib.rt:352:25
 io-read-made-requires : tie.Need-io-read-made-requires
 io-read-made-requires c κs = search needs
 
--- src/lib.rt:353:26
 enum-told-3 : tie.Need-enum-told-3
 enum-told-3 c = search needs
 
--- src/lib.rt:353:26
 io-write-made-requires : tie.Need-io-write-made-requires
 io-write-made-requires c κs = search needs
 
--- src/lib.rt:345:1
 returns : tie.Need-returns
 returns c = c .memory-read-made .ensures ∙ ap (λ (k : Kind). madeAs k (c .before .before .before .args .q)) (sym (c .before .enum-told .given .1))
 
--- src/lib.rt:345:1
 returns-2 : tie.Need-returns-2
 returns-2 c = c .io-read-made .ensures ∙ ap (λ (k : Kind). madeAs k (c .before .before .before .args .q)) (sym (c .before .enum-told2 .given .1))
 
--- src/lib.rt:345:1
 returns-3 : tie.Need-returns-3
 returns-3 c = c .io-write-made .ensures ∙ ap (λ (k : Kind). madeAs k (c .before .before .before .args .q)) (sym (c .before .enum-told3 .given .1))
 

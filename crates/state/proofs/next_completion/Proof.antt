@@ -1,6 +1,5 @@
 use mathlib.Core.Path.{ap, sym, _∙_}
 use Rattle.state.specs.Upward.{firstOf}
-use Rattle.state.specs.declared.Completion.{Completion}
 use Rattle.state.specs.declared.Np.{Np}
 use Rattle.state.specs.declared.Next.the-variants.{One}
 use Rattle.state.specs.Upward.{upward}
@@ -8,51 +7,37 @@ use Rattle.state.specs.Coded.{piece-facts}
 use borrow.Author.Needs.{needs}
 use Rattle.state.proofs.next_completion.Statement.{statement}
 use Rattle.state.proofs.next_completion.Tie as tie
-use Rattle.state.proofs.next_completion.Reads as reads
-use Rattle.state.proofs.next_completion.Lts as lts
-use Rattle.state.proofs.bare.Reads as bare-reads
-use Rattle.state.proofs.success_of.Reads as success-of-reads
 
--- src/lib.rt:236:21
 enum-told : tie.Need-enum-told
 enum-told c = search needs
 
--- src/lib.rt:237:27
 enum-told-2 : tie.Need-enum-told-2
 enum-told-2 c = search needs
 
--- src/lib.rt:238:19
 enum-known-n : tie.Need-enum-known-n
 enum-known-n c = search needs
 
--- src/lib.rt:238:41
 success-of-requires : tie.Need-success-of-requires
 success-of-requires c κs = piece-facts (c .before .before .before .args .n) (c .before .n .given .0 .0) (c .before .n .given .0 .1 .0) (c .before .before .before .pre) (c .before .n .given .1)
 
--- src/lib.rt:239:20
 enum-known-n-2 : tie.Need-enum-known-n-2
 enum-known-n-2 c = search needs
 
--- src/lib.rt:239:36
 bare-requires : tie.Need-bare-requires
 bare-requires c κs = search needs
 
--- src/lib.rt:231:1
 returns : tie.Need-returns
 unfolding upward
 returns c = cc
 
--- src/lib.rt:231:1
 returns-2 : tie.Need-returns-2
 unfolding upward
 returns-2 c = cc
 
--- src/lib.rt:231:1
 returns-3 : tie.Need-returns-3
 unfolding upward
 returns-3 c = ap One (c .success-of .ensures) ∙ ap (λ (z : Np). firstOf (upward z)) (sym (c .before .before .n .given .1))
 
--- src/lib.rt:231:1
 returns-4 : tie.Need-returns-4
 unfolding upward
 returns-4 c = ap One (c .bare .ensures) ∙ ap (λ (z : Np). firstOf (upward z)) (sym (c .before .before .n2 .given .1))

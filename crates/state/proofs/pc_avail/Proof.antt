@@ -2,41 +2,31 @@ use Rattle.state.specs.Upward.{upward}
 use borrow.Author.Needs.{needs}
 use Rattle.state.proofs.pc_avail.Statement.{statement}
 use Rattle.state.proofs.pc_avail.Tie as tie
-use Rattle.state.proofs.pc_avail.Reads as reads
-use Rattle.state.proofs.pc_avail.Lts as lts
 
--- src/lib.rt:133:21
 enum-told : tie.Need-enum-told
 enum-told c = search needs
 
--- src/lib.rt:134:27
 enum-told-2 : tie.Need-enum-told-2
 enum-told-2 c = search needs
 
--- src/lib.rt:135:28
 enum-told-3 : tie.Need-enum-told-3
 enum-told-3 c = search needs
 
--- src/lib.rt:136:26
 enum-told-4 : tie.Need-enum-told-4
 enum-told-4 c = search needs
 
--- src/lib.rt:129:1
 returns : tie.Need-returns
 unfolding upward
 returns c = cc
 
--- src/lib.rt:129:1
 returns-2 : tie.Need-returns-2
 unfolding upward
 returns-2 c = cc
 
--- src/lib.rt:129:1
 returns-3 : tie.Need-returns-3
 unfolding upward
 returns-3 c = cc
 
--- src/lib.rt:129:1
 returns-4 : tie.Need-returns-4
 unfolding upward
 returns-4 c = cc

@@ -1,38 +1,27 @@
 use Rattle.state.specs.Coded.{refused, admitted}
-use mathlib.Core.Path.{ap, sym, _∙_}
+use mathlib.Core.Path.{_∙_}
 use Rattle.wires.specs.Rows.{stops, goes-on}
 use native.Mathlib.Omega.{arith}
 use Rattle.state.specs.Facts.{legal-payload, legal-read}
 use borrow.Author.Needs.{needs}
 use Rattle.state.proofs.request_made.Statement.{statement}
 use Rattle.state.proofs.request_made.Tie as tie
-use Rattle.state.proofs.request_made.Reads as reads
-use Rattle.state.proofs.request_made.Lts as lts
-use Rattle.state.proofs.made_as.Reads as made-as-reads
-use Rattle.state.proofs.payload_legal.Reads as payload-legal-reads
-use Rattle.state.proofs.read_legal.Reads as read-legal-reads
 
--- src/lib.rt:360:9
 payload-legal-requires : tie.Need-payload-legal-requires
 payload-legal-requires c κs = search needs
 
--- src/lib.rt:361:9
 returns : tie.Need-returns
 returns c = stops _ (refused (c .before .payload-legal .ensures) (c .if1 .taken))
 
--- src/lib.rt:363:9
 read-legal-requires : tie.Need-read-legal-requires
 read-legal-requires c κs = search needs
 
--- src/lib.rt:364:9
 returns-2 : tie.Need-returns-2
 returns-2 c = stops _ (refused (c .before .read-legal .ensures) (c .if2 .taken)) ∙ goes-on _ (admitted (c .before .before .before .payload-legal .ensures) (c .before .before .if1 .left))
 
--- src/lib.rt:366:5
 made-as-requires : tie.Need-made-as-requires
 made-as-requires c κs = (omega (arith, legal-payload (c .before .before .before .before .args .q .payload) (admitted (c .before .before .before .payload-legal .ensures) (c .before .before .if1 .left)) .least), omega (arith, legal-read (c .before .before .before .before .args .q .readsize) (admitted (c .before .read-legal .ensures) (c .if2 .left)) .least))
 
--- src/lib.rt:357:1
 returns-3 : tie.Need-returns-3
 returns-3 c = c .made-as .ensures ∙ goes-on _ (admitted (c .before .before .read-legal .ensures) (c .before .if2 .left)) ∙ goes-on _ (admitted (c .before .before .before .before .payload-legal .ensures) (c .before .before .before .if1 .left))
 

@@ -3,18 +3,13 @@ use native.Mathlib.Omega.{arith}
 use borrow.Author.Needs.{needs}
 use Rattle.state.proofs.within.Statement.{statement}
 use Rattle.state.proofs.within.Tie as tie
-use Rattle.state.proofs.within.Reads as reads
-use Rattle.state.proofs.within.Lts as lts
 
--- src/lib.rt:82:5
 rem-result : tie.Need-rem-result
 rem-result c = search needs
 
--- src/lib.rt:82:5
 add-result : tie.Need-add-result
 add-result c = record { fits = omega (arith, mod-lt (c .args .address) {m = c .args .block} (omega arith)) }
 
--- src/lib.rt:77:1
 returns : tie.Need-returns
 returns c = search needs
 

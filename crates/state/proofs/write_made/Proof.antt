@@ -1,29 +1,20 @@
 use Rattle.state.specs.Coded.{refused, admitted}
-use mathlib.Core.Path.{ap, sym, _∙_}
 use Rattle.wires.specs.Rows.{stops, goes-on}
 use native.Mathlib.Omega.{arith}
 use Rattle.state.specs.Facts.{legal-payload}
 use borrow.Author.Needs.{needs}
 use Rattle.state.proofs.write_made.Statement.{statement}
 use Rattle.state.proofs.write_made.Tie as tie
-use Rattle.state.proofs.write_made.Reads as reads
-use Rattle.state.proofs.write_made.Lts as lts
-use Rattle.state.proofs.payload_legal.Reads as payload-legal-reads
-use Rattle.state.proofs.within.Reads as within-reads
 
--- src/lib.rt:372:9
 payload-legal-requires : tie.Need-payload-legal-requires
 payload-legal-requires c κs = search needs
 
--- src/lib.rt:373:9
 returns : tie.Need-returns
 returns c = stops _ (refused (c .before .payload-legal .ensures) (c .if1 .taken))
 
--- src/lib.rt:375:23
 within-requires : tie.Need-within-requires
 within-requires c κs = omega (arith, legal-payload (c .before .before .before .args .w .payload) (admitted (c .before .before .payload-legal .ensures) (c .before .if1 .left)) .least)
 
--- src/lib.rt:369:1
 returns-2 : tie.Need-returns-2
 returns-2 c = rw (c .within .ensures) (goes-on _ (admitted (c .before .before .before .payload-legal .ensures) (c .before .before .if1 .left)))
 

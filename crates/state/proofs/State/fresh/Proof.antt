@@ -1,25 +1,16 @@
 use borrow.Author.Needs.{needs}
 use Rattle.state.proofs.State.fresh.Statement.{statement}
 use Rattle.state.proofs.State.fresh.Tie as tie
-use Rattle.state.proofs.State.fresh.Reads as reads
-use Rattle.state.proofs.State.fresh.Lts as lts
-use Rattle.registers.proofs.Config.fresh.Reads as Config-fresh-reads
-use Rattle.state.proofs.Peripheral.idle.Reads as idle-reads
-use Rattle.wires.proofs.Wires.fresh.Reads as Wires-fresh-reads
 
--- src/lib.rt:162:21
 fresh-requires : tie.Need-fresh-requires
 fresh-requires c κs = search needs
 
--- src/lib.rt:163:25
 idle-requires : tie.Need-idle-requires
 idle-requires c κs = search needs
 
--- src/lib.rt:164:20
 fresh-requires-2 : tie.Need-fresh-requires-2
 fresh-requires-2 c κs = search needs
 
--- src/lib.rt:158:5
 returns : tie.Need-returns
 returns c = cc
 
