@@ -21,19 +21,22 @@ use state::Posted;
 use state::Request;
 use state::State;
 use state::Write;
-use wires::Packet;
 use wires::Wires;
 ghost use mathlib.Core.Path.{_≡_};
 ghost use mathlib.Core.Bool.{Bool, true, false};
 ghost use mathlib.Core.List.{List};
 ghost use Prim.Native.Nat.{ℕ, _+_, _*_, _<_, _≤_};
 ghost use lib.ListN.{length};
-ghost use Rattle.registers.specs.Registers.{payloadSize, readSize};
-ghost use Rattle.command.specs.Facts.{CommandFits};
-ghost use Rattle.state.specs.Sound.{sound, shortSize};
+ghost use Rattle.registers.specs.Registers.{readAt};
+ghost use Rattle.state.specs.declared.Kind.the-variants as R;
+ghost use Rattle.rules.specs.declared.Body.the-variants as B;
+ghost use Rattle.command.specs.declared.Command.the-variants as C;
+ghost use Rattle.command.specs.Facts.{CommandFits, SizeFits};
+ghost use Rattle.state.specs.Sound.{sound};
 ghost use Rattle.rules.specs.Plan.{silent, said, fatal, nonFatal, accept, defer, acceptThen, quietly};
 ghost use Rattle.rules.specs.Decide.{withPeripheral, withWires, withRequest, holding, post, requestOf, sizeFor, asking, ask, bytesOf, short, getPc, putVwire, getVwire, peripheralEdge, wiresEdge, reconfigured, setConfiguration, reset008h, dataAt, decide, channelsOf, exchange};
-ghost use Rattle.rules.specs.Board.{espiReset, platformReset, answerLength, bytesFor, answered, answer, emptied, takeWrite, setWireCall};
+ghost use Rattle.engine.specs.Laws.{refusedBy};
+ghost use Rattle.rules.specs.Board.{espiReset, platformReset, answerLength, bytesFor, answered, answeringWaiting, answer, emptied, takeWrite, setWireCall};
 
 // ---- the sorts of result
 
@@ -151,7 +154,7 @@ fn held(p: Peripheral, address: u64, length: u32, payload: u32) -> Peripheral
 
 // Credit, then size; the data from this byte of the command on is kept.
 fn posted(s: State, address: u64, length: u32, from: u32) -> Plan
-    requires { ⌜ (sound s ≡ true) × (length ≤ 4096) ⌝ }
+    requires { ⌜ sound s ≡ true ⌝ }
     ensures { λ r. ⌜ r ≡ post s address length from ⌝ }
 {
     let p = s.peripheral;
@@ -212,7 +215,7 @@ fn asked(p: Peripheral, q: Request) -> Peripheral
 
 // Credit, then size.
 fn requested(s: State, q: Request) -> Plan
-    requires { ⌜ (q .length ≤ 4096) × (1 ≤ q .payload) × (q .payload ≤ 4096) × (1 ≤ q .readsize) × (q .readsize ≤ 4096) ⌝ }
+    requires { ⌜ (1 ≤ q .payload) × (1 ≤ q .readsize) ⌝ }
     ensures { λ r. ⌜ r ≡ ask s q ⌝ }
 {
     let p = s.peripheral;
@@ -229,7 +232,7 @@ fn requested(s: State, q: Request) -> Plan
 
 // The bytes of an I/O write of this size, low byte first.
 fn bytes_of(size: u8, b: &[u8]) -> u32
-    requires { ⌜ (3 + size ≤ length (now b)) × (shortSize size ≡ true) ⌝ }
+    requires { ⌜ (3 + size ≤ length (now b)) × SizeFits size ⌝ }
     ensures { λ r. ⌜ r ≡ bytesOf size (now (b .entry)) ⌝ }
 {
     if size == 1 {
@@ -242,7 +245,7 @@ fn bytes_of(size: u8, b: &[u8]) -> u32
 }
 
 fn short_access(s: State, a: Access, p: Place, b: &[u8]) -> Plan
-    requires { ⌜ (sound s ≡ true) × CommandFits (Command.Short a p) (now b) ⌝ }
+    requires { ⌜ (sound s ≡ true) × CommandFits (C.Short a p) (now b) ⌝ }
     ensures { λ r. ⌜ r ≡ short s a p (now (b .entry)) ⌝ }
 {
     let c = s.config;
@@ -302,7 +305,10 @@ fn send_wires(s: State) -> Plan
     if !w.any_pending() {
         return fatally(s);
     }
-    accepted(Body::Groups(w.packet(count)), with_wires(s, w.after_sent(count)))
+    let out = w.send(count);
+    let packet = out.packet;
+    let next = out.next;
+    accepted(Body::Groups(packet), with_wires(s, next))
 }
 
 // ---- configuration
@@ -386,15 +392,15 @@ fn data_at(h: Head) -> u32
 }
 
 fn read_request(s: State, h: Head) -> Plan
-    requires { ⌜ (sound s ≡ true) × (h .length ≤ 4096) ⌝ }
-    ensures { λ r. ⌜ r ≡ ask s (requestOf (s .config) Rattle.state.specs.declared.Kind.the-variants.MemoryRead (h .address) (h .length) (h .tag) 0) ⌝ }
+    requires { ⌜ sound s ≡ true ⌝ }
+    ensures { λ r. ⌜ r ≡ ask s (requestOf (s .config) R.MemoryRead (h .address) (h .length) (h .tag) 0) ⌝ }
 {
     let c = s.config;
     requested(s, request_of(c, Kind::MemoryRead, h.address, h.length, h.tag, 0))
 }
 
 fn read_register(s: State, address: u32) -> Plan
-    ensures { λ r. ⌜ r ≡ accept (Rattle.rules.specs.declared.Body.the-variants.Word (Rattle.registers.specs.Registers.readAt (s .config) address)) s ⌝ }
+    ensures { λ r. ⌜ r ≡ accept (B.Word (readAt (s .config) address)) s ⌝ }
 {
     let c = s.config;
     accepted(Body::Word(c.read(address)), s)
@@ -497,6 +503,15 @@ fn answer_length(q: Request) -> u32
     }
 }
 
+fn bytes_for(q: Request, success: bool) -> u32
+    ensures { λ r. ⌜ r ≡ bytesFor q success ⌝ }
+{
+    if success {
+        return answer_length(q);
+    }
+    0
+}
+
 fn answer_taken(s: State, q: Request, success: bool) -> Plan
     ensures { λ r. ⌜ r ≡ answered s q success ⌝ }
 {
@@ -515,7 +530,7 @@ fn answer_waiting(s: State, q: Request, serial: u32, success: bool, n: usize) ->
     if serial != p.serial {
         return silently(20, s);
     }
-    let want = if success { answer_length(q) } else { 0 };
+    let want = bytes_for(q, success);
     if n != (want as usize) {
         return silently(21, s);
     }
