@@ -6,3 +6,13 @@ pub mod Step
 pub mod Calls
 pub mod Fits
 pub mod Bench
+pub mod Kept
+pub mod KeptBytes
+pub mod KeptParts
+pub mod KeptQueues
+pub mod KeptWires
+pub mod KeptProof
+pub mod KeptFits
+pub mod KeptClauses
+pub mod KeptRegisters
+pub mod SoundMeans

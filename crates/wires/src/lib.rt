@@ -256,8 +256,9 @@ impl Wires {
         ensures { λ r. ⌜ r ≡ leftBy self k ⌝ }
     {
         let at = (k + 2) as usize;
+        let next = after_sender(k);
         self.with((k + 4) as usize, self.level[at], false)
-            .placed(after_sender(k) + 4)
+            .placed(next + 4)
     }
 
     // Sender k is asked: it is taken if it waits and the packet has room.

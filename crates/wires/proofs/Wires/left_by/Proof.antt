@@ -9,6 +9,9 @@ add-at c = search needs
 cast-at : tie.Need-cast-at
 cast-at c = search needs
 
+after-sender-requires : tie.Need-after-sender-requires
+after-sender-requires c κs = search needs
+
 add-with : tie.Need-add-with
 add-with c = search needs
 
@@ -21,9 +24,6 @@ element-copy-out-with c = search needs
 with-requires : tie.Need-with-requires
 with-requires c κs = search needs
 
-after-sender-requires : tie.Need-after-sender-requires
-after-sender-requires c κs = search needs
-
 add-placed : tie.Need-add-placed
 add-placed c = search needs
 
@@ -31,7 +31,7 @@ placed-requires : tie.Need-placed-requires
 placed-requires c κs = search needs
 
 returns : tie.Need-returns
-returns c = simp (c .placed .ensures, c .before .after-sender .ensures .0, c .before .before .with .ensures, sender-place)
+returns c = simp (c .placed .ensures, c .before .before .before .after-sender .ensures .0, c .before .with .ensures, sender-place)
 
 pub left-by-spec : {M : Type 1} → statement M
 left-by-spec =
@@ -39,11 +39,11 @@ left-by-spec =
     (tie.spec
     add-at
     cast-at
+    after-sender-requires
     add-with
     cast-with
     element-copy-out-with
     with-requires
-    after-sender-requires
     add-placed
     placed-requires
     returns)
