@@ -401,15 +401,30 @@ unfolding soundRequest soundWrite
 dropped-sound p true = refl
 dropped-sound p false = refl
 
--- ---- what is held once a completion is handed over is sound, and fits
+-- ---- an answered request
 
-ready-made : (q : Request) (sent : ℕ) → requestMade q ≡ true → sentRight (q .kind) q sent ≡ true → soundRequest (Ready q sent) ≡ true
+pub ready-made : (q : Request) (sent : ℕ) → requestMade q ≡ true → sentRight (q .kind) q sent ≡ true → soundRequest (Ready q sent) ≡ true
 unfolding soundRequest
 ready-made q sent e f = and-true e f
 
-free-made : soundRequest Free ≡ true
+pub free-made : soundRequest Free ≡ true
 unfolding soundRequest
 free-made = refl
+
+sent-none : (k : Kind) (q : Request) → 1 ≤ q .length → sentRight k q 0 ≡ true
+sent-none MemoryRead q h = and-true (lt-ltb 0 (q .length) h) refl
+sent-none IoRead q h = and-true (lt-ltb 0 (q .length) h) refl
+sent-none IoWrite q h = refl
+
+pub answered-sound : (q : Request) → soundRequest (Waiting q) ≡ true → soundRequest (Ready q 0) ≡ true
+unfolding soundRequest
+answered-sound q e = ready-made q 0 e (sent-none (q .kind) q (request-made q e .least))
+
+pub failed-sound : (q : Request) → soundRequest (Waiting q) ≡ true → soundRequest (Failed q) ≡ true
+unfolding soundRequest
+failed-sound q e = e
+
+-- ---- what is held once a completion is handed over is sound, and fits
 
 edge-right : (q : Request) (sent : ℕ) → sent < q .length → (q .address + sent) % q .payload ≡ 0 → sentRight MemoryRead q sent ≡ true
 edge-right q sent h e = and-true (lt-ltb _ _ h) (go (eqb sent 0))

@@ -573,7 +573,7 @@ fn np_bytes(n: Np) -> [u8; 31]
     }
 }
 
-fn level_bytes(serial: u32, w: Wires) -> [u8; 10]
+fn level_bytes(w: Wires, serial: u32) -> [u8; 10]
     ensures { λ r. ⌜ r ≡ levelBytes serial w ⌝ }
 {
     [
@@ -616,7 +616,7 @@ pub fn pack(s: State, dst: &mut [u8])
     let config = config_bytes(s.config);
     let write = write_bytes(held);
     let request = np_bytes(np);
-    let levels = level_bytes(p.serial, w);
+    let levels = level_bytes(w, p.serial);
     let marks = mark_bytes(w);
     base::put_at(dst, 0, &config);
     base::put_at(dst, 12, &write);

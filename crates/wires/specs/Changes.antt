@@ -1,6 +1,6 @@
 -- P19 and P20: what each change makes of levels, marks and place.
 use Prim.Native.Nat.{ℕ, suc, _+_, _-_, _*_, _/_, _%_, _^_, _<_, _≤_}
-use mathlib.Core.Bool.{Bool, true, false, _&&_, _||_, not, true≢false}
+use mathlib.Core.Bool.{Bool, true, false, _&&_, _||_, not}
 use mathlib.Core.List.{List, [], _∷_}
 use mathlib.Core.Path.{_≡_, refl, sym, ap, _∙_}
 use native.Mathlib.Omega.{arith}
@@ -12,14 +12,11 @@ use lib.Seq.{drop-cons, getD-take, getD-set-same, getD-set-other, set-getD}
 use borrow.Author.Tests.{eqb-true, eqb-false, eq-eqb, ne-eqb}
 use Rattle.base.specs.Pick.{pick, pick-ind, and-left}
 use Rattle.wires.specs.Table.{rowAt, isGroup}
-use Rattle.wires.specs.Rows.{InTable, in-table, defined-bit, Settable, settable-bit, row-right}
+use Rattle.wires.specs.Rows.{isUp, InTable, in-table, defined-bit, Settable, settable-bit, row-right}
 use Rattle.wires.specs.Nibbles.{bitOf, binary, and-bit, and-one, nibble-bit, nibble-small, mask-inside, set-bit, same-bits}
-use Rattle.wires.specs.Kept.{whole-level, whole-marks, whole-pair}
-use Rattle.wires.specs.Groups.{levelAt, markAt, withGroup, nibble, isDown, putPair, putPairs, definedBit, settable, setLevel, setWire, readWire, wholeWires}
+use Rattle.wires.specs.Kept.{clash, six, whole-with, whole-level, whole-marks, whole-pair}
+use Rattle.wires.specs.Groups.{levelAt, markAt, withGroup, nibble, isDown, putPair, putPairs, definedBit, settable, setLevel, setWire, readWire, differs, enabled, resetGroup, platformWires, wholeWires}
 use Rattle.wires.specs.declared.Wires.{Wires}
-
-clash : {X : Type 0} → false ≡ true → X
-clash e = absurd (true≢false (sym e))
 
 -- ---- one group changed
 
@@ -214,7 +211,11 @@ module _ (on : Bool) (w : Wires) (i bit value : ℕ) (ok : settable i bit value 
           (λ k l. bits k l ∙ same (eqb-true _ _ q) k (eqb k bit) refl))
       go false q =
           ne-eqb _ _
-          (λ x. eqb-false _ _ q (sym (ap (λ (y : ℕ). bitOf y bit) x) ∙ bits bit (it .defined .small) ∙ ap (λ (b : Bool). pick b value (readWire w i bit)) (eq-eqb bit bit refl)))
+          (λ x.
+          eqb-false _ _ q
+          (sym (ap (λ (y : ℕ). bitOf y bit) x)
+          ∙ bits bit (it .defined .small)
+          ∙ ap (λ (b : Bool). pick b value (readWire w i bit)) (eq-eqb bit bit refl)))
 
   -- the mark is raised by a real change while the channel is on, and by nothing else
   pub set-mark : wholeWires w ≡ true → levelAt w i < 16
@@ -222,3 +223,58 @@ module _ (on : Bool) (w : Wires) (i bit value : ℕ) (ok : settable i bit value 
   set-mark e h =
       mark-same w i (setLevel w i bit value) (setMark on w i bit value) e (it .defined .from) (it .defined .upto)
       ∙ ap (λ (b : Bool). markAt w i || (on && not b)) (real h)
+
+-- ---- enabling and platform reset
+
+-- the first two of the three groups that enabling marks anew
+abbrev marked4 : Wires → Wires
+marked4 w = withGroup w 4 (levelAt w 4) (differs w 4)
+
+abbrev marked5 : Wires → Wires
+marked5 w = withGroup (marked4 w) 5 (levelAt w 5) (differs w 5)
+
+pub enabled-levels : (w : Wires) → enabled w .level ≡ w .level
+enabled-levels w = simp set-getD
+
+-- each up group is marked exactly if it differs from its reset value
+pub enabled-mark : (w : Wires) (i : ℕ) → wholeWires w ≡ true → 2 ≤ i → i ≤ 7 → isUp i ≡ true → markAt (enabled w) i ≡ differs w i
+enabled-mark w i e h l =
+    let e₁ = whole-with w 4 (levelAt w 4) (differs w 4) ∙ e in
+    let e₂ = whole-with (marked4 w) 5 (levelAt w 5) (differs w 5) ∙ e₁ in
+    six (λ (j : ℕ). isUp j ≡ true → markAt (enabled w) j ≡ differs w j) clash clash
+    (λ _.
+    mark-other (marked5 w) 6 (levelAt w 6) (differs w 6) 4 (omega arith) (omega arith) (λ q. omega arith)
+    ∙ mark-other (marked4 w) 5 (levelAt w 5) (differs w 5) 4 (omega arith) (omega arith) (λ q. omega arith)
+    ∙ mark-same w 4 (levelAt w 4) (differs w 4) e (omega arith) (omega arith))
+    (λ _.
+    mark-other (marked5 w) 6 (levelAt w 6) (differs w 6) 5 (omega arith) (omega arith) (λ q. omega arith)
+    ∙ mark-same (marked4 w) 5 (levelAt w 5) (differs w 5) e₁ (omega arith) (omega arith))
+    (λ _. mark-same (marked5 w) 6 (levelAt w 6) (differs w 6) e₂ (omega arith) (omega arith))
+    clash i h l
+
+pub enabled-other : (w : Wires) (j : ℕ) → 2 ≤ j → isUp j ≡ false → markAt (enabled w) j ≡ markAt w j
+enabled-other w j h n =
+    mark-other (marked5 w) 6 (levelAt w 6) (differs w 6) j (omega arith) h (λ q. clash (sym n ∙ ap isUp q))
+    ∙ mark-other (marked4 w) 5 (levelAt w 5) (differs w 5) j (omega arith) h (λ q. clash (sym n ∙ ap isUp q))
+    ∙ mark-other w 4 (levelAt w 4) (differs w 4) j (omega arith) h (λ q. clash (sym n ∙ ap isUp q))
+
+-- platform reset: groups 6 and 7 as at start, the others as they were
+pub platform-reset : (w : Wires) → wholeWires w ≡ true
+    → ((levelAt (platformWires w) 6 ≡ rowAt 4 .reset) × (markAt (platformWires w) 6 ≡ false))
+    × ((levelAt (platformWires w) 7 ≡ rowAt 5 .reset) × (markAt (platformWires w) 7 ≡ false))
+platform-reset w e =
+    let v = resetGroup w 6 in
+    let e₁ = whole-with w 6 (rowAt 4 .reset) false ∙ e in (
+      (
+        level-other v 7 (rowAt 5 .reset) false 6 (omega arith) (omega arith) (λ q. omega arith) ∙ level-same w 6 (rowAt 4 .reset) false e (omega arith) (omega arith),
+        mark-other v 7 (rowAt 5 .reset) false 6 (omega arith) (omega arith) (λ q. omega arith) ∙ mark-same w 6 (rowAt 4 .reset) false e (omega arith) (omega arith),
+      ),
+      (level-same v 7 (rowAt 5 .reset) false e₁ (omega arith) (omega arith), mark-same v 7 (rowAt 5 .reset) false e₁ (omega arith) (omega arith)),
+    )
+
+pub platform-other : (w : Wires) (j : ℕ) → 2 ≤ j → j ≤ 5 → (levelAt (platformWires w) j ≡ levelAt w j) × (markAt (platformWires w) j ≡ markAt w j)
+platform-other w j h l =
+    let v = resetGroup w 6 in (
+      level-other v 7 (rowAt 5 .reset) false j (omega arith) h (λ q. omega arith) ∙ level-other w 6 (rowAt 4 .reset) false j (omega arith) h (λ q. omega arith),
+      mark-other v 7 (rowAt 5 .reset) false j (omega arith) h (λ q. omega arith) ∙ mark-other w 6 (rowAt 4 .reset) false j (omega arith) h (λ q. omega arith),
+    )

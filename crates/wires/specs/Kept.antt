@@ -22,7 +22,7 @@ use Rattle.wires.specs.declared.Wires.{Wires}
 
 -- ---- tests
 
-clash : {X : Type 0} → false ≡ true → X
+pub clash : {X : Type 0} → false ≡ true → X
 clash e = absurd (true≢false (sym e))
 
 -- what would make a contradiction is off
@@ -53,7 +53,7 @@ pub record Sound (on : Bool) (w : Wires) : Type 0 where
   pub from : 4 ≤ w .place
   pub upto : w .place ≤ 6
 
-six : (P : ℕ → Type 0) → P 2 → P 3 → P 4 → P 5 → P 6 → P 7 → (i : ℕ) → 2 ≤ i → i ≤ 7 → P i
+pub six : (P : ℕ → Type 0) → P 2 → P 3 → P 4 → P 5 → P 6 → P 7 → (i : ℕ) → 2 ≤ i → i ≤ 7 → P i
 six P a b c d e f zero h l = absurd (omega arith)
 six P a b c d e f (suc zero) h l = absurd (omega arith)
 six P a b c d e f (suc (suc zero)) h l = a
@@ -107,30 +107,24 @@ pub sound-test : (on : Bool) (w : Wires) → Sound on w → soundWires on w ≡ 
 sound-test on w s =
     and-true (and-true cleans marks-right) (and-true (le-leb 4 (w .place) (s .from)) (le-leb (w .place) 6 (s .upto)))
   where
-    at : (i : ℕ) → 2 ≤ i → i ≤ 7 → onlyDefined w i ≡ true
-    at = s .clean
+    at : (i : ℕ) → isGroup i ≡ true → onlyDefined w i ≡ true
+    at i e = let t = in-table i e in s .clean i (t .from) (t .upto)
 
     cleans : undefinedZero w ≡ true
-    cleans =
-        and-true
-        (and-true (and-true (and-true (and-true (at 2 (omega arith) (omega arith)) (at 3 (omega arith) (omega arith))) (at 4 (omega arith) (omega arith))) (at 5 (omega arith) (omega arith))) (at 6 (omega arith) (omega arith)))
-        (at 7 (omega arith) (omega arith))
+    cleans = and-true (and-true (and-true (and-true (and-true (at 2 refl) (at 3 refl)) (at 4 refl)) (at 5 refl)) (at 6 refl)) (at 7 refl)
 
-    down-off : (i : ℕ) → 2 ≤ i → i ≤ 7 → isUp i ≡ false → markAt w i ≡ false
-    down-off i h l d = off (markAt w i) (λ t. sym d ∙ s .marks i h l t .0)
+    down-off : (i : ℕ) → isGroup i ≡ true → isUp i ≡ false → markAt w i ≡ false
+    down-off i e d = let g = in-table i e in off (markAt w i) (λ t. sym d ∙ s .marks i (g .from) (g .upto) t .0)
 
-    up-off : on ≡ false → (i : ℕ) → 2 ≤ i → i ≤ 7 → markAt w i ≡ false
-    up-off d i h l = off (markAt w i) (λ t. sym d ∙ s .marks i h l t .1)
+    up-off : on ≡ false → (i : ℕ) → isGroup i ≡ true → markAt w i ≡ false
+    up-off d i e = let g = in-table i e in off (markAt w i) (λ t. sym d ∙ s .marks i (g .from) (g .upto) t .1)
 
     ups : (b : Bool) → on ≡ b → (b || not (anyPending w)) ≡ true
     ups true e = refl
-    ups false e = ap not (or-off (up-off e 4 (omega arith) (omega arith)) (or-off (up-off e 5 (omega arith) (omega arith)) (up-off e 6 (omega arith) (omega arith))))
+    ups false e = ap not (or-off (up-off e 4 refl) (or-off (up-off e 5 refl) (up-off e 6 refl)))
 
     marks-right : marksRight on w ≡ true
-    marks-right =
-        and-true
-        (ap not (or-off (down-off 2 (omega arith) (omega arith) refl) (or-off (down-off 3 (omega arith) (omega arith) refl) (down-off 7 (omega arith) (omega arith) refl))))
-        (ups on refl)
+    marks-right = and-true (ap not (or-off (down-off 2 refl refl) (or-off (down-off 3 refl refl) (down-off 7 refl refl)))) (ups on refl)
 
 -- ---- one group changed
 
@@ -181,7 +175,9 @@ pair-kept {on} w i b s =
     let t = in-table i (and-left (isGroup i) (rowAt (i - 2) .down) e) in
     let d = rowAt (i - 2) .defined in
     sound-with i _ (markAt w i) (t .from) (t .upto)
-    (clean-nibble i (b % 16) (bitAnd (b / 16) d) (t .from) (t .upto) (omega (arith, and-le-r (b / 16) d, small-row i (t .from) (t .upto))) (λ k _ q. mask-inside (b / 16) d k q) s)
+    (clean-nibble i (b % 16) (bitAnd (b / 16) d) (t .from) (t .upto)
+    (omega (arith, and-le-r (b / 16) d, small-row i (t .from) (t .upto)))
+    (λ k _ q. mask-inside (b / 16) d k q) s)
     (s .marks i (t .from) (t .upto))
     s)
     (λ _. s)
@@ -212,7 +208,10 @@ wire-kept on w i bit value t s =
     s
   where
     alone : DefinedBit i bit → (k : ℕ) → k < 4 → bitOf (rowAt (i - 2) .defined) k ≡ 0 → bitOf (2 ^ bit) k ≡ 0
-    alone d k hk z = one-bit bit k (d .small) hk ∙ ap (λ (b : Bool). pick b 1 0) (ne-eqb k bit (λ e. let q : _≡_ {A = ℕ} 0 1 = sym z ∙ ap (bitOf (rowAt (i - 2) .defined)) e ∙ d .one in omega arith))
+    alone d k hk z =
+        one-bit bit k (d .small) hk
+        ∙ ap (λ (b : Bool). pick b 1 0)
+        (ne-eqb k bit (λ e. let q : _≡_ {A = ℕ} 0 1 = sym z ∙ ap (bitOf (rowAt (i - 2) .defined)) e ∙ d .one in omega arith))
 
 unmarked-kept : {on : Bool} {ks : List ℕ} (w : Wires) → AllBelow 3 ks → Sound on w → Sound on (unmarked w ks)
 unfolding unmarked
@@ -286,7 +285,10 @@ sound-sendable on w e =
     record {
       from = s .from;
       upto = s .upto;
-      small = λ k h. clean-view (rowAt (k + 4 - 2) .defined) (levelAt w (k + 4)) (small-row (k + 4) (omega arith) (omega arith)) (s .clean (k + 4) (omega arith) (omega arith)) .small;
+      small = λ k h.
+          let a : 2 ≤ k + 4 = omega arith in
+          let b : k + 4 ≤ 7 = omega arith in
+          clean-view (rowAt (k + 4 - 2) .defined) (levelAt w (k + 4)) (small-row (k + 4) a b) (s .clean (k + 4) a b) .small;
     }
 
 -- ---- the laws: six groups stay six

@@ -25,6 +25,9 @@ under (suc n) f e k h = go (eqb k n) refl (under n f (and-right (f n) _ e) k)
     go true q below = ap f (eqb-true k n q) ∙ and-left (f n) _ e
     go false q below = below (omega (arith, eqb-false k n q))
 
+under-both : (m n : ℕ) (f : ℕ → ℕ → Bool) → allUnder m (λ (a : ℕ). allUnder n (f a)) ≡ true → (a b : ℕ) → a < m → b < n → f a b ≡ true
+under-both m n f e a b ha hb = under n (f a) (under m (λ (x : ℕ). allUnder n (f x)) e a ha) b hb
+
 all-under : (n : ℕ) (f : ℕ → Bool) → ((k : ℕ) → k < n → f k ≡ true) → allUnder n f ≡ true
 all-under zero f h = refl
 all-under (suc n) f h = and-true (h n (omega arith)) (all-under n f (λ k l. h k (omega arith)))
@@ -53,26 +56,20 @@ or-bit : (a b k : ℕ) → bitOf (bitOr a b) k ≡ bitOr (bitOf a k) (bitOf b k)
 or-bit a b k = ap (λ (x : ℕ). x % 2) (or-shr a b k) ∙ or-mod (a / 2 ^ k) (b / 2 ^ k) 1
 
 not-bit : (m k : ℕ) → m < 16 → k < 4 → bitOf (15 - m) k ≡ 1 - bitOf m k
-not-bit m k hm hk =
-    eqb-true _ _ (under 4 (λ (j : ℕ). eqb (bitOf (15 - m) j) (1 - bitOf m j)) (under 16 (λ (x : ℕ). allUnder 4 (λ (j : ℕ). eqb (bitOf (15 - x) j) (1 - bitOf x j))) refl m hm) k hk)
-
-no-bits : (x : ℕ) → x < 16 → ((k : ℕ) → k < 4 → bitOf x k ≡ 0) → x ≡ 0
-no-bits x h z =
-    let e = under 16 (λ (y : ℕ). pick (allUnder 4 (λ (j : ℕ). eqb (bitOf y j) 0)) (eqb y 0) true) refl x h in
-    let a = all-under 4 (λ (j : ℕ). eqb (bitOf x j) 0) (λ k l. eq-eqb _ 0 (z k l)) in
-    eqb-true x 0 (subst (λ (t : Bool). pick t (eqb x 0) true ≡ true) a e)
+not-bit m k hm hk = eqb-true _ _ (under-both 16 4 (λ (x j : ℕ). eqb (bitOf (15 - x) j) (1 - bitOf x j)) refl m k hm hk)
 
 -- four bits say the number
 pub same-bits : (x y : ℕ) → x < 16 → y < 16 → ((k : ℕ) → k < 4 → bitOf x k ≡ bitOf y k) → x ≡ y
 same-bits x y hx hy z =
-    let f : ℕ → ℕ → Bool = λ a b. pick (allUnder 4 (λ (j : ℕ). eqb (bitOf a j) (bitOf b j))) (eqb a b) true in
-    let e = under 16 (f x) (under 16 (λ (a : ℕ). allUnder 16 (f a)) refl x hx) y hy in
+    let e = under-both 16 16 (λ (a b : ℕ). pick (allUnder 4 (λ (j : ℕ). eqb (bitOf a j) (bitOf b j))) (eqb a b) true) refl x y hx hy in
     let a = all-under 4 (λ (j : ℕ). eqb (bitOf x j) (bitOf y j)) (λ k l. eq-eqb _ _ (z k l)) in
     eqb-true x y (subst (λ (t : Bool). pick t (eqb x y) true ≡ true) a e)
 
+zero-bit : (k : ℕ) → k < 4 → bitOf 0 k ≡ 0
+zero-bit k h = eqb-true _ _ (under 4 (λ (j : ℕ). eqb (bitOf 0 j) 0) refl k h)
+
 pub one-bit : (b k : ℕ) → b < 4 → k < 4 → bitOf (2 ^ b) k ≡ pick (eqb k b) 1 0
-one-bit b k hb hk =
-    eqb-true _ _ (under 4 (λ (j : ℕ). eqb (bitOf (2 ^ b) j) (pick (eqb j b) 1 0)) (under 4 (λ (x : ℕ). allUnder 4 (λ (j : ℕ). eqb (bitOf (2 ^ x) j) (pick (eqb j x) 1 0))) refl b hb) k hk)
+one-bit b k hb hk = eqb-true _ _ (under-both 4 4 (λ (x j : ℕ). eqb (bitOf (2 ^ x) j) (pick (eqb j x) 1 0)) refl b k hb hk)
 
 -- ---- a nibble: the bits of val where the mask has ones, those of old elsewhere
 
@@ -123,18 +120,21 @@ clean-view d x h e =
           ∙ ap (bitAnd (bitOf x k)) (sym (not-bit d k h hk))
           ∙ sym (and-bit x (15 - d) k)
           ∙ ap (λ (y : ℕ). bitOf y k) z
-          ∙ eqb-true (bitOf 0 k) 0 (under 4 (λ (j : ℕ). eqb (bitOf 0 j) 0) refl k hk);
+          ∙ zero-bit k hk;
     }
 
 pub clean-test : (d x : ℕ) → d < 16 → Clean d x → cleanTest d x ≡ true
 clean-test d x h c =
-    and-true
-    (eq-eqb _ 0 (no-bits (bitAnd x (15 - d)) (omega (arith, and-le-r x (15 - d))) (λ k hk. and-bit x (15 - d) k ∙ ap (bitAnd (bitOf x k)) (not-bit d k h hk) ∙ covered k hk (binary (d / 2 ^ k)) refl)))
-    (lt-ltb x 16 (c .small))
+    let y = bitAnd x (15 - d) in
+    and-true (eq-eqb y 0 (same-bits y 0 (omega (arith, and-le-r x (15 - d))) (omega arith) outside)) (lt-ltb x 16 (c .small))
   where
     covered : (k : ℕ) → k < 4 → {m : ℕ} → Binary m → bitOf d k ≡ m → bitAnd (bitOf x k) (1 - bitOf d k) ≡ 0
     covered k hk off e = ap (λ (y : ℕ). bitAnd y (1 - bitOf d k)) (c .undefined-off k hk e) ∙ and-zero-l (1 - bitOf d k)
     covered k hk on e = ap (λ (m : ℕ). bitAnd (bitOf x k) (1 - m)) e ∙ and-zero-r (bitOf x k)
+
+    outside : (k : ℕ) → k < 4 → bitOf (bitAnd x (15 - d)) k ≡ bitOf 0 k
+    outside k hk =
+        and-bit x (15 - d) k ∙ ap (bitAnd (bitOf x k)) (not-bit d k h hk) ∙ covered k hk (binary (d / 2 ^ k)) refl ∙ sym (zero-bit k hk)
 
 -- only defined bits change
 pub nibble-clean : (d old val mask : ℕ) → mask < 16 → ((k : ℕ) → k < 4 → bitOf d k ≡ 0 → bitOf mask k ≡ 0) → Clean d old → Clean d (nibble old val mask)

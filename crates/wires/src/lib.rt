@@ -244,10 +244,10 @@ impl Wires {
         ensures { λ r. ⌜ r ≡ groupOf self k ⌝ }
     {
         let at = (k + 2) as usize;
-        Group {
-            index: k + 4,
-            byte: TABLE[at].defined * 16 + self.level[at],
-        }
+        let valid = TABLE[at].defined;
+        let byte = valid * 16 + self.level[at];
+        let index = k + 4;
+        Group { index, byte }
     }
 
     // Sender k is sent: its mark goes, and the place moves behind it.

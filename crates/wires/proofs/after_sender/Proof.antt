@@ -1,12 +1,12 @@
-use Rattle.wires.specs.Groups.{senders}
-use Rattle.wires.specs.Turn.{after}
-use Rattle.base.specs.Pick.{taken, passed}
+use Prim.Native.Nat.{suc, _≤_, _<_}
+use mathlib.Core.Path.{refl}
 use native.Mathlib.Numerals.{add-one}
 use native.Mathlib.Omega.{arith}
-use mathlib.Core.Path.{refl}
-use Prim.Native.Nat.{suc, _≤_, _<_}
 use borrow.Author.Tests.{lt-ltb, le-ltb}
 use borrow.Author.Needs.{needs}
+use Rattle.base.specs.Pick.{taken, passed}
+use Rattle.wires.specs.Groups.{senders}
+use Rattle.wires.specs.Turn.{after}
 use Rattle.wires.proofs.after_sender.Statement.{statement}
 use Rattle.wires.proofs.after_sender.Tie as tie
 

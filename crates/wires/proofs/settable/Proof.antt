@@ -1,8 +1,8 @@
-use Rattle.wires.specs.Rows.{defined-bit, stops, goes-on}
-use native.Mathlib.Omega.{arith}
 use mathlib.Core.Path.{sym, _∙_}
+use native.Mathlib.Omega.{arith}
 use borrow.Author.Tests.{not-true, not-false}
 use borrow.Author.Needs.{needs}
+use Rattle.wires.specs.Rows.{defined-bit, stops, goes-on}
 use Rattle.wires.proofs.settable.Statement.{statement}
 use Rattle.wires.proofs.settable.Tie as tie
 
@@ -13,7 +13,10 @@ returns : tie.Need-returns
 returns c = stops _ (sym (c .before .defined-bit .ensures) ∙ not-true (c .before .defined-bit .result) (c .if1 .taken))
 
 sub-at : tie.Need-sub-at
-sub-at c = defined-bit (c .before .before .args .index) (c .before .before .args .bit) (sym (c .before .defined-bit .ensures) ∙ not-false (c .before .defined-bit .result) (c .if1 .left)) .from
+sub-at c =
+    let a = c .before .before .args in
+    let e = sym (c .before .defined-bit .ensures) ∙ not-false (c .before .defined-bit .result) (c .if1 .left) in
+    defined-bit (a .index) (a .bit) e .from
 
 cast-at : tie.Need-cast-at
 cast-at c = search needs
@@ -22,7 +25,10 @@ mul-result : tie.Need-mul-result
 mul-result c = search needs
 
 element-copy-out-result : tie.Need-element-copy-out-result
-element-copy-out-result c = let d = defined-bit (c .before .before .args .index) (c .before .before .args .bit) (sym (c .before .defined-bit .ensures) ∙ not-false (c .before .defined-bit .result) (c .if1 .left)) in omega (arith, d .upto)
+element-copy-out-result c =
+    let a = c .before .before .args in
+    let e = sym (c .before .defined-bit .ensures) ∙ not-false (c .before .defined-bit .result) (c .if1 .left) in
+    omega (arith, defined-bit (a .index) (a .bit) e .upto)
 
 returns-2 : tie.Need-returns-2
 returns-2 c = goes-on _ (sym (c .before .defined-bit .ensures) ∙ not-false (c .before .defined-bit .result) (c .if1 .left))

@@ -1,7 +1,7 @@
-use Rattle.wires.specs.declared.Packet.{Packet}
-use Rattle.wires.specs.Sending.{packetAnd}
 use mathlib.Core.Path.{ap, sym}
 use borrow.Author.Needs.{needs}
+use Rattle.wires.specs.declared.Packet.{Packet}
+use Rattle.wires.specs.Sending.{packetAnd}
 use Rattle.wires.proofs.Packet.and.Statement.{statement}
 use Rattle.wires.proofs.Packet.and.Tie as tie
 

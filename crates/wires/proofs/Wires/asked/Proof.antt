@@ -1,11 +1,11 @@
-use Rattle.wires.specs.Sending.{waits-as}
-use Rattle.base.specs.Pick.{taken, passed}
-use lib.ListN.{getD}
+use Prim.Native.Nat.{_+_}
 use mathlib.Core.Path.{refl}
 use mathlib.Core.Bool.{false}
-use Prim.Native.Nat.{_+_}
+use lib.ListN.{getD}
 use borrow.Author.Tests.{not-true, not-false, le-leb, lt-leb}
 use borrow.Author.Needs.{needs}
+use Rattle.base.specs.Pick.{taken, passed}
+use Rattle.wires.specs.Sending.{waits-as}
 use Rattle.wires.proofs.Wires.asked.Statement.{statement}
 use Rattle.wires.proofs.Wires.asked.Tie as tie
 
@@ -19,10 +19,15 @@ element-copy-out-if1 : tie.Need-element-copy-out-if1
 element-copy-out-if1 c = search needs
 
 returns : tie.Need-returns
-returns c = passed _ _ (waits-as (c .before .before .args .t1) (c .before .before .args .k) _ (not-true (getD (c .before .before .args .t1 .pending) (c .before .before .args .k + 2) false) (c .if1 .taken))) refl
+returns c =
+    let a = c .before .before .args in
+    passed _ _ (waits-as (a .t1) (a .k) _ (not-true (getD (a .t1 .pending) (a .k + 2) false) (c .if1 .taken))) refl
 
 returns-2 : tie.Need-returns-2
-returns-2 c = taken _ _ (waits-as (c .before .before .before .before .args .t1) (c .before .before .before .before .args .k) _ (not-false (getD (c .before .before .before .before .args .t1 .pending) (c .before .before .before .before .args .k + 2) false) (c .before .before .if1 .left))) (passed _ _ (lt-leb _ _ (c .if2 .taken)) refl)
+returns-2 c =
+    let a = c .before .before .before .before .args in
+    taken _ _ (waits-as (a .t1) (a .k) _ (not-false (getD (a .t1 .pending) (a .k + 2) false) (c .before .before .if1 .left)))
+    (passed _ _ (lt-leb _ _ (c .if2 .taken)) refl)
 
 group-requires : tie.Need-group-requires
 group-requires c κs = search needs
@@ -34,7 +39,10 @@ left-by-requires : tie.Need-left-by-requires
 left-by-requires c κs = search needs
 
 returns-3 : tie.Need-returns-3
-returns-3 c = taken _ _ (waits-as (c .before .before .before .before .before .before .before .before .before .args .t1) (c .before .before .before .before .before .before .before .before .before .args .k) _ (not-false (getD (c .before .before .before .before .before .before .before .before .before .args .t1 .pending) (c .before .before .before .before .before .before .before .before .before .args .k + 2) false) (c .before .before .before .before .before .before .before .if1 .left))) (taken _ _ (le-leb _ _ (c .before .before .before .before .before .if2 .left)) (cc))
+returns-3 c =
+    let a = c .before .before .before .before .before .before .before .before .before .args in
+    taken _ _ (waits-as (a .t1) (a .k) _ (not-false (getD (a .t1 .pending) (a .k + 2) false) (c .before .before .before .before .before .before .before .if1 .left)))
+    (taken _ _ (le-leb _ _ (c .before .before .before .before .before .if2 .left)) (cc))
 
 pub asked-spec : {M : Type 1} → statement M
 asked-spec =

@@ -30,7 +30,10 @@ with-requires-3 : tie.Need-with-requires-3
 with-requires-3 c κs = search needs
 
 returns : tie.Need-returns
-returns c = simp (c .with3 .ensures, c .before .differs3 .ensures, c .before .before .before .with2 .ensures, c .before .before .before .before .differs2 .ensures, c .before .before .before .before .before .before .with .ensures, c .before .before .before .before .before .before .before .differs .ensures)
+returns c =
+    let c₁ = c .before .before .before in
+    let c₂ = c .before .before .before .before .before .before in
+    simp (c .with3 .ensures, c .before .differs3 .ensures, c₁ .with2 .ensures, c₁ .before .differs2 .ensures, c₂ .with .ensures, c₂ .before .differs .ensures)
 
 pub enabled-spec : {M : Type 1} → statement M
 enabled-spec =

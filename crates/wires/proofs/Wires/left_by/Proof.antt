@@ -1,5 +1,5 @@
-use Rattle.wires.specs.Sending.{sender-place}
 use borrow.Author.Needs.{needs}
+use Rattle.wires.specs.Sending.{sender-place}
 use Rattle.wires.proofs.Wires.left_by.Statement.{statement}
 use Rattle.wires.proofs.Wires.left_by.Tie as tie
 

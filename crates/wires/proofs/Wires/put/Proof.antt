@@ -1,10 +1,10 @@
+use Prim.Native.Nat.{ℕ, _≤_, _+_, _*_, _-_}
+use mathlib.Core.Path.{_≡_, refl, sym, ap, _∙_}
+use native.Mathlib.Omega.{arith}
+use lib.ListN.{take, drop}
 use Rattle.wires.specs.declared.Wires.{Wires}
 use Rattle.wires.specs.Changes.{pairs-next, pairs-done}
 use Rattle.wires.specs.Groups.{putPairs}
-use lib.ListN.{take, drop}
-use native.Mathlib.Omega.{arith}
-use mathlib.Core.Path.{_≡_, refl, sym, ap, _∙_}
-use Prim.Native.Nat.{ℕ, _≤_, _+_, _*_, _-_}
 use Rattle.wires.proofs.Wires.put.Statement.{statement}
 use Rattle.wires.proofs.Wires.put.Tie as tie
 

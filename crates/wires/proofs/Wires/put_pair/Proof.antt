@@ -1,10 +1,10 @@
-use Rattle.wires.specs.Rows.{row-right}
-use Rattle.wires.specs.Table.{rowAt}
-use lib.Bits.{and-le-r}
-use native.Mathlib.Omega.{arith}
 use Prim.Native.Nat.{_-_, _/_}
+use native.Mathlib.Omega.{arith}
+use lib.Bits.{and-le-r}
 use borrow.Author.Tests.{le-leb, lt-leb, not-true, not-false}
 use borrow.Author.Needs.{needs}
+use Rattle.wires.specs.Rows.{row-right}
+use Rattle.wires.specs.Table.{rowAt}
 use Rattle.wires.proofs.Wires.put_pair.Statement.{statement}
 use Rattle.wires.proofs.Wires.put_pair.Tie as tie
 
@@ -24,7 +24,9 @@ element-copy-out-if3 : tie.Need-element-copy-out-if3
 element-copy-out-if3 c = search needs
 
 returns-3 : tie.Need-returns-3
-returns-3 c = simp (le-leb _ _ (c .before .before .if1 .left), le-leb _ _ (c .before .if2 .left), not-true (rowAt (c .before .before .before .args .index - 2) .down) (c .if3 .taken))
+returns-3 c =
+    let down = rowAt (c .before .before .before .args .index - 2) .down in
+    simp (le-leb _ _ (c .before .before .if1 .left), le-leb _ _ (c .before .if2 .left), not-true down (c .if3 .taken))
 
 element-copy-out-nibble-of : tie.Need-element-copy-out-nibble-of
 element-copy-out-nibble-of c = search needs
@@ -36,7 +38,10 @@ element-copy-out-nibble-of-2 : tie.Need-element-copy-out-nibble-of-2
 element-copy-out-nibble-of-2 c = search needs
 
 nibble-of-requires : tie.Need-nibble-of-requires
-nibble-of-requires c κs = let i = c .before .before .before .before .args .index in omega (arith, and-le-r (c .before .before .before .before .args .byte / 16) (rowAt (i - 2) .defined), row-right (i - 2) (omega arith) .defined-small)
+nibble-of-requires c κs =
+    let a = c .before .before .before .before .args in
+    let d = rowAt (a .index - 2) .defined in
+    omega (arith, and-le-r (a .byte / 16) d, row-right (a .index - 2) (omega arith) .defined-small)
 
 element-copy-out-with : tie.Need-element-copy-out-with
 element-copy-out-with c = search needs
@@ -45,7 +50,16 @@ with-requires : tie.Need-with-requires
 with-requires c κs = search needs
 
 returns-4 : tie.Need-returns-4
-returns-4 c = simp (le-leb _ _ (c .before .before .before .before .before .before .if1 .left), le-leb _ _ (c .before .before .before .before .before .if2 .left), not-false (rowAt (c .before .before .before .before .before .before .before .args .index - 2) .down) (c .before .before .before .before .if3 .left), c .with .ensures, c .before .before .nibble-of .ensures)
+returns-4 c =
+    let b = c .before .before .before .before in
+    let down = rowAt (c .before .before .before .before .before .before .before .args .index - 2) .down in
+    simp (
+      le-leb _ _ (b .before .before .if1 .left),
+      le-leb _ _ (b .before .if2 .left),
+      not-false down (b .if3 .left),
+      c .with .ensures,
+      c .before .before .nibble-of .ensures,
+    )
 
 pub put-pair-spec : {M : Type 1} → statement M
 put-pair-spec =

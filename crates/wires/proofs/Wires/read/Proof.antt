@@ -1,6 +1,6 @@
-use Rattle.wires.specs.Rows.{defined-bit}
 use native.Mathlib.Omega.{arith}
 use borrow.Author.Needs.{needs}
+use Rattle.wires.specs.Rows.{defined-bit}
 use Rattle.wires.proofs.Wires.read.Statement.{statement}
 use Rattle.wires.proofs.Wires.read.Tie as tie
 

@@ -1,45 +1,75 @@
-use Rattle.wires.specs.Rows.{settable-bit, bit-exact, bit-alone}
-use lib.Pow.{pow-lt}
 use native.Mathlib.Omega.{arith}
+use lib.Pow.{pow-lt}
 use borrow.Author.Needs.{needs}
+use Rattle.wires.specs.Rows.{settable-bit, bit-exact, bit-alone}
 use Rattle.wires.proofs.Wires.set.Statement.{statement}
 use Rattle.wires.proofs.Wires.set.Tie as tie
 
 sub-at : tie.Need-sub-at
-sub-at c = settable-bit (c .args .index) (c .args .bit) (c .args .value) (c .pre) .defined .from
+sub-at c =
+    let a = c .args in
+    settable-bit (a .index) (a .bit) (a .value) (c .pre) .defined .from
 
 cast-at : tie.Need-cast-at
 cast-at c = search needs
 
 element-copy-out-old : tie.Need-element-copy-out-old
-element-copy-out-old c = omega (arith, settable-bit (c .args .index) (c .args .bit) (c .args .value) (c .pre) .defined .upto)
+element-copy-out-old c =
+    let a = c .args in
+    omega (arith, settable-bit (a .index) (a .bit) (a .value) (c .pre) .defined .upto)
 
 cast-nibble-of : tie.Need-cast-nibble-of
-cast-nibble-of c = omega (arith, settable-bit (c .before .args .index) (c .before .args .bit) (c .before .args .value) (c .before .pre) .level)
+cast-nibble-of c =
+    let a = c .before .args in
+    omega (arith, settable-bit (a .index) (a .bit) (a .value) (c .before .pre) .level)
 
 cast-nibble-of-2 : tie.Need-cast-nibble-of-2
-cast-nibble-of-2 c = omega (arith, settable-bit (c .before .args .index) (c .before .args .bit) (c .before .args .value) (c .before .pre) .defined .small)
+cast-nibble-of-2 c =
+    let a = c .before .args in
+    omega (arith, settable-bit (a .index) (a .bit) (a .value) (c .before .pre) .defined .small)
 
 shl-nibble-of : tie.Need-shl-nibble-of
-shl-nibble-of c = omega (arith, settable-bit (c .before .args .index) (c .before .args .bit) (c .before .args .value) (c .before .pre) .defined .small)
+shl-nibble-of c =
+    let a = c .before .args in
+    omega (arith, settable-bit (a .index) (a .bit) (a .value) (c .before .pre) .defined .small)
 
 cast-nibble-of-3 : tie.Need-cast-nibble-of-3
-cast-nibble-of-3 c = omega (arith, settable-bit (c .before .args .index) (c .before .args .bit) (c .before .args .value) (c .before .pre) .defined .small)
+cast-nibble-of-3 c =
+    let a = c .before .args in
+    omega (arith, settable-bit (a .index) (a .bit) (a .value) (c .before .pre) .defined .small)
 
 shl-nibble-of-2 : tie.Need-shl-nibble-of-2
-shl-nibble-of-2 c = omega (arith, settable-bit (c .before .args .index) (c .before .args .bit) (c .before .args .value) (c .before .pre) .defined .small)
+shl-nibble-of-2 c =
+    let a = c .before .args in
+    omega (arith, settable-bit (a .index) (a .bit) (a .value) (c .before .pre) .defined .small)
 
 nibble-of-requires : tie.Need-nibble-of-requires
-nibble-of-requires c κs = let s = settable-bit (c .before .args .index) (c .before .args .bit) (c .before .args .value) (c .before .pre) in rw (bit-alone (c .before .args .bit) (s .defined .small)) (omega (arith, pow-lt (s .defined .small)))
+nibble-of-requires c κs =
+    let a = c .before .args in
+    let s = settable-bit (a .index) (a .bit) (a .value) (c .before .pre) in
+    rw (bit-alone (a .bit) (s .defined .small)) (omega (arith, pow-lt (s .defined .small)))
 
 element-copy-out-with : tie.Need-element-copy-out-with
-element-copy-out-with c = omega (arith, settable-bit (c .before .before .args .index) (c .before .before .args .bit) (c .before .before .args .value) (c .before .before .pre) .defined .upto)
+element-copy-out-with c =
+    let a = c .before .before .args in
+    omega (arith, settable-bit (a .index) (a .bit) (a .value) (c .before .before .pre) .defined .upto)
 
 with-requires : tie.Need-with-requires
-with-requires c κs = let s = settable-bit (c .before .before .before .args .index) (c .before .before .before .args .bit) (c .before .before .before .args .value) (c .before .before .before .pre) in (s .defined .from, s .defined .upto)
+with-requires c κs =
+    let a = c .before .before .before .args in
+    let s = settable-bit (a .index) (a .bit) (a .value) (c .before .before .before .pre) in
+    (s .defined .from, s .defined .upto)
 
 returns : tie.Need-returns
-returns c = let s = settable-bit (c .before .before .before .before .args .index) (c .before .before .before .before .args .bit) (c .before .before .before .before .args .value) (c .before .before .before .before .pre) in simp (c .with .ensures, c .before .before .nibble-of .ensures, bit-alone (c .before .before .before .before .args .bit) (s .defined .small), bit-exact (c .before .before .before .before .args .bit) (c .before .before .before .before .args .value) (s .defined .small) (s .level))
+returns c =
+    let a = c .before .before .before .before .args in
+    let s = settable-bit (a .index) (a .bit) (a .value) (c .before .before .before .before .pre) in
+    simp (
+      c .with .ensures,
+      c .before .before .nibble-of .ensures,
+      bit-alone (a .bit) (s .defined .small),
+      bit-exact (a .bit) (a .value) (s .defined .small) (s .level),
+    )
 
 pub set-spec : {M : Type 1} → statement M
 set-spec =

@@ -57,7 +57,16 @@ only-defined-requires-6 : tie.Need-only-defined-requires-6
 only-defined-requires-6 c κs = search needs
 
 returns : tie.Need-returns
-returns c = simp (c .only-defined6 .ensures, c .before .before .only-defined5 .ensures, c .before .before .before .before .only-defined4 .ensures, c .before .before .before .before .before .before .only-defined3 .ensures, c .before .before .before .before .before .before .before .before .only-defined2 .ensures, c .before .before .before .before .before .before .before .before .before .before .only-defined .ensures)
+returns c =
+    let b = c .before .before .before .before .before .before in
+    simp (
+      c .only-defined6 .ensures,
+      c .before .before .only-defined5 .ensures,
+      c .before .before .before .before .only-defined4 .ensures,
+      b .only-defined3 .ensures,
+      b .before .before .only-defined2 .ensures,
+      b .before .before .before .before .only-defined .ensures,
+    )
 
 pub undefined-zero-spec : {M : Type 1} → statement M
 undefined-zero-spec =
