@@ -1,4 +1,4 @@
--- Demand 3 (00) over every run, as the promises P15, P16 and P17 have it: statements only, proved in Demand3Proof and Demand3End.
+-- Demand 3 (00) over every run, as the promises P15, P16 and P17 have it: statements only, proved in Demand3Proof.
 -- A run is a list of calls from a world, each call getting what the last one left; `kind` says what a call was, refused ones are idle.
 use Prim.Native.Nat.{ℕ, _+_, _*_, _-_, _/_, _%_, _≤_, _<_}
 use mathlib.Core.Bool.{Bool, true, false, _||_, not}
@@ -79,6 +79,7 @@ pub record HandsOver (A L P tag : ℕ) (d : List ℕ) (w : World) (cs : List Cal
 -- ---- from the acceptance to the answer: P15 (a) and (e), P17
 
 -- b are the bytes of a non-posted request that w accepts; xs are the calls after it, with no ending event and no accepted answer
+-- (an accepted answer that names the request's serial is its first: `FirstAnswer` of Serials)
 pub record Asked (w : World) (b r : List ℕ) (xs : List Call) : Type 0 where
   pub accepted : kind w (exchange b r) ≡ asks
   pub unended : without isEnd (step w (exchange b r) .next) xs ≡ true

@@ -15,12 +15,9 @@ use Rattle.state.specs.declared.Np.{Np}
 use Rattle.state.specs.declared.Np.the-variants.{Free, Waiting}
 use Rattle.state.specs.declared.Request.{Request}
 use Rattle.rules.specs.Step.{World, Call, Outcome, step, run, answer}
-use Rattle.rules.specs.Kinds.{Kind, gets, ends, kind, held, raises}
-use Rattle.rules.specs.View.{Shown, Move, same, asked, told, sent, lent, dropped, view, view-as}
+use Rattle.rules.specs.Kinds.{Kind, gets, kind, held, raises}
+use Rattle.rules.specs.View.{Shown, Move, same, asked, told, sent, lent, dropped, view, view-as, clash, end-free}
 use Rattle.rules.specs.Demand3.{ToldIn, AskedIn, EventEnds}
-
-clash : {X : Type 0} → _≡_ {A = ℕ} 0 1 → X
-clash e = absurd (omega arith)
 
 -- ---- what a run's tail has, the run has
 
@@ -87,9 +84,6 @@ story (c ∷ cs) w e =
     record { fromFree = λ h. free-story w c cs s (kind w c) refl h (view w c); fromWaiting = λ q h. waiting-story w c cs s (kind w c) refl q h (view w c) }
 
 -- ---- the statement
-
-end-free : {w : World} {c : Call} {o : Outcome} → Move w c o ends → held (o .next) ≡ Free
-end-free (dropped a b d x) = a
 
 get-ready : {w : World} {c : Call} {o : Outcome} → Move w c o gets → pcAvail (held w) ≡ true
 get-ready (sent p ps u a b d r x) = ap some u

@@ -4,20 +4,20 @@ use mathlib.Core.Bool.{Bool, true, false, _&&_, _||_, not, true≢false}
 use mathlib.Core.List.{List, [], _∷_, _++_, append-assoc}
 use mathlib.Core.Path.{_≡_, refl, sym, ap, _∙_, subst}
 use native.Mathlib.Omega.{arith}
-use native.Mathlib.Nat.{add-zero, zero-add}
+use native.Mathlib.Nat.{add-zero}
 use lib.ListN.{length, take, length-append}
 use lib.Seq.{take-at}
 use borrow.Author.Tests.{not-true}
 use Rattle.base.specs.Pick.{and-left, and-right}
 use Rattle.base.specs.Bytes.{low2}
 use Rattle.crc.specs.Crc.{crc}
-use Rattle.registers.specs.Registers.{on0, on1, crcChecked, reachable}
-use Rattle.wires.specs.Groups.{soundWires}
+use Rattle.registers.specs.Registers.{on0, crcChecked}
 use Rattle.command.specs.Decode.{admit, decode, crcGood}
 use Rattle.command.specs.declared.Command.the-variants as C
 use Rattle.command.specs.declared.Decoded.the-variants.{Known}
-use Rattle.state.specs.Sound.{Sound, sound, soundPeripheral, soundRequest, soundWrite, nothingHeld}
-use Rattle.state.specs.Status.{status, bit, npFree, pcFree, pcAvail, some}
+use Rattle.state.specs.Facts.{sound-off}
+use Rattle.state.specs.Sound.{Sound}
+use Rattle.state.specs.Status.{status, bit, npFree, pcAvail, some}
 use Rattle.state.specs.Upward.{upward, handed}
 use Rattle.state.specs.declared.Completion.{Completion}
 use Rattle.state.specs.declared.Np.{Np}
@@ -25,30 +25,20 @@ use Rattle.state.specs.declared.Np.the-variants.{Free, Waiting, Ready, Failed}
 use Rattle.state.specs.declared.State.{State}
 use Rattle.rules.specs.Decide as D
 use Rattle.rules.specs.Reply.{closed, headerBytes, dataBytes}
-use Rattle.rules.specs.Step.{World, Call, step, run, exchanged, shortStores, allHanded, exchange, answer}
-use Rattle.rules.specs.KeptProof.{sound-run}
+use Rattle.rules.specs.Step.{World, Call, step, run, exchanged, shortStores, exchange}
 use Rattle.rules.specs.Kinds.{Kind, gets, kind, isEnd, isTell, isAsk, without, got, gotBy, replyOf, held, shows, sameRead, readHandedOn}
-use Rattle.rules.specs.View.{Shown, Move, same, asked, told, sent, lent, dropped, view, view-as}
-use Rattle.rules.specs.Demand3.{crcFine, Over, Delivers, joinedData, dataIn}
-
-pub clash : {X : Type 0} → _≡_ {A = ℕ} 0 1 → X
-clash e = absurd (omega arith)
+use Rattle.rules.specs.View.{Shown, Move, same, asked, told, sent, lent, dropped, view, clash}
+use Rattle.rules.specs.Demand3.{crcFine, Over, joinedData, dataIn}
 
 -- ---- a GET_PC is accepted while a completion is ready
 
 -- "no queue is held while channel 0 is off"
 held-on : (s : State) → Sound s → npFree (s .peripheral .request) ≡ false → on0 (s .config .r010) ≡ true
-unfolding sound
-held-on s d h =
-    go (on0 (s .config .r010)) (pcFree (s .peripheral .write)) (npFree (s .peripheral .request)) h
-    (and-left (on0 (s .config .r010) || nothingHeld (s .peripheral)) (soundRequest (s .peripheral .request) && soundWrite (s .peripheral .write))
-    (and-left (soundPeripheral (on0 (s .config .r010)) (s .peripheral)) (soundWires (on1 (s .config .r020)) (s .wires))
-    (and-right (reachable (s .config)) _ (d .isSound))))
+held-on s d h = go (on0 (s .config .r010)) refl
   where
-    go : (on p n : Bool) → n ≡ false → on || (p && n) ≡ true → on ≡ true
-    go true p n e f = refl
-    go false true n e f = sym e ∙ f
-    go false false n e f = f
+    go : (t : Bool) → on0 (s .config .r010) ≡ t → t ≡ true
+    go true e = refl
+    go false e = absurd (true≢false (sym (ap npFree (sound-off s (d .isSound) e .request)) ∙ h))
 
 ready-taken : (n : Np) (k : Completion) (ks : List Completion) → upward n ≡ k ∷ ks → npFree n ≡ false
 unfolding upward
@@ -67,7 +57,7 @@ get-admitted s check on fine = rw (on, unchecked (crcChecked (s .config .r008)) 
     unchecked true false e = sym e
     unchecked false g e = refl
 
-get-accepted : (w : World) (check : ℕ) (reply : List ℕ) (k : Completion) (ks : List Completion) → Sound (w .state) → upward (held w) ≡ k ∷ ks
+pub get-accepted : (w : World) (check : ℕ) (reply : List ℕ) (k : Completion) (ks : List Completion) → Sound (w .state) → upward (held w) ≡ k ∷ ks
     → shortStores reply w ≡ false → crcFine (w .state) (0x01 ∷ check ∷ []) ≡ true → step w (exchange (0x01 ∷ check ∷ []) reply) .number ≡ 0
 unfolding step exchanged D.exchange D.decide D.getPc
 get-accepted w check reply k ks d u long fine =
@@ -119,10 +109,10 @@ datas comp rd k (suc n) = dataBytes (comp k) rd ++ datas comp rd (suc k) n
 
 -- ---- runs while completions are owed
 
-record Left (comp : ℕ → Completion) (rd : List ℕ) (k n : ℕ) (w : World) (cs : List Call) : Type 0 where
-  owes : (j : ℕ) → length (got w cs) + suc j ≡ n → Owes comp (k + length (got w cs)) (suc j) (held (run w cs))
-  read : (j : ℕ) → length (got w cs) + suc j ≡ n → run w cs .read ≡ rd
-  joins : length (got w cs) ≤ n → joinedData (got w cs) ≡ datas comp rd k (length (got w cs))
+pub record Left (comp : ℕ → Completion) (rd : List ℕ) (k n : ℕ) (w : World) (cs : List Call) : Type 0 where
+  pub owes : (j : ℕ) → length (got w cs) + suc j ≡ n → Owes comp (k + length (got w cs)) (suc j) (held (run w cs))
+  pub read : (j : ℕ) → length (got w cs) + suc j ≡ n → run w cs .read ≡ rd
+  pub joins : length (got w cs) ≤ n → joinedData (got w cs) ≡ datas comp rd k (length (got w cs))
 
 same-left : {j n : ℕ} → 0 + suc j ≡ suc n → j ≡ n
 same-left h = omega arith
@@ -146,7 +136,7 @@ module _ (comp : ℕ → Completion) (rd : List ℕ) where
         joins = rw e (λ h. rw (data-in (comp k) rd st, l .joins (omega arith)));
       }
 
-  left : (cs : List Call) (k n : ℕ) (w : World) → Owes comp k n (held w) → w .read ≡ rd → without isEnd w cs ≡ true → readHandedOn w cs → Left comp rd k n w cs
+  pub left : (cs : List Call) (k n : ℕ) (w : World) → Owes comp k n (held w) → w .read ≡ rd → without isEnd w cs ≡ true → readHandedOn w cs → Left comp rd k n w cs
   unfolding got without run joinedData datas readHandedOn
   left [] k zero w o i q s = record { owes = λ j h. absurd (omega arith); read = λ j h. i; joins = λ h. refl }
   left [] k (suc n) w o i q s = record { owes = λ j h. rw (add-zero k, same-left h) o; read = λ j h. i; joins = λ h. refl }
@@ -173,17 +163,16 @@ pub np-shown : {n : Np} {a : List ℕ} (t : Bool) → npFree n ≡ t → Shown n
 np-shown {n} {a} t e x = subst (λ (u : Bool). shows 1 (bit u) a) e (x .np)
 
 -- PC_AVAIL at 1, NP_FREE at 0
-Busy : List ℕ → Type 0
+abbrev pub Busy : List ℕ → Type 0
 Busy a = shows 4 1 a × shows 1 0 a
 
-busy : {n : Np} {a : List ℕ} {k : Completion} {ks : List Completion} → upward n ≡ k ∷ ks → Shown n a → Busy a
-unfolding Busy
+pub busy : {n : Np} {a : List ℕ} {k : Completion} {ks : List Completion} → upward n ≡ k ∷ ks → Shown n a → Busy a
 busy {n} {a} {k} {ks} u x = (pc-shown true (ap some u) x, np-shown false (ready-taken n k ks u) x)
 
 -- before the last completion, every reply
-stood : (comp : ℕ → Completion) (k n : ℕ) (w : World) (c : Call) (x : Kind) → Owes comp k (suc n) (held w) → length (replyOf x (step w c .reply)) < suc n
+pub stood : (comp : ℕ → Completion) (k n : ℕ) (w : World) (c : Call) (x : Kind) → Owes comp k (suc n) (held w) → length (replyOf x (step w c .reply)) < suc n
     → Move w c (step w c) x → Busy (step w c .reply)
-unfolding upward Busy
+unfolding upward
 stood comp k n w c x o l (same a b d v) = busy (o .0) v
 stood comp k n w c x o l (asked b r f a m y d z v) = clash (cc (o .0))
 stood comp k n w c x o l (told p m t d f a b i y v r z) = (shown-silent 4 1 z, shown-silent 1 0 z)
@@ -242,7 +231,7 @@ free-shown w c k h q (sent p ps u a b d r v) = clash (cc)
 free-shown w c k h q (lent write read f a b d v) = shown-silent 1 1 v
 free-shown w c k h q (dropped a b d v) = np-shown true (ap npFree h) v
 
-ended-by : (comp : ℕ → Completion) (k : ℕ) (w : World) (c : Call) → Owes comp k 1 (held w) → Move w c (step w c) gets → Over (step w c)
+pub ended-by : (comp : ℕ → Completion) (k : ℕ) (w : World) (c : Call) → Owes comp k 1 (held w) → Move w c (step w c) gets → Over (step w c)
 unfolding upward
 ended-by comp k w c o (sent p ps u a b d r v) =
     let free : held (step w c .next) ≡ Free = a ∙ o .1 in
@@ -258,38 +247,3 @@ ended-by comp k w c o (sent p ps u a b d r v) =
 pub joined-owed : (comp : ℕ → Completion) (N : ℕ) (w : World) → Owes comp 0 N (held w) → (cs : List Call) → without isEnd w cs ≡ true → readHandedOn w cs
     → length (got w cs) ≡ N → joinedData (got w cs) ≡ datas comp (w .read) 0 N
 joined-owed comp N w o cs q s e = rw (← e) (left comp (w .read) cs 0 N w o refl q s .joins (omega arith))
-
--- ---- from a world that owes N completions
-
-module _ (comp : ℕ → Completion) (N : ℕ) (body : ℕ → List ℕ) (w : World) (d : Sound (w .state)) (o : Owes comp 0 N (held w))
-    (is : (j : ℕ) → j < N → bodyOf (comp j) (w .read) ≡ body j) (cs : List Call) (q : without isEnd w cs ≡ true) (s : readHandedOn w cs) (h : allHanded cs ≡ true) where
-  -- with j completions handed over
-  owed : (n : ℕ) → length (got w cs) + suc n ≡ N → Owes comp (length (got w cs)) (suc n) (held (run w cs))
-  owed n e = subst (λ (k : ℕ). Owes comp k (suc n) (held (run w cs))) (zero-add (length (got w cs))) (left comp (w .read) cs 0 N w o refl q s .owes n e)
-
-  read-at : (n : ℕ) → length (got w cs) + suc n ≡ N → run w cs .read ≡ w .read
-  read-at n e = left comp (w .read) cs 0 N w o refl q s .read n e
-
-  in-order : (c : Call) → length (got w cs) < N → Move (run w cs) c (step (run w cs) c) gets
-      → step (run w cs) c .reply ≡ closed (0x08 ∷ body (length (got w cs))) (status (step (run w cs) c .next .state))
-  in-order c l (sent p ps u a b e r v) =
-      let n = N - suc (length (got w cs)) in
-      let here : p ≡ comp (length (got w cs)) = cc (owed n (omega arith) .0) in
-      r ∙ ap (λ (x : List ℕ). closed (0x08 ∷ x) (status (step (run w cs) c .next .state))) (rw (here, read-at n (omega arith)) (is (length (got w cs)) l))
-
-  pub deliver : Delivers N body w cs
-  unfolding Busy
-  deliver =
-      record {
-        inOrder = λ c e l. in-order c l (view-as (run w cs) c e);
-        accepts = λ check reply l long fine.
-            get-accepted (run w cs) check reply _ _ (sound-run w cs d h) (owed (N - suc (length (got w cs))) (omega arith) .0) long fine;
-        stands = λ c l. busy-at c l .0;
-        held = λ c l. busy-at c l .1;
-        last = λ c e l. ended-by comp _ (run w cs) c (owed 0 (omega arith)) (view-as (run w cs) c e);
-      }
-    where
-      busy-at : (c : Call) → length (got w cs) + length (gotBy (run w cs) c) < N → Busy (step (run w cs) c .reply)
-      busy-at c l =
-          let n = N - suc (length (got w cs)) in
-          stood comp _ n (run w cs) c (kind (run w cs) c) (owed n (omega arith)) (omega arith) (view (run w cs) c)

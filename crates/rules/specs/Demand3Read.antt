@@ -1,4 +1,4 @@
--- A read that is answered owes its pieces: what `upward` hands over, edge by edge, is the cutting at blocks.
+-- What an answered request owes: a read its pieces, which `upward` hands over edge by edge, and any other one completion without data.
 use Prim.Native.Nat.{ℕ, zero, suc, _+_, _-_, _/_, _%_, _≤_, _<_}
 use mathlib.Core.Bool.{true, true≢false}
 use mathlib.Core.List.{List, [], _∷_, _++_}
@@ -11,15 +11,16 @@ use lib.Seq.{take-append-le, drop-append-le}
 use borrow.Author.Tests.{eq-eqb, ne-eqb}
 use Rattle.base.specs.Pick.{pick}
 use Rattle.base.specs.Bytes.{over}
-use Rattle.pieces.specs.Edges.{edge-le, edge-next, edge-all}
+use Rattle.pieces.specs.Blocks.{blocks-suc}
+use Rattle.pieces.specs.Edges.{edge-zero, edge-le, edge-next, edge-all}
 use Rattle.pieces.specs.Laws.{next-size-edge, next-mark-edge}
 use Rattle.pieces.specs.Marks.{markType}
 use Rattle.pieces.specs.Pieces.{blocks, edge, piece, piecesFrom, part, joined, nextSize}
-use Rattle.state.specs.Upward.{upward, handed, pieceOf, successOf, afterPiece, afterSuccess}
+use Rattle.state.specs.Upward.{upward, handed, bare, pieceOf, successOf, afterPiece, afterSuccess}
 use Rattle.state.specs.declared.Completion.{Completion}
 use Rattle.state.specs.declared.Kind.{Kind}
 use Rattle.state.specs.declared.Kind.the-variants.{MemoryRead, IoRead, IoWrite}
-use Rattle.state.specs.declared.Np.the-variants.{Free, Ready}
+use Rattle.state.specs.declared.Np.the-variants.{Free, Ready, Failed}
 use Rattle.state.specs.declared.Request.{Request}
 use Rattle.rules.specs.Reply.{headerBytes, dataBytes}
 use Rattle.rules.specs.Kinds.{isRead}
@@ -68,6 +69,24 @@ module _ (q : Request) (r : isRead (q .kind) ≡ true) (l : 0 < q .length) (p : 
   owes-read (suc n) k h =
       let more : handed (Ready q (edgeOf q k)) ≡ Ready q (edgeOf q (suc k)) = piece-handed k (omega arith) ∙ rw (ne-eqb (suc k) (countOf q) (λ e. omega arith)) in
       (piece-ready k (omega arith), subst (Owes (pieceOfRead q) (suc k) (suc n)) (sym more) (owes-read n (suc k) (omega arith)))
+
+pub read-owes : (q : Request) → isRead (q .kind) ≡ true → 0 < q .length → 0 < q .payload
+    → Owes (pieceOfRead q) 0 (blocks (q .address) (q .length) (q .payload)) (Ready q 0)
+read-owes q e l p =
+    let A = q .address in
+    let L = q .length in
+    let P = q .payload in
+    subst (λ (n : ℕ). Owes (pieceOfRead q) 0 n (Ready q 0)) (sym (blocks-suc A L P))
+    (subst (λ (s : ℕ). Owes (pieceOfRead q) 0 (suc ((A + L - 1) / P - A / P)) (Ready q s)) (edge-zero A L P)
+    (owes-read q e l p ((A + L - 1) / P - A / P) 0 (omega (arith, blocks-suc A L P))))
+
+pub failure-owes : (q : Request) → Owes (λ j. bare 0x0E q) 0 1 (Failed q)
+unfolding upward handed
+failure-owes q = (refl, refl)
+
+pub io-write-owes : (q : Request) → q .kind ≡ IoWrite → Owes (λ j. bare 0x06 q) 0 1 (Ready q 0)
+unfolding upward handed
+io-write-owes q e = (ap (λ (k : Kind). successOf k q 0 ∷ []) e, ap (λ (k : Kind). afterSuccess k q 0) e)
 
 -- ---- a piece's bytes
 

@@ -6,7 +6,7 @@ use mathlib.Core.Path.{_≡_}
 use lib.Dec.{eqb, ltb}
 use lib.ListN.{length, getD}
 use Rattle.base.specs.Pick.{pick}
-use Rattle.registers.specs.Registers.{on0}
+use Rattle.registers.specs.Registers.{on0, payloadSize, readSize}
 use Rattle.command.specs.Opcode.{opcodeOf}
 use Rattle.command.specs.Decode.{headOf, registerAddress, registerData, shortAddress}
 use Rattle.command.specs.declared.Access.{Access}
@@ -18,7 +18,7 @@ use Rattle.state.specs.declared.Kind.the-variants as R
 use Rattle.state.specs.declared.Np.{Np}
 use Rattle.state.specs.declared.Request.{Request}
 use Rattle.state.specs.declared.State.{State}
-use Rattle.rules.specs.Decide.{requestOf, bytesOf}
+use Rattle.rules.specs.Decide.{bytesOf}
 use Rattle.rules.specs.Step.{World, Call, Outcome, step, start, espiReset, platformReset, exchange, look, answer, takeWrite, setWire, readWire, lend}
 
 -- ---- kinds: refused calls are idle, what an accepted exchange was its bytes say
@@ -123,9 +123,18 @@ askOf O.Unknown b = noAsk
 abbrev pub askIn : List ℕ → Ask
 askIn b = askOf (opcode b) b
 
--- the request that an accepted command makes: what its bytes ask, under the sizes of this state
+-- the request that an accepted command makes: what its bytes ask, "with its tag, payload and read sizes then in force"
 abbrev pub requestFor : State → Ask → Request
-requestFor s a = requestOf (s .config) (a .kind) (a .address) (a .length) (a .tag) (a .bytes)
+requestFor s a =
+    record {
+      kind = a .kind;
+      address = a .address;
+      length = a .length;
+      tag = a .tag;
+      payload = payloadSize (s .config .r010);
+      readsize = readSize (s .config .r010);
+      bytes = a .bytes;
+    }
 
 abbrev pub isRead : Sort → Bool
 isRead R.MemoryRead = true

@@ -18,6 +18,8 @@ pub mod Demand3
 pub mod Demand3End
 pub mod Demand3Owed
 pub mod Demand3Read
+pub mod Demand3Before
+pub mod Demand3Deliver
 pub mod Demand3Proof
 pub mod Kept
 pub mod KeptBytes

@@ -20,10 +20,10 @@ use Rattle.rules.specs.Board as B
 use Rattle.rules.specs.Step.{World, Call, Outcome, step, run, settled, succeeded, readLength, answer}
 use Rattle.rules.specs.Step.{start, espiReset, platformReset, exchange, look, takeWrite, setWire, readWire, lend}
 use Rattle.rules.specs.Kinds.{Kind, idle, asks, tells, gets, ends, lends, kind, kindOf, isStart, isAsk, isEnd, isTell, without, held}
-use Rattle.rules.specs.View.{Move, same, asked, told, sent, lent, dropped, view, view-as}
+use Rattle.rules.specs.View.{Move, same, asked, told, sent, lent, dropped, view, view-as, answeredAs, clash, end-free}
 use Rattle.rules.specs.Serials.{serialOf, SerialGiven, ForHeld, AnswerForHeld, askedTimes, noStart, LateAnswer, DroppedAnswer, FirstAnswer, Serials}
 use Rattle.rules.specs.declared.Plan.{Plan}
-use Rattle.rules.specs.Demand3Owed.{clash, free-run}
+use Rattle.rules.specs.Demand3Owed.{free-run}
 
 -- ---- what is given
 
@@ -123,9 +123,6 @@ unfolding run askedTimes
 asked-append [] w ys = omega arith
 asked-append (c ∷ xs) w ys = rw (asked-append xs (step w c .next) ys) (omega arith)
 
-end-free : {w : World} {c : Call} {o : Outcome} → Move w c o ends → held (o .next) ≡ Free
-end-free (dropped a b d v) = a
-
 none-asked : (cs : List Call) (w : World) → askedTimes w cs ≡ 0 → without isAsk w cs ≡ true
 unfolding askedTimes without
 none-asked [] w e = refl
@@ -181,14 +178,14 @@ handed-done (Ready q s) e = by (q .kind)
     by R.IoWrite = refl
 handed-done (Failed q) e = refl
 
-answered-done : (w : World) (q : Request) (t : Bool) → waiting (B.answered (w .state) q t .next .peripheral .request) ≡ false
-answered-done w q true = refl
-answered-done w q false = refl
+answered-done : (q : Request) (t : Bool) → waiting (answeredAs q t) ≡ false
+answered-done q true = refl
+answered-done q false = refl
 
 done-step : (w : World) (c : Call) (k : Kind) → waiting (held w) ≡ false → isAsk k ≡ false → Move w c (step w c) k → waiting (held (step w c .next)) ≡ false
 done-step w c k h f (same a b d v) = ap waiting a ∙ h
 done-step w c k h f (asked b r g a m n d z v) = absurd (true≢false f)
-done-step w c k h f (told p m t d g a b i n v r z) = ap waiting n ∙ answered-done w p (succeeded t)
+done-step w c k h f (told p m t d g a b i n v r z) = ap waiting n ∙ answered-done p (succeeded t)
 done-step w c k h f (sent p ps u a b d r v) = ap waiting a ∙ handed-done (held w) h
 done-step w c k h f (lent write read g a b d v) = ap waiting a ∙ h
 done-step w c k h f (dropped a b d v) = ap waiting a
@@ -200,7 +197,7 @@ done-run (c ∷ cs) w h e =
     done-run cs (step w c .next) (done-step w c (kind w c) h (not-true _ (and-left (not (isAsk (kind w c))) _ e)) (view w c)) (and-right (not (isAsk (kind w c))) _ e)
 
 told-done : {w : World} {c : Call} {o : Outcome} → Move w c o tells → waiting (held (o .next)) ≡ false
-told-done {w} (told p m t d g a b i n v r z) = ap waiting n ∙ answered-done w p (succeeded t)
+told-done (told p m t d g a b i n v r z) = ap waiting n ∙ answered-done p (succeeded t)
 
 untold : (cs : List Call) (w : World) → without isAsk w cs ≡ true → waiting (held (run w cs)) ≡ true → without isTell w cs ≡ true
 unfolding run without

@@ -6,8 +6,8 @@ use mathlib.Core.List.{List, [], _∷_, _++_, append-assoc}
 use mathlib.Core.Path.{_≡_, refl, sym, ap, _∙_, subst}
 use native.Mathlib.Omega.{arith}
 use lib.Dec.{eqb, ltb}
-use lib.ListN.{length, getD, length-append}
-use lib.Seq.{getD-append-add}
+use lib.ListN.{length, getD, take, length-append}
+use lib.Seq.{getD-append-add, take-length}
 use borrow.Author.Tests.{eqb-true, not-false}
 use Rattle.base.specs.Pick.{pick, pick-ind}
 use Rattle.base.specs.Bytes.{over, low2}
@@ -43,15 +43,11 @@ use Rattle.rules.specs.Decide as D
 use Rattle.rules.specs.Decide.{nextSerial, sizeFor, channelsOf, byDecoded}
 use Rattle.rules.specs.Board as B
 use Rattle.rules.specs.Board.{bytesFor}
-use Rattle.rules.specs.Reply.{closed, replyBytes, headerBytes, dataBytes, keptBytes}
+use Rattle.rules.specs.Reply.{closed, replyBytes, headerBytes, dataBytes}
 use Rattle.rules.specs.Step.{World, Call, Outcome, step, exchanged, settled, shortStores, succeeded, readLength, writeLength, lookLength, takeLength}
 use Rattle.rules.specs.Step.{start, espiReset, platformReset, exchange, look, answer, takeWrite, setWire, readWire, lend}
 use Rattle.rules.specs.Kinds.{Kind, idle, asks, tells, gets, ends, lends, opcode, accessKind, commandKind, kindOf, kind, isStart, askOf, askIn, requestFor, held, statusIn, shows}
-use Rattle.rules.specs.declared.Answer.{Answer}
-use Rattle.rules.specs.declared.Answer.the-variants.{Silent, Said}
-use Rattle.rules.specs.declared.Body.{Body}
 use Rattle.rules.specs.declared.Plan.{Plan}
-use Rattle.rules.specs.declared.Response.{Response}
 
 -- ---- the status of a held request: bit 1, NP_FREE, and bit 4, PC_AVAIL
 
@@ -75,6 +71,11 @@ status-pc s =
 
 -- ---- the view, by the call's kind
 
+-- "Success", with no byte sent yet, or failure
+abbrev pub answeredAs : Request → Bool → Np
+answeredAs q true = Ready q 0
+answeredAs q false = Failed q
+
 pub data Move (w : World) (c : Call) (o : Outcome) : Kind → Type 0 where
   same : held (o .next) ≡ held w → o .next .state .peripheral .serial ≡ w .state .peripheral .serial → o .next .read ≡ w .read
       → Shown (held w) (o .reply) → Move w c o idle
@@ -82,8 +83,8 @@ pub data Move (w : World) (c : Call) (o : Outcome) : Kind → Type 0 where
       → o .next .state .peripheral .serial ≡ nextSerial (w .state .peripheral .serial) → o .next .read ≡ w .read
       → o .reply ≡ closed (0x01 ∷ []) (status (o .next .state)) → Shown (held (o .next)) (o .reply) → Move w c o asks
   told : (q : Request) (serial success : ℕ) (d : List ℕ) → c ≡ answer serial success d → held w ≡ Waiting q → serial ≡ w .state .peripheral .serial
-      → length d ≡ bytesFor q (succeeded success) → held (o .next) ≡ B.answered (w .state) q (succeeded success) .next .peripheral .request
-      → o .next .state .peripheral .serial ≡ w .state .peripheral .serial → o .next .read ≡ over (keptBytes (B.answered (w .state) q (succeeded success) .kept) d) (w .read)
+      → length d ≡ bytesFor q (succeeded success) → held (o .next) ≡ answeredAs q (succeeded success)
+      → o .next .state .peripheral .serial ≡ w .state .peripheral .serial → o .next .read ≡ over d (w .read)
       → o .reply ≡ [] → Move w c o tells
   sent : (k : Completion) (ks : List Completion) → upward (held w) ≡ k ∷ ks → held (o .next) ≡ handed (held w)
       → o .next .state .peripheral .serial ≡ w .state .peripheral .serial → o .next .read ≡ w .read
@@ -246,6 +247,10 @@ module _ (w : World) (b r : List ℕ) where
 
 -- ---- the board's calls
 
+no-bytes : (d : List ℕ) → length d ≡ 0 → [] ≡ d
+no-bytes [] e = refl
+no-bytes (x ∷ d) e = absurd (omega arith)
+
 module _ (w : World) (serial success : ℕ) (d : List ℕ) where
   abbrev Told : Plan → Type 0
   Told p = Move w (answer serial success d) (settled w d [] p) (pick (eqb (p .number) 0) tells idle)
@@ -257,8 +262,9 @@ module _ (w : World) (serial success : ℕ) (d : List ℕ) where
   answered-seen : (q : Request) (t : Bool) → succeeded success ≡ t → held w ≡ Waiting q → serial ≡ w .state .peripheral .serial → length d ≡ bytesFor q t
       → Told (B.answered (w .state) q t)
   unfolding settled
-  answered-seen q true e h n l = told q serial success d refl h n (rw e l) (rw e) refl (rw e) refl
-  answered-seen q false e h n l = told q serial success d refl h n (rw e l) (rw e) refl (rw e) refl
+  answered-seen q true e h n l =
+      told q serial success d refl h n (rw e l) (rw e) refl (ap (λ (x : List ℕ). over x (w .read)) (ap (λ (m : ℕ). take m d) (sym l) ∙ take-length d)) refl
+  answered-seen q false e h n l = told q serial success d refl h n (rw e l) (rw e) refl (ap (λ (x : List ℕ). over x (w .read)) (no-bytes d l)) refl
 
   answer-seen : (n : Np) → held w ≡ n → Told (B.answering (w .state) serial (succeeded success) (length d) n)
   answer-seen Free h = unanswered-seen 20 refl
@@ -304,3 +310,10 @@ view w (lend write read) = lent write read refl refl refl refl refl
 
 pub view-as : (w : World) (c : Call) {k : Kind} → kind w c ≡ k → Move w c (step w c) k
 view-as w c e = subst (Move w c (step w c)) e (view w c)
+
+-- for a case that the facts in hand rule out
+pub clash : {X : Type 0} → _≡_ {A = ℕ} 0 1 → X
+clash e = absurd (omega arith)
+
+pub end-free : {w : World} {c : Call} {o : Outcome} → Move w c o ends → held (o .next) ≡ Free
+end-free (dropped a b d x) = a
