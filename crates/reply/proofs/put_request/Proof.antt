@@ -1,3 +1,5 @@
+use mathlib.Core.Path.{_∙_}
+use Rattle.base.specs.Bytes.{put-first}
 use borrow.Author.Needs.{needs}
 use Rattle.reply.proofs.put_request.Statement.{statement}
 use Rattle.reply.proofs.put_request.Tie as tie
@@ -24,7 +26,7 @@ same-length c = search needs
 
 -- src/lib.rt:201:1
 returns : tie.Need-returns
-returns c = ?
+returns c = (rw (c .before .before .before .before .before .request-report .ensures) at (c .before .before .put-at .ensures)) ∙ put-first _ _
 
 pub put-request-spec : {M : Type 1} → statement M
 put-request-spec =

@@ -1,3 +1,8 @@
+use denote.Ref.{now}
+use mathlib.Core.Path.{sym, ap, _∙_}
+use Rattle.base.specs.Bytes.{over, over-none}
+use Rattle.rules.specs.Board.{takeReport}
+use Rattle.state.specs.declared.Write.{Write}
 use borrow.Author.Needs.{needs}
 use Rattle.reply.proofs.put_write.Statement.{statement}
 use Rattle.reply.proofs.put_write.Tie as tie
@@ -18,7 +23,7 @@ put-posted-requires c κs = search needs
 
 -- src/lib.rt:237:1
 returns : tie.Need-returns
-returns c = ?
+returns c = sym (over-none _) ∙ ap (λ (z : Write). over (takeReport z) (now (c .before .before .before .args .report))) (sym (c .enum-told .given .1))
 
 -- src/lib.rt:237:1
 same-length : tie.Need-same-length
@@ -26,7 +31,7 @@ same-length c = search needs
 
 -- src/lib.rt:237:1
 returns-2 : tie.Need-returns-2
-returns-2 c = ?
+returns-2 c = c .before .before .put-posted .ensures ∙ ap (λ (z : Write). over (takeReport z) (now (c .before .before .before .before .before .before .before .before .args .report))) (sym (c .before .before .before .before .before .w .given .1))
 
 pub put-write-spec : {M : Type 1} → statement M
 put-write-spec =

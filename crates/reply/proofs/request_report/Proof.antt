@@ -83,7 +83,7 @@ cast-t57 c = search needs
 
 -- src/lib.rt:170:1
 returns : tie.Need-returns
-returns c = ?
+returns c = rw (c .kind-number .ensures)
 
 pub request-report-spec : {M : Type 1} → statement M
 request-report-spec =

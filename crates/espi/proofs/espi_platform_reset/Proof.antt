@@ -1,0 +1,53 @@
+use borrow.Author.Needs.{needs}
+use Rattle.espi.proofs.espi_platform_reset.Statement.{statement}
+use Rattle.espi.proofs.espi_platform_reset.Tie as tie
+use Rattle.espi.proofs.espi_platform_reset.Reads as reads
+use Rattle.espi.proofs.espi_platform_reset.Lts as lts
+use Rattle.engine.proofs.platform_reset.Reads as platform-reset-reads
+use Rattle.state.proofs.load.Reads as load-reads
+use Rattle.state.proofs.pack.Reads as pack-reads
+
+-- src/lib.rt:54:9
+returns : tie.Need-returns
+returns c = ?
+
+-- src/lib.rt:56:9
+load-requires : tie.Need-load-requires
+load-requires c κs = search needs
+
+-- src/lib.rt:58:9
+same-length : tie.Need-same-length
+same-length c = search needs
+
+-- src/lib.rt:58:9
+returns-2 : tie.Need-returns-2
+returns-2 c = ?
+
+-- src/lib.rt:61:10
+platform-reset-requires : tie.Need-platform-reset-requires
+platform-reset-requires c κs = search needs
+
+-- src/lib.rt:61:5
+pack-requires : tie.Need-pack-requires
+pack-requires c κs = search needs
+
+-- src/lib.rt:49:1
+same-length-2 : tie.Need-same-length-2
+same-length-2 c = search needs
+
+-- src/lib.rt:49:1
+returns-3 : tie.Need-returns-3
+returns-3 c = ?
+
+pub espi-platform-reset-spec : {M : Type 1} → statement M
+espi-platform-reset-spec =
+    tie.close
+    (tie.spec
+    returns
+    load-requires
+    same-length
+    returns-2
+    platform-reset-requires
+    pack-requires
+    same-length-2
+    returns-3)
