@@ -141,9 +141,9 @@ pub extern "C" fn espi_answer(
     read_store: &mut [u8],
     serial: u32,
     success: u32,
-    data: &[u8],
+    bytes: &[u8],
 ) -> u32
-    ensures { λ r. ⌜ stored r (now (state .exit)) (now («read_store» .exit)) ≡ answerCall (now (state .entry)) (now («read_store» .entry)) serial success (now («data» .entry)) ⌝ }
+    ensures { λ r. ⌜ stored r (now (state .exit)) (now («read_store» .exit)) ≡ answerCall (now (state .entry)) (now («read_store» .entry)) serial success (now (bytes .entry)) ⌝ }
 {
     if state.len() < STATE {
         return 10;
@@ -156,11 +156,11 @@ pub extern "C" fn espi_answer(
         return 11;
     }
     let s = got.state;
-    let p = engine::answer(s, serial, success != 0, data.len());
+    let p = engine::answer(s, serial, success != 0, bytes.len());
     let next = p.next;
     let k = p.kept;
     pack(next, state);
-    reply::keep(read_store, k, data);
+    reply::keep(read_store, k, bytes);
     p.number as u32
 }
 

@@ -1,66 +1,63 @@
+use Rattle.base.specs.Pick.{taken, passed}
+use borrow.Author.Tests.{lt-ltb, le-ltb}
+use mathlib.Core.Path.{refl}
+use denote.Ref.{now}
+use Rattle.espi.specs.Boundary.{ok-is, looked-by}
+use mathlib.Core.Path.{sym}
+use Rattle.base.specs.Bytes.{over-none}
+use Rattle.rules.specs.Calls.{lookCall}
 use borrow.Author.Needs.{needs}
 use Rattle.espi.proofs.espi_look.Statement.{statement}
 use Rattle.espi.proofs.espi_look.Tie as tie
-use Rattle.espi.proofs.espi_look.Reads as reads
-use Rattle.espi.proofs.espi_look.Lts as lts
-use Rattle.reply.proofs.put_request.Reads as put-request-reads
-use Rattle.state.proofs.load.Reads as load-reads
 
--- src/lib.rt:115:9
 returns : tie.Need-returns
-returns c = ?
+unfolding lookCall
+returns c = taken _ _ (lt-ltb _ _ (c .if1 .taken)) refl
 
--- src/lib.rt:118:9
 returns-2 : tie.Need-returns-2
-returns-2 c = ?
+unfolding lookCall
+returns-2 c = passed _ _ (le-ltb _ _ (c .before .if1 .left)) (taken _ _ (lt-ltb _ _ (c .if2 .taken)) refl)
 
--- src/lib.rt:120:9
 load-requires : tie.Need-load-requires
 load-requires c κs = search needs
 
--- src/lib.rt:122:9
 returns-3 : tie.Need-returns-3
-returns-3 c = ?
+unfolding lookCall
+returns-3 c = passed _ _ (le-ltb _ _ (c .before .before .before .before .if1 .left)) (passed _ _ (le-ltb _ _ (c .before .before .before .if2 .left)) (taken _ _ (ok-is _ (c .before .before .load .result) (c .before .before .load .ensures) (c .if3 .taken)) refl))
 
--- src/lib.rt:128:21
 enum-told : tie.Need-enum-told
 enum-told c = search needs
 
--- src/lib.rt:129:21
 enum-known-n : tie.Need-enum-known-n
 enum-known-n c = search needs
 
--- src/lib.rt:130:13
 put-request-requires : tie.Need-put-request-requires
 put-request-requires c κs = search needs
 
--- src/lib.rt:133:28
 enum-told-2 : tie.Need-enum-told-2
 enum-told-2 c = search needs
 
--- src/lib.rt:134:26
 enum-told-3 : tie.Need-enum-told-3
 enum-told-3 c = search needs
 
--- src/lib.rt:110:1
 returns-4 : tie.Need-returns-4
-returns-4 c = ?
+unfolding lookCall
+returns-4 c = passed _ _ (le-ltb _ _ (c .before .before .before .before .before .before .before .before .if1 .left)) (passed _ _ (le-ltb _ _ (c .before .before .before .before .before .before .before .if2 .left)) (passed _ _ (ok-is _ (c .before .before .before .before .before .before .load .result) (c .before .before .before .before .before .before .load .ensures) (c .before .before .before .before .if3 .left)) (looked-by (now (c .before .before .before .before .before .before .before .before .before .before .before .args .state)) (c .before .before .before .before .before .before .load .result) (c .before .before .before .before .before .before .load .ensures) _ 23 _ _ (c .enum-told .given .1) refl (sym (over-none _)))))
 
--- src/lib.rt:110:1
 same-length : tie.Need-same-length
 same-length c = search needs
 
--- src/lib.rt:110:1
 returns-5 : tie.Need-returns-5
-returns-5 c = ?
+unfolding lookCall
+returns-5 c = passed _ _ (le-ltb _ _ (c .before .before .before .before .before .before .before .before .before .before .before .before .before .if1 .left)) (passed _ _ (le-ltb _ _ (c .before .before .before .before .before .before .before .before .before .before .before .before .if2 .left)) (passed _ _ (ok-is _ (c .before .before .before .before .before .before .before .before .before .before .before .load .result) (c .before .before .before .before .before .before .before .before .before .before .before .load .ensures) (c .before .before .before .before .before .before .before .before .before .if3 .left)) (looked-by (now (c .before .before .before .before .before .before .before .before .before .before .before .before .before .before .before .before .args .state)) (c .before .before .before .before .before .before .before .before .before .before .before .load .result) (c .before .before .before .before .before .before .before .before .before .before .before .load .ensures) _ 0 _ _ (c .before .before .before .before .before .n .given .1) refl (c .before .before .put-request .ensures))))
 
--- src/lib.rt:110:1
 returns-6 : tie.Need-returns-6
-returns-6 c = ?
+unfolding lookCall
+returns-6 c = passed _ _ (le-ltb _ _ (c .before .before .before .before .before .before .before .before .if1 .left)) (passed _ _ (le-ltb _ _ (c .before .before .before .before .before .before .before .if2 .left)) (passed _ _ (ok-is _ (c .before .before .before .before .before .before .load .result) (c .before .before .before .before .before .before .load .ensures) (c .before .before .before .before .if3 .left)) (looked-by (now (c .before .before .before .before .before .before .before .before .before .before .before .args .state)) (c .before .before .before .before .before .before .load .result) (c .before .before .before .before .before .before .load .ensures) _ 23 _ _ (c .enum-told2 .given .1) refl (sym (over-none _)))))
 
--- src/lib.rt:110:1
 returns-7 : tie.Need-returns-7
-returns-7 c = ?
+unfolding lookCall
+returns-7 c = passed _ _ (le-ltb _ _ (c .before .before .before .before .before .before .before .before .if1 .left)) (passed _ _ (le-ltb _ _ (c .before .before .before .before .before .before .before .if2 .left)) (passed _ _ (ok-is _ (c .before .before .before .before .before .before .load .result) (c .before .before .before .before .before .before .load .ensures) (c .before .before .before .before .if3 .left)) (looked-by (now (c .before .before .before .before .before .before .before .before .before .before .before .args .state)) (c .before .before .before .before .before .before .load .result) (c .before .before .before .before .before .before .load .ensures) _ 23 _ _ (c .enum-told3 .given .1) refl (sym (over-none _)))))
 
 pub espi-look-spec : {M : Type 1} → statement M
 espi-look-spec =

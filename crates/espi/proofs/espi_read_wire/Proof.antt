@@ -1,43 +1,43 @@
+use Rattle.state.specs.Layout.{unpacked}
+use Rattle.base.specs.Pick.{taken, passed}
+use borrow.Author.Tests.{lt-ltb, le-ltb}
+use mathlib.Core.Path.{refl, _∙_}
+use denote.Ref.{now}
+use Rattle.espi.specs.Boundary.{ok-is, wire-by, wire-refused}
+use mathlib.Core.Path.{sym}
+use borrow.Author.Tests.{not-false}
+use Rattle.rules.specs.Calls.{readWireCall}
 use borrow.Author.Needs.{needs}
 use Rattle.espi.proofs.espi_read_wire.Statement.{statement}
 use Rattle.espi.proofs.espi_read_wire.Tie as tie
-use Rattle.espi.proofs.espi_read_wire.Reads as reads
-use Rattle.espi.proofs.espi_read_wire.Lts as lts
-use Rattle.state.proofs.load.Reads as load-reads
-use Rattle.wires.proofs.Wires.read.Reads as read-reads
-use Rattle.wires.proofs.defined_bit.Reads as defined-bit-reads
 
--- src/lib.rt:217:9
 returns : tie.Need-returns
-returns c = ?
+unfolding readWireCall
+returns c = taken _ _ (lt-ltb _ _ (c .if1 .taken)) refl
 
--- src/lib.rt:219:9
 load-requires : tie.Need-load-requires
 load-requires c κs = search needs
 
--- src/lib.rt:221:9
 returns-2 : tie.Need-returns-2
-returns-2 c = ?
+unfolding readWireCall
+returns-2 c = passed _ _ (le-ltb _ _ (c .before .before .before .if1 .left)) (taken _ _ (ok-is _ (c .before .before .load .result) (c .before .before .load .ensures) (c .if2 .taken)) refl)
 
--- src/lib.rt:223:9
 defined-bit-requires : tie.Need-defined-bit-requires
 defined-bit-requires c κs = search needs
 
--- src/lib.rt:224:9
 returns-3 : tie.Need-returns-3
-returns-3 c = ?
+unfolding readWireCall
+returns-3 c = let a = c .before .before .before .before .before .before .before .args in passed _ _ (le-ltb _ _ (c .before .before .before .before .before .if1 .left)) (passed _ _ (ok-is _ (c .before .before .before .before .load .result) (c .before .before .before .before .load .ensures) (c .before .before .if2 .left)) (wire-refused (unpacked (now (a .state))) (a .index) (a .bit) _ (c .before .defined-bit .ensures) (c .if3 .taken)))
 
--- src/lib.rt:228:11
 read-requires : tie.Need-read-requires
-read-requires c κs = ?
+read-requires c κs = sym (c .before .before .before .defined-bit .ensures) ∙ not-false _ (c .before .before .if3 .left)
 
--- src/lib.rt:228:5
 mul-result : tie.Need-mul-result
 mul-result c = search needs
 
--- src/lib.rt:212:1
 returns-4 : tie.Need-returns-4
-returns-4 c = ?
+unfolding readWireCall
+returns-4 c = let a = c .before .before .before .before .before .before .before .before .before .before .args in passed _ _ (le-ltb _ _ (c .before .before .before .before .before .before .before .before .if1 .left)) (passed _ _ (ok-is _ (c .before .before .before .before .before .before .before .load .result) (c .before .before .before .before .before .before .before .load .ensures) (c .before .before .before .before .before .if2 .left)) (wire-by (now (a .state)) (c .before .before .before .before .before .before .before .load .result) (c .before .before .before .before .before .before .before .load .ensures) (a .index) (a .bit) _ _ (c .before .before .before .before .defined-bit .ensures) (c .before .before .before .if3 .left) (c .read .ensures)))
 
 pub espi-read-wire-spec : {M : Type 1} → statement M
 espi-read-wire-spec =

@@ -1,43 +1,40 @@
+use Rattle.base.specs.Pick.{taken, passed}
+use borrow.Author.Tests.{lt-ltb, le-ltb}
+use mathlib.Core.Path.{refl}
+use denote.Ref.{now}
+use Rattle.espi.specs.Boundary.{ok-is, changed-by}
+use Rattle.rules.specs.Calls.{espiResetCall, changeCall}
+use Rattle.rules.specs.Board as T
 use borrow.Author.Needs.{needs}
 use Rattle.espi.proofs.espi_reset.Statement.{statement}
 use Rattle.espi.proofs.espi_reset.Tie as tie
-use Rattle.espi.proofs.espi_reset.Reads as reads
-use Rattle.espi.proofs.espi_reset.Lts as lts
-use Rattle.engine.proofs.espi_reset.Reads as espi-reset-reads
-use Rattle.state.proofs.load.Reads as load-reads
-use Rattle.state.proofs.pack.Reads as pack-reads
 
--- src/lib.rt:38:9
 returns : tie.Need-returns
-returns c = ?
+unfolding espiResetCall changeCall
+returns c = taken _ _ (lt-ltb _ _ (c .if1 .taken)) refl
 
--- src/lib.rt:40:9
 load-requires : tie.Need-load-requires
 load-requires c κs = search needs
 
--- src/lib.rt:42:9
 same-length : tie.Need-same-length
 same-length c = search needs
 
--- src/lib.rt:42:9
 returns-2 : tie.Need-returns-2
-returns-2 c = ?
+unfolding espiResetCall changeCall
+returns-2 c = passed _ _ (le-ltb _ _ (c .before .before .before .before .if1 .left)) (taken _ _ (ok-is _ (c .before .before .load .result) (c .before .before .load .ensures) (c .if2 .taken)) refl)
 
--- src/lib.rt:45:10
 espi-reset-requires : tie.Need-espi-reset-requires
 espi-reset-requires c κs = search needs
 
--- src/lib.rt:45:5
 pack-requires : tie.Need-pack-requires
 pack-requires c κs = search needs
 
--- src/lib.rt:33:1
 same-length-2 : tie.Need-same-length-2
 same-length-2 c = search needs
 
--- src/lib.rt:33:1
 returns-3 : tie.Need-returns-3
-returns-3 c = ?
+unfolding espiResetCall changeCall
+returns-3 c = passed _ _ (le-ltb _ _ (c .before .before .before .before .before .before .before .before .before .before .if1 .left)) (passed _ _ (ok-is _ (c .before .before .before .before .before .before .before .before .load .result) (c .before .before .before .before .before .before .before .before .load .ensures) (c .before .before .before .before .before .before .if2 .left)) (changed-by (now (c .before .before .before .before .before .before .before .before .before .before .before .before .args .state)) (c .before .before .before .before .before .before .before .before .load .result) (c .before .before .before .before .before .before .before .before .load .ensures) T.espiReset _ _ (c .before .before .before .before .espi-reset .ensures) (c .before .before .pack .ensures)))
 
 pub espi-reset-spec : {M : Type 1} → statement M
 espi-reset-spec =

@@ -3,28 +3,19 @@ use Rattle.base.specs.Bytes.{put-first}
 use borrow.Author.Needs.{needs}
 use Rattle.reply.proofs.put_request.Statement.{statement}
 use Rattle.reply.proofs.put_request.Tie as tie
-use Rattle.reply.proofs.put_request.Reads as reads
-use Rattle.reply.proofs.put_request.Lts as lts
-use Rattle.base.proofs.put_at.Reads as put-at-reads
-use Rattle.reply.proofs.request_report.Reads as request-report-reads
 
--- src/lib.rt:205:13
 request-report-requires : tie.Need-request-report-requires
 request-report-requires c κs = search needs
 
--- src/lib.rt:206:29
 slice-aggregate-put-at : tie.Need-slice-aggregate-put-at
 slice-aggregate-put-at c = search needs
 
--- src/lib.rt:206:5
 put-at-requires : tie.Need-put-at-requires
 put-at-requires c κs = search needs
 
--- src/lib.rt:201:1
 same-length : tie.Need-same-length
 same-length c = search needs
 
--- src/lib.rt:201:1
 returns : tie.Need-returns
 returns c = (rw (c .before .before .before .before .before .request-report .ensures) at (c .before .before .put-at .ensures)) ∙ put-first _ _
 

@@ -6,30 +6,22 @@ use Rattle.state.specs.declared.Write.{Write}
 use borrow.Author.Needs.{needs}
 use Rattle.reply.proofs.put_write.Statement.{statement}
 use Rattle.reply.proofs.put_write.Tie as tie
-use Rattle.reply.proofs.put_write.Reads as reads
-use Rattle.reply.proofs.put_write.Lts as lts
-use Rattle.reply.proofs.put_posted.Reads as put-posted-reads
 
 enum-told : tie.Need-enum-told
 enum-told c = search needs
 
--- src/lib.rt:243:21
 enum-known-w : tie.Need-enum-known-w
 enum-known-w c = search needs
 
--- src/lib.rt:243:27
 put-posted-requires : tie.Need-put-posted-requires
 put-posted-requires c κs = search needs
 
--- src/lib.rt:237:1
 returns : tie.Need-returns
 returns c = sym (over-none _) ∙ ap (λ (z : Write). over (takeReport z) (now (c .before .before .before .args .report))) (sym (c .enum-told .given .1))
 
--- src/lib.rt:237:1
 same-length : tie.Need-same-length
 same-length c = search needs
 
--- src/lib.rt:237:1
 returns-2 : tie.Need-returns-2
 returns-2 c = c .before .before .put-posted .ensures ∙ ap (λ (z : Write). over (takeReport z) (now (c .before .before .before .before .before .before .before .before .args .report))) (sym (c .before .before .before .before .before .w .given .1))
 
