@@ -12,15 +12,11 @@ use Rattle.wires.specs.Groups.{packetBytes}
 use Rattle.wires.specs.declared.Packet.{Packet}
 use Rattle.state.specs.declared.Completion.{Completion}
 use Rattle.rules.specs.Reply.{headerBytes, dataBytes, bodyBytes, closed, replyBytes, keptBytes}
-use Rattle.rules.specs.Fits.{KeptFits}
+use Rattle.rules.specs.KeptFits.{closed-length}
 use Rattle.rules.specs.declared.Body.{Body}
 use Rattle.rules.specs.declared.Body.the-variants as B
 use Rattle.rules.specs.declared.Answer.{Answer}
 use Rattle.rules.specs.declared.Kept.{Kept}
-
-pub closed-length : (m : List ℕ) (status : ℕ) → length (closed m status) ≡ length m + 3
-unfolding closed
-closed-length m status = simp length-append (omega arith)
 
 -- status, then the CRC of all before it
 pub finish-by : (l l₁ l₂ : List ℕ) (n status c : ℕ)

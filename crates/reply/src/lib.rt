@@ -4,6 +4,10 @@ use rules::Body;
 use rules::Kept;
 use rules::Response;
 use state::Completion;
+use state::Kind;
+use state::Posted;
+use state::Request;
+use state::Write;
 use wires::Packet;
 ghost use mathlib.Core.Path.{_≡_};
 ghost use mathlib.Core.List.{_∷_, _++_};
@@ -12,6 +16,7 @@ ghost use lib.ListN.{length, take, drop};
 ghost use Rattle.base.specs.Bytes.{over};
 ghost use Rattle.wires.specs.Groups.{packetBytes};
 ghost use Rattle.rules.specs.Plan.{responseByte};
+ghost use Rattle.rules.specs.Board.{kindNumber, requestReport, postedReport, takeReport};
 ghost use Rattle.rules.specs.Reply.{headerBytes, dataBytes, bodyBytes, closed, replyBytes, keptBytes};
 ghost use Rattle.rules.specs.Fits.{BodyFits, AnswerFits, KeptFits};
 
@@ -149,5 +154,92 @@ pub fn keep(dst: &mut [u8], k: Kept, src: &[u8])
     match k {
         Kept::Nothing => {}
         Kept::Data(at, n) => keep_data(dst, at, n, src),
+    }
+}
+
+fn kind_number(k: Kind) -> u8
+    ensures { λ r. ⌜ r ≡ kindNumber k ⌝ }
+{
+    match k {
+        Kind::MemoryRead => 0,
+        Kind::IoRead => 1,
+        Kind::IoWrite => 2,
+    }
+}
+
+fn request_report(q: Request, serial: u32) -> [u8; 19]
+    ensures { λ r. ⌜ r ≡ requestReport q serial ⌝ }
+{
+    let k = q.kind;
+    let a = q.address;
+    let n = q.length;
+    let b = q.bytes;
+    [
+        kind_number(k),
+        (a % 256) as u8,
+        (a / 256 % 256) as u8,
+        (a / 65536 % 256) as u8,
+        (a / 16777216 % 256) as u8,
+        (a / 4294967296 % 256) as u8,
+        (a / 1099511627776 % 256) as u8,
+        (a / 281474976710656 % 256) as u8,
+        (a / 72057594037927936 % 256) as u8,
+        (n % 256) as u8,
+        (n / 256 % 256) as u8,
+        (serial % 256) as u8,
+        (serial / 256 % 256) as u8,
+        (serial / 65536 % 256) as u8,
+        (serial / 16777216 % 256) as u8,
+        (b % 256) as u8,
+        (b / 256 % 256) as u8,
+        (b / 65536 % 256) as u8,
+        (b / 16777216 % 256) as u8,
+    ]
+}
+
+// The report of a look: kind, address, length, serial, an I/O write's bytes.
+pub fn put_request(report: &mut [u8], q: Request, serial: u32)
+    requires { ⌜ 19 ≤ length (now report) ⌝ }
+    ensures { λ _. ⌜ now (report .exit) ≡ over (requestReport q serial) (now (report .entry)) ⌝ }
+{
+    let r = request_report(q, serial);
+    base::put_at(report, 0, &r);
+}
+
+fn posted_report(w: Posted) -> [u8; 10]
+    ensures { λ r. ⌜ r ≡ postedReport w ⌝ }
+{
+    let a = w.address;
+    let n = w.length;
+    [
+        (a % 256) as u8,
+        (a / 256 % 256) as u8,
+        (a / 65536 % 256) as u8,
+        (a / 16777216 % 256) as u8,
+        (a / 4294967296 % 256) as u8,
+        (a / 1099511627776 % 256) as u8,
+        (a / 281474976710656 % 256) as u8,
+        (a / 72057594037927936 % 256) as u8,
+        (n % 256) as u8,
+        (n / 256 % 256) as u8,
+    ]
+}
+
+fn put_posted(report: &mut [u8], w: Posted)
+    requires { ⌜ 10 ≤ length (now report) ⌝ }
+    ensures { λ _. ⌜ now (report .exit) ≡ over (postedReport w) (now (report .entry)) ⌝ }
+{
+    let r = posted_report(w);
+    base::put_at(report, 0, &r);
+}
+
+// The report of a take: address and length; nothing where no write is held.
+pub fn put_write(report: &mut [u8], w: Write)
+    requires { ⌜ 10 ≤ length (now report) ⌝ }
+    ensures { λ _. ⌜ now (report .exit) ≡ over (takeReport w) (now (report .entry)) ⌝ }
+{
+    match w {
+        Write::Empty => {}
+        Write::Held(p) => put_posted(report, p),
     }
 }

@@ -7,18 +7,33 @@ use Rattle.rules.specs.declared.Answer.{Answer}
 use Rattle.rules.specs.declared.Answer.the-variants.{Silent, Said}
 use Rattle.rules.specs.declared.Kept.{Kept}
 use Rattle.rules.specs.declared.Kept.the-variants as K
+use Rattle.rules.specs.declared.Plan.{Plan}
+
+-- within a reply's 256 data bytes, and within a read store of 4,096
+pub record PieceFits (c : Completion) : Type 0 where
+  pub most : c .length ≤ 256
+  pub end : c .from + c .length ≤ 4096
 
 abbrev pub BodyFits : Body → Type 0
 BodyFits B.Nothing = Unit {0}
 BodyFits (B.Word v) = Unit {0}
-BodyFits (B.Piece c) = (c .length ≤ 256) × (c .from + c .length ≤ 4096)
+BodyFits (B.Piece c) = PieceFits c
 BodyFits (B.Groups p) = Unit {0}
 
 abbrev pub AnswerFits : Answer → Type 0
 AnswerFits Silent = Unit {0}
 AnswerFits (Said response body status) = BodyFits body
 
--- of a source and a store of these lengths
-abbrev pub KeptFits : Kept → (source store : ℕ) → Type 0
-KeptFits K.Nothing source store = Unit {0}
-KeptFits (K.Data at n) source store = (n ≤ store) × (at + n ≤ source)
+-- n bytes from a place on, out of m bytes, into a store of at least `room`
+pub record DataFits (at n m room : ℕ) : Type 0 where
+  pub there : at + n ≤ m
+  pub most : n ≤ room
+
+abbrev pub KeptFits : Kept → ℕ → ℕ → Type 0
+KeptFits K.Nothing m room = Unit {0}
+KeptFits (K.Data at n) m room = DataFits at n m room
+
+-- the data of an exchange goes to the write store
+pub record PlanFits (m : ℕ) (p : Plan) : Type 0 where
+  pub answer : AnswerFits (p .answer)
+  pub kept : KeptFits (p .kept) m 256

@@ -34,6 +34,7 @@ use Rattle.state.specs.declared.Np.{Np}
 use Rattle.state.specs.declared.Np.the-variants.{Free, Waiting, Ready, Failed}
 use Rattle.state.specs.declared.Completion.{Completion}
 use Rattle.state.specs.declared.State.{State}
+use Rattle.rules.specs.Fits.{BodyFits, AnswerFits, DataFits, KeptFits, PlanFits, PieceFits}
 use Rattle.rules.specs.Plan.{responseByte}
 use Rattle.rules.specs.Decide as D
 use Rattle.rules.specs.Board as T
@@ -45,37 +46,6 @@ use Rattle.rules.specs.declared.Answer.the-variants.{Silent, Said}
 use Rattle.rules.specs.declared.Kept.{Kept}
 use Rattle.rules.specs.declared.Kept.the-variants as K
 use Rattle.rules.specs.declared.Plan.{Plan}
-
--- ---- the statements
-
--- within a reply's 256 data bytes, and within a read store of 4,096
-pub record PieceFits (c : Completion) : Type 0 where
-  pub most : c .length ≤ 256
-  pub end : c .from + c .length ≤ 4096
-
-abbrev pub BodyFits : Body → Type 0
-BodyFits B.Nothing = Unit {0}
-BodyFits (B.Word v) = Unit {0}
-BodyFits (B.Piece c) = PieceFits c
-BodyFits (B.Groups p) = Unit {0}
-
-abbrev pub AnswerFits : Answer → Type 0
-AnswerFits Silent = Unit {0}
-AnswerFits (Said response body status) = BodyFits body
-
--- n bytes from a place on, out of m bytes, into a store of at least `room`
-pub record DataFits (at n m room : ℕ) : Type 0 where
-  pub there : at + n ≤ m
-  pub most : n ≤ room
-
-abbrev pub KeptFits : Kept → ℕ → ℕ → Type 0
-KeptFits K.Nothing m room = Unit {0}
-KeptFits (K.Data at n) m room = DataFits at n m room
-
--- the data of an exchange goes to the write store
-pub record PlanFits (m : ℕ) (p : Plan) : Type 0 where
-  pub answer : AnswerFits (p .answer)
-  pub kept : KeptFits (p .kept) m 256
 
 -- ---- the reply's length
 
@@ -91,7 +61,7 @@ body-length (B.Word v) reads f = omega arith
 body-length (B.Piece c) reads f = omega (arith, length-take (c .length) (drop (c .from) reads), f .most)
 body-length (B.Groups p) reads f = omega (arith, packet-length p)
 
-closed-length : (m : List ℕ) (status : ℕ) → length (closed m status) ≡ length m + 3
+pub closed-length : (m : List ℕ) (status : ℕ) → length (closed m status) ≡ length m + 3
 unfolding closed
 closed-length m status = simp length-append (omega arith)
 

@@ -27,7 +27,7 @@ enum-known-body-2 : tie.Need-enum-known-body-2
 enum-known-body-2 c = search needs
 
 put-piece-requires : tie.Need-put-piece-requires
-put-piece-requires c κs = let f = subst BodyFits (c .before .before .body2 .given .1) (c .before .before .before .before .before .before .pre .2) in (c .before .before .before .before .before .before .pre .0, c .before .before .before .before .before .before .pre .1, f .0, f .1)
+put-piece-requires c κs = let f = subst BodyFits (c .before .before .body2 .given .1) (c .before .before .before .before .before .before .pre .2) in (c .before .before .before .before .before .before .pre .0, c .before .before .before .before .before .before .pre .1, f .most, f .end)
 
 enum-known-body-3 : tie.Need-enum-known-body-3
 enum-known-body-3 c = search needs
@@ -51,7 +51,7 @@ same-length-3 : tie.Need-same-length-3
 same-length-3 c = search needs
 
 returns-3 : tie.Need-returns-3
-returns-3 c = let g = c .before .before .before .before .before .body2 .given in let f = subst BodyFits (g .1) (c .before .before .before .before .before .before .before .before .before .pre .2) in let p = c .before .before .put-piece .ensures in by-body _ _ _ _ _ _ _ (g .1) (p .0) (piece-length (g .0 .0) _ _ (c .before .before .before .before .before .before .before .before .before .pre .1) (f .1) (p .1) (c .before .before .before .before .before .before .before .before .before .args .code)) (omega (arith, f .0, p .1))
+returns-3 c = let g = c .before .before .before .before .before .body2 .given in let f = subst BodyFits (g .1) (c .before .before .before .before .before .before .before .before .before .pre .2) in let p = c .before .before .put-piece .ensures in by-body _ _ _ _ _ _ _ (g .1) (p .0) (piece-length (g .0 .0) _ _ (c .before .before .before .before .before .before .before .before .before .pre .1) (f .end) (p .1) (c .before .before .before .before .before .before .before .before .before .args .code)) (omega (arith, f .most, p .1))
 
 same-length-4 : tie.Need-same-length-4
 same-length-4 c = search needs

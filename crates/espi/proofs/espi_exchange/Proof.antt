@@ -1,0 +1,74 @@
+use Rattle.base.specs.Pick.{taken, passed}
+use borrow.Author.Tests.{lt-ltb, le-ltb}
+use mathlib.Core.Path.{refl}
+use denote.Ref.{now}
+use Rattle.espi.specs.Boundary.{ok-is, exchanged-by, exchange-fits, loaded-sound}
+use native.Mathlib.Omega.{arith}
+use Rattle.rules.specs.Calls.{exchangeCall}
+use native.Mathlib.Omega.{arith}
+use borrow.Author.Needs.{needs}
+use Rattle.espi.proofs.espi_exchange.Statement.{statement}
+use Rattle.espi.proofs.espi_exchange.Tie as tie
+
+returns : tie.Need-returns
+unfolding exchangeCall
+returns c = taken _ _ (lt-ltb _ _ (c .if1 .taken)) refl
+
+returns-2 : tie.Need-returns-2
+unfolding exchangeCall
+returns-2 c = passed _ _ (le-ltb _ _ (c .before .if1 .left)) (taken _ _ (lt-ltb _ _ (c .if2 .taken)) refl)
+
+returns-3 : tie.Need-returns-3
+unfolding exchangeCall
+returns-3 c = passed _ _ (le-ltb _ _ (c .before .before .if1 .left)) (passed _ _ (le-ltb _ _ (c .before .if2 .left)) (taken _ _ (lt-ltb _ _ (c .if3 .taken)) refl))
+
+returns-4 : tie.Need-returns-4
+unfolding exchangeCall
+returns-4 c = passed _ _ (le-ltb _ _ (c .before .before .before .if1 .left)) (passed _ _ (le-ltb _ _ (c .before .before .if2 .left)) (passed _ _ (le-ltb _ _ (c .before .if3 .left)) (taken _ _ (lt-ltb _ _ (c .if4 .taken)) refl)))
+
+load-requires : tie.Need-load-requires
+load-requires c κs = search needs
+
+same-length : tie.Need-same-length
+same-length c = search needs
+
+returns-5 : tie.Need-returns-5
+unfolding exchangeCall
+returns-5 c = passed _ _ (le-ltb _ _ (c .before .before .before .before .before .before .before .if1 .left)) (passed _ _ (le-ltb _ _ (c .before .before .before .before .before .before .if2 .left)) (passed _ _ (le-ltb _ _ (c .before .before .before .before .before .if3 .left)) (passed _ _ (le-ltb _ _ (c .before .before .before .before .if4 .left)) (taken _ _ (ok-is _ (c .before .before .load .result) (c .before .before .load .ensures) (c .if5 .taken)) refl))))
+
+exchange-requires : tie.Need-exchange-requires
+exchange-requires c κs = loaded-sound (now (c .before .before .before .before .before .before .before .before .before .before .before .before .before .before .args .state)) (c .before .before .before .load .result) (c .before .before .before .load .ensures) (c .before .if5 .left)
+
+commit-requires : tie.Need-commit-requires
+commit-requires c κs = let a = c .before .before .before .before .before .before .before .before .before .before .before .before .before .before .before .before .before .before .args in let f = exchange-fits (c .before .before .before .before .before .before .before .load .result .state) (now (a .command)) _ (loaded-sound (now (a .state)) (c .before .before .before .before .before .before .before .load .result) (c .before .before .before .before .before .before .before .load .ensures) (c .before .before .before .before .before .if5 .left)) (c .before .before .before .exchange .ensures) in (omega arith, omega arith, omega arith, omega arith, f .answer, f .kept)
+
+same-length-2 : tie.Need-same-length-2
+same-length-2 c = search needs
+
+same-length-3 : tie.Need-same-length-3
+same-length-3 c = search needs
+
+same-length-4 : tie.Need-same-length-4
+same-length-4 c = search needs
+
+returns-6 : tie.Need-returns-6
+unfolding exchangeCall
+returns-6 c = let a = c .before .before .before .before .before .before .before .before .before .before .before .before .before .before .before .before .before .before .before .before .before .before .before .before .before .args in passed _ _ (le-ltb _ _ (c .before .before .before .before .before .before .before .before .before .before .before .before .before .before .before .before .before .before .before .if1 .left)) (passed _ _ (le-ltb _ _ (c .before .before .before .before .before .before .before .before .before .before .before .before .before .before .before .before .before .before .if2 .left)) (passed _ _ (le-ltb _ _ (c .before .before .before .before .before .before .before .before .before .before .before .before .before .before .before .before .before .if3 .left)) (passed _ _ (le-ltb _ _ (c .before .before .before .before .before .before .before .before .before .before .before .before .before .before .before .before .if4 .left)) (passed _ _ (ok-is _ (c .before .before .before .before .before .before .before .before .before .before .before .before .before .before .load .result) (c .before .before .before .before .before .before .before .before .before .before .before .before .before .before .load .ensures) (c .before .before .before .before .before .before .before .before .before .before .before .before .if5 .left)) (exchanged-by (now (a .state)) (c .before .before .before .before .before .before .before .before .before .before .before .before .before .before .load .result) (c .before .before .before .before .before .before .before .before .before .before .before .before .before .before .load .ensures) (c .before .before .before .before .before .before .before .before .before .before .exchange .result) (now (a .command)) (now (a .reply)) (now (a .write-store)) (now (a .read-store)) _ (c .before .before .before .before .before .before .before .before .before .before .exchange .ensures) (c .before .before .before .before .before .before .commit .ensures))))))
+
+pub espi-exchange-spec : {M : Type 1} → statement M
+espi-exchange-spec =
+    tie.close
+    (tie.spec
+    returns
+    returns-2
+    returns-3
+    returns-4
+    load-requires
+    same-length
+    returns-5
+    exchange-requires
+    commit-requires
+    same-length-2
+    same-length-3
+    same-length-4
+    returns-6)

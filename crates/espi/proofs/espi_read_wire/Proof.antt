@@ -1,0 +1,53 @@
+use Rattle.state.specs.Layout.{unpacked}
+use Rattle.base.specs.Pick.{taken, passed}
+use borrow.Author.Tests.{lt-ltb, le-ltb}
+use mathlib.Core.Path.{refl, _∙_}
+use denote.Ref.{now}
+use Rattle.espi.specs.Boundary.{ok-is, wire-by, wire-refused}
+use mathlib.Core.Path.{sym}
+use borrow.Author.Tests.{not-false}
+use Rattle.rules.specs.Calls.{readWireCall}
+use borrow.Author.Needs.{needs}
+use Rattle.espi.proofs.espi_read_wire.Statement.{statement}
+use Rattle.espi.proofs.espi_read_wire.Tie as tie
+
+returns : tie.Need-returns
+unfolding readWireCall
+returns c = taken _ _ (lt-ltb _ _ (c .if1 .taken)) refl
+
+load-requires : tie.Need-load-requires
+load-requires c κs = search needs
+
+returns-2 : tie.Need-returns-2
+unfolding readWireCall
+returns-2 c = passed _ _ (le-ltb _ _ (c .before .before .before .if1 .left)) (taken _ _ (ok-is _ (c .before .before .load .result) (c .before .before .load .ensures) (c .if2 .taken)) refl)
+
+defined-bit-requires : tie.Need-defined-bit-requires
+defined-bit-requires c κs = search needs
+
+returns-3 : tie.Need-returns-3
+unfolding readWireCall
+returns-3 c = let a = c .before .before .before .before .before .before .before .args in passed _ _ (le-ltb _ _ (c .before .before .before .before .before .if1 .left)) (passed _ _ (ok-is _ (c .before .before .before .before .load .result) (c .before .before .before .before .load .ensures) (c .before .before .if2 .left)) (wire-refused (unpacked (now (a .state))) (a .index) (a .bit) _ (c .before .defined-bit .ensures) (c .if3 .taken)))
+
+read-requires : tie.Need-read-requires
+read-requires c κs = sym (c .before .before .before .defined-bit .ensures) ∙ not-false _ (c .before .before .if3 .left)
+
+mul-result : tie.Need-mul-result
+mul-result c = search needs
+
+returns-4 : tie.Need-returns-4
+unfolding readWireCall
+returns-4 c = let a = c .before .before .before .before .before .before .before .before .before .before .args in passed _ _ (le-ltb _ _ (c .before .before .before .before .before .before .before .before .if1 .left)) (passed _ _ (ok-is _ (c .before .before .before .before .before .before .before .load .result) (c .before .before .before .before .before .before .before .load .ensures) (c .before .before .before .before .before .if2 .left)) (wire-by (now (a .state)) (c .before .before .before .before .before .before .before .load .result) (c .before .before .before .before .before .before .before .load .ensures) (a .index) (a .bit) _ _ (c .before .before .before .before .defined-bit .ensures) (c .before .before .before .if3 .left) (c .read .ensures)))
+
+pub espi-read-wire-spec : {M : Type 1} → statement M
+espi-read-wire-spec =
+    tie.close
+    (tie.spec
+    returns
+    load-requires
+    returns-2
+    defined-bit-requires
+    returns-3
+    read-requires
+    mul-result
+    returns-4)

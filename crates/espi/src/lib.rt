@@ -1,0 +1,229 @@
+// The C boundary: the nine calls over lent bytes, and nothing else.
+use rules::Plan;
+use state::Np;
+use state::State;
+use state::Write;
+use state::load;
+use state::pack;
+ghost use mathlib.Core.Path.{_≡_};
+ghost use Prim.Native.Nat.{ℕ, _≤_};
+ghost use lib.ListN.{length};
+ghost use Rattle.rules.specs.Fits.{AnswerFits, KeptFits};
+ghost use Rattle.rules.specs.Calls.{done, exchanged, stored, looked, startCall, espiResetCall, platformResetCall, exchangePlanned, exchangeCall, lookCall, answerCall, takeWriteCall, setWireCall, readWireCall};
+
+// The least lengths of the lent slices.
+const STATE: usize = 77;
+const REPLY: usize = 263;
+const WRITE_STORE: usize = 256;
+const READ_STORE: usize = 4096;
+const LOOK_REPORT: usize = 19;
+const TAKE_REPORT: usize = 10;
+
+#[no_mangle]
+pub extern "C" fn espi_start(state: &mut [u8]) -> u32
+    ensures { λ r. ⌜ done r (now (state .exit)) ≡ startCall (now (state .entry)) ⌝ }
+{
+    if state.len() < STATE {
+        return 10;
+    }
+    pack(State::fresh(), state);
+    0
+}
+
+#[no_mangle]
+pub extern "C" fn espi_reset(state: &mut [u8]) -> u32
+    ensures { λ r. ⌜ done r (now (state .exit)) ≡ espiResetCall (now (state .entry)) ⌝ }
+{
+    if state.len() < STATE {
+        return 10;
+    }
+    let got = load(state);
+    if !got.ok {
+        return 11;
+    }
+    let s = got.state;
+    pack(engine::espi_reset(s), state);
+    0
+}
+
+#[no_mangle]
+pub extern "C" fn espi_platform_reset(state: &mut [u8]) -> u32
+    ensures { λ r. ⌜ done r (now (state .exit)) ≡ platformResetCall (now (state .entry)) ⌝ }
+{
+    if state.len() < STATE {
+        return 10;
+    }
+    let got = load(state);
+    if !got.ok {
+        return 11;
+    }
+    let s = got.state;
+    pack(engine::platform_reset(s), state);
+    0
+}
+
+// A plan carried out on the lent bytes.
+fn commit(p: Plan, state: &mut [u8], command: &[u8], reply: &mut [u8], write_store: &mut [u8], read_store: &[u8]) -> u32
+    requires { ⌜ (77 ≤ length (now state)) × (263 ≤ length (now reply)) × (256 ≤ length (now «write_store»)) × (4096 ≤ length (now «read_store»)) × AnswerFits (p .answer) × KeptFits (p .kept) (length (now command)) 256 ⌝ }
+    ensures { λ r. ⌜ exchanged r (now (state .exit)) (now (reply .exit)) (now («write_store» .exit)) ≡ exchangePlanned p (now (state .entry)) (now (command .entry)) (now (reply .entry)) (now («write_store» .entry)) (now («read_store» .entry)) ⌝ }
+{
+    let next = p.next;
+    let a = p.answer;
+    let k = p.kept;
+    pack(next, state);
+    let n = reply::answer(reply, a, read_store);
+    reply::keep(write_store, k, command);
+    (p.number as u32) + 256 * n
+}
+
+#[no_mangle]
+pub extern "C" fn espi_exchange(
+    state: &mut [u8],
+    command: &[u8],
+    reply: &mut [u8],
+    write_store: &mut [u8],
+    read_store: &[u8],
+) -> u32
+    ensures { λ r. ⌜ exchanged r (now (state .exit)) (now (reply .exit)) (now («write_store» .exit)) ≡ exchangeCall (now (state .entry)) (now (command .entry)) (now (reply .entry)) (now («write_store» .entry)) (now («read_store» .entry)) ⌝ }
+{
+    if state.len() < STATE {
+        return 10;
+    }
+    if reply.len() < REPLY {
+        return 10;
+    }
+    if write_store.len() < WRITE_STORE {
+        return 10;
+    }
+    if read_store.len() < READ_STORE {
+        return 10;
+    }
+    let got = load(state);
+    if !got.ok {
+        return 11;
+    }
+    let s = got.state;
+    let p = engine::exchange(s, command);
+    commit(p, state, command, reply, write_store, read_store)
+}
+
+#[no_mangle]
+pub extern "C" fn espi_look(state: &[u8], report: &mut [u8]) -> u32
+    ensures { λ r. ⌜ looked r (now (report .exit)) ≡ lookCall (now (state .entry)) (now (report .entry)) ⌝ }
+{
+    if state.len() < STATE {
+        return 10;
+    }
+    if report.len() < LOOK_REPORT {
+        return 10;
+    }
+    let got = load(state);
+    if !got.ok {
+        return 11;
+    }
+    let s = got.state;
+    let p = s.peripheral;
+    let n = p.request;
+    match n {
+        Np::Free => 23,
+        Np::Waiting(q) => {
+            reply::put_request(report, q, p.serial);
+            0
+        }
+        Np::Ready(_, _) => 23,
+        Np::Failed(_) => 23,
+    }
+}
+
+#[no_mangle]
+pub extern "C" fn espi_answer(
+    state: &mut [u8],
+    read_store: &mut [u8],
+    serial: u32,
+    success: u32,
+    bytes: &[u8],
+) -> u32
+    ensures { λ r. ⌜ stored r (now (state .exit)) (now («read_store» .exit)) ≡ answerCall (now (state .entry)) (now («read_store» .entry)) serial success (now (bytes .entry)) ⌝ }
+{
+    if state.len() < STATE {
+        return 10;
+    }
+    if read_store.len() < READ_STORE {
+        return 10;
+    }
+    let got = load(state);
+    if !got.ok {
+        return 11;
+    }
+    let s = got.state;
+    let p = engine::answer(s, serial, success != 0, bytes.len());
+    let next = p.next;
+    let k = p.kept;
+    pack(next, state);
+    reply::keep(read_store, k, bytes);
+    p.number as u32
+}
+
+#[no_mangle]
+pub extern "C" fn espi_take_write(state: &mut [u8], write_store: &[u8], report: &mut [u8]) -> u32
+    ensures { λ r. ⌜ stored r (now (state .exit)) (now (report .exit)) ≡ takeWriteCall (now (state .entry)) (now («write_store» .entry)) (now (report .entry)) ⌝ }
+{
+    if state.len() < STATE {
+        return 10;
+    }
+    if write_store.len() < WRITE_STORE {
+        return 10;
+    }
+    if report.len() < TAKE_REPORT {
+        return 10;
+    }
+    let got = load(state);
+    if !got.ok {
+        return 11;
+    }
+    let s = got.state;
+    let h = s.peripheral;
+    let w = h.write;
+    let p = engine::take_write(s);
+    let next = p.next;
+    pack(next, state);
+    reply::put_write(report, w);
+    p.number as u32
+}
+
+#[no_mangle]
+pub extern "C" fn espi_set_wire(state: &mut [u8], index: u32, bit: u32, value: u32) -> u32
+    ensures { λ r. ⌜ done r (now (state .exit)) ≡ setWireCall (now (state .entry)) index bit value ⌝ }
+{
+    if state.len() < STATE {
+        return 10;
+    }
+    let got = load(state);
+    if !got.ok {
+        return 11;
+    }
+    let s = got.state;
+    let p = engine::set_wire(s, index, bit, value);
+    let next = p.next;
+    pack(next, state);
+    p.number as u32
+}
+
+#[no_mangle]
+pub extern "C" fn espi_read_wire(state: &[u8], index: u32, bit: u32) -> u32
+    ensures { λ r. ⌜ r ≡ readWireCall (now (state .entry)) index bit ⌝ }
+{
+    if state.len() < STATE {
+        return 10;
+    }
+    let got = load(state);
+    if !got.ok {
+        return 11;
+    }
+    if !wires::defined_bit(index, bit) {
+        return 22;
+    }
+    let s = got.state;
+    let w = s.wires;
+    256 * w.read(index, bit)
+}
