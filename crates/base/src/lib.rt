@@ -2,7 +2,7 @@
 ghost use mathlib.Core.Path.{_≡_};
 ghost use Prim.Native.Nat.{ℕ, _+_, _*_, _<_, _≤_};
 ghost use lib.ListN.{length, take, drop};
-ghost use Rattle.base.specs.Bytes.{put, copied, low2, low4, low8, joined4, number4, number8, high2, high4, high8, agree};
+ghost use Rattle.base.specs.Bytes.{put, copied, low2, low4, joined4, number4, number8, high2, high4, high8, agree};
 
 // The bytes of `src` stored from `at` on.
 pub fn put_at(dst: &mut [u8], at: usize, src: &[u8])
@@ -56,21 +56,6 @@ pub fn bytes4(v: u32) -> [u8; 4]
         (v / 256 % 256) as u8,
         (v / 65536 % 256) as u8,
         (v / 16777216 % 256) as u8,
-    ]
-}
-
-pub fn bytes8(v: u64) -> [u8; 8]
-    ensures { λ r. ⌜ r ≡ low8 v ⌝ }
-{
-    [
-        (v % 256) as u8,
-        (v / 256 % 256) as u8,
-        (v / 65536 % 256) as u8,
-        (v / 16777216 % 256) as u8,
-        (v / 4294967296 % 256) as u8,
-        (v / 1099511627776 % 256) as u8,
-        (v / 281474976710656 % 256) as u8,
-        (v / 72057594037927936 % 256) as u8,
     ]
 }
 
