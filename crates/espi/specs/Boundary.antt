@@ -1,1 +1,0 @@
--- Laws by which the exported calls meet their contracts: each return's facts in the code's order.
