@@ -1,12 +1,21 @@
-# make run: the archive, and a small board played against it.  make differential, make bench: see README.md.
+# make run: the archive, and a small board played against it. make differential, make bench: README.md says what they do.
 CFLAGS = -std=c11 -O2 -Wall -Wextra -Werror -Iinclude
 ARCHIVE = target/staticlib/libespi.a
 SOURCES = $(shell find crates -name '*.rt' -o -name '*.antt') crates.txt
 
-.PHONY: run archive boundary differential bench clean
+# The archive is x86-64 code: elsewhere a cross compiler and an emulator stand in (tests/tools.sh installs them).
+ifeq ($(shell uname -m),x86_64)
+X86_CC = $(CC)
+X86_RUN =
+else
+X86_CC = x86_64-linux-gnu-gcc -static
+X86_RUN = qemu-x86_64-static
+endif
+
+.PHONY: run archive boundary clean
 
 run: target/board
-	./target/board
+	$(X86_RUN) ./target/board
 
 archive: $(ARCHIVE)
 
@@ -14,13 +23,13 @@ $(ARCHIVE): $(SOURCES)
 	rt staticlib espi
 
 target/board: examples/board.c include/espi.h $(ARCHIVE)
-	$(CC) $(CFLAGS) -o $@ examples/board.c $(ARCHIVE)
+	$(X86_CC) $(CFLAGS) -o $@ examples/board.c $(ARCHIVE)
 
 boundary: target/boundary
-	./target/boundary
+	$(X86_RUN) ./target/boundary
 
 target/boundary: tests/boundary.c include/espi.h $(ARCHIVE)
-	$(CC) $(CFLAGS) -o $@ tests/boundary.c $(ARCHIVE)
+	$(X86_CC) $(CFLAGS) -o $@ tests/boundary.c $(ARCHIVE)
 
 clean:
 	rm -rf target
