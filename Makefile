@@ -12,7 +12,7 @@ X86_CC = x86_64-linux-gnu-gcc -static
 X86_RUN = qemu-x86_64-static
 endif
 
-.PHONY: run archive boundary clean
+.PHONY: run archive boundary bench clean
 
 run: target/board
 	$(X86_RUN) ./target/board
@@ -30,6 +30,12 @@ boundary: target/boundary
 
 target/boundary: tests/boundary.c include/espi.h $(ARCHIVE)
 	$(X86_CC) $(CFLAGS) -o $@ tests/boundary.c $(ARCHIVE)
+
+bench: target/figures
+	python3 tests/figures.py
+
+target/figures: tests/figures.c include/espi.h $(ARCHIVE)
+	$(X86_CC) $(CFLAGS) -D_POSIX_C_SOURCE=199309L -o $@ tests/figures.c $(ARCHIVE)
 
 clean:
 	rm -rf target

@@ -1,0 +1,98 @@
+/* One exchange of a kind, repeated: tests/figures.py counts its instructions and, on x86-64, its nanoseconds. figures KIND TIMES */
+#include <stdio.h>
+#include <stdlib.h>
+#include <string.h>
+#include <time.h>
+
+#include "espi.h"
+
+static uint8_t state[ESPI_STATE_LEN], kept[ESPI_STATE_LEN], reply[ESPI_REPLY_LEN], write_store[ESPI_WRITE_STORE_LEN], read_store[ESPI_READ_STORE_LEN];
+
+static uint8_t crc8(const uint8_t *b, size_t n)
+{
+    uint8_t r = 0;
+    for (size_t i = 0; i < n; i++) {
+        r ^= b[i];
+        for (int k = 0; k < 8; k++)
+            r = (uint8_t)(r & 0x80 ? (r << 1) ^ 0x07 : r << 1);
+    }
+    return r;
+}
+
+static uint32_t send(uint8_t *command, size_t n)
+{
+    command[n] = crc8(command, n);
+    return espi_exchange(state, sizeof state, command, n + 1, reply, sizeof reply, write_store, sizeof write_store, read_store, sizeof read_store);
+}
+
+#define HOST(...) do { uint8_t c_[] = {__VA_ARGS__, 0}; send(c_, sizeof c_ - 1); } while (0)
+
+static void answered(size_t n)
+{
+    static uint8_t data[4096];
+    espi_answer(state, sizeof state, read_store, sizeof read_store, 1, 1, data, n);
+}
+
+/* Sets the stage for the kind and gives its command. */
+static size_t stage(const char *kind, uint8_t *c)
+{
+    espi_start(state, sizeof state);
+    if (strcmp(kind, "GET_STATUS") == 0)
+        return c[0] = 0x25, 1;
+    if (strcmp(kind, "GET_CONFIGURATION") == 0)
+        return memcpy(c, "\x21\x00\x08", 3), 3;
+    if (strcmp(kind, "SET_CONFIGURATION") == 0)
+        return memcpy(c, "\x22\x00\x10\x03\x31\x00\x00", 7), 7;
+    if (strcmp(kind, "short I/O read") == 0)
+        return memcpy(c, "\x40\x00\x64", 3), 3;
+    if (strcmp(kind, "its GET_PC") == 0) {
+        HOST(0x40, 0x00, 0x64);
+        answered(1);
+        return c[0] = 0x01, 1;
+    }
+    if (strcmp(kind, "64-byte piece") == 0) {
+        HOST(0x02, 0x00, 0x00, 0x40, 0x00, 0x00, 0x10, 0x00);
+        answered(64);
+        return c[0] = 0x01, 1;
+    }
+    if (strcmp(kind, "256-byte piece") == 0) {
+        HOST(0x22, 0x00, 0x10, 0x03, 0x33, 0x00, 0x00);
+        HOST(0x02, 0x00, 0x01, 0x00, 0x00, 0x00, 0x10, 0x00);
+        answered(256);
+        return c[0] = 0x01, 1;
+    }
+    if (strcmp(kind, "PUT_PC of 64 bytes") == 0)
+        return memcpy(c, "\x00\x01\x00\x40\x00\x00\x10\x00", 8), 8 + 64;
+    if (strcmp(kind, "PUT_VWIRE") == 0) {
+        HOST(0x22, 0x00, 0x20, 0x01, 0x00, 0x00, 0x00);
+        return memcpy(c, "\x04\x00\x02\x11", 4), 4;
+    }
+    if (strcmp(kind, "GET_VWIRE") == 0) {
+        HOST(0x22, 0x00, 0x20, 0x01, 0x00, 0x00, 0x00);
+        espi_set_wire(state, sizeof state, 6, 0, 0);
+        return c[0] = 0x05, 1;
+    }
+    return c[0] = 0x01, 1; /* a refusal: GET_PC with no completion ready */
+}
+
+int main(int argc, char **argv)
+{
+    uint8_t command[400] = {0};
+    struct timespec from, to;
+    if (argc != 3)
+        return 1;
+    size_t n = stage(argv[1], command);
+    long times = atol(argv[2]);
+    uint32_t word = 0;
+    memcpy(kept, state, sizeof state);
+    command[n] = crc8(command, n);
+    clock_gettime(CLOCK_MONOTONIC, &from);
+    for (long i = 0; i < times; i++) {
+        memcpy(state, kept, sizeof state);
+        word = espi_exchange(state, sizeof state, command, n + 1, reply, sizeof reply, write_store, sizeof write_store, read_store, sizeof read_store);
+    }
+    clock_gettime(CLOCK_MONOTONIC, &to);
+    printf("%u %zu %u %.1f\n", (unsigned)espi_number(word), n + 1, (unsigned)espi_value(word),
+           times ? ((double)(to.tv_sec - from.tv_sec) * 1e9 + (double)(to.tv_nsec - from.tv_nsec)) / (double)times : 0.0);
+    return 0;
+}

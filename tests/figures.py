@@ -1,0 +1,56 @@
+#!/usr/bin/env python3
+"""make bench: instructions and nanoseconds per exchange of libespi.a, by kind, beside the time that the exchange takes on a quad bus at 66 MHz.
+
+Instructions are counted, not timed: the program of tests/figures.c runs once with one exchange more than before, and the difference is that exchange. On x86-64 callgrind counts
+them; elsewhere the emulator's trace does, one line an instruction. Nanoseconds are measured on x86-64 alone: under an emulator a time says nothing.
+"""
+import collections
+import platform
+import subprocess
+import sys
+import tempfile
+
+KINDS = ["GET_STATUS", "short I/O read", "its GET_PC", "64-byte piece", "256-byte piece", "PUT_PC of 64 bytes", "PUT_VWIRE", "GET_VWIRE",
+         "GET_CONFIGURATION", "SET_CONFIGURATION", "a refusal (GET_PC, none ready)"]
+PROGRAM = "target/figures"
+NATIVE = platform.machine() == "x86_64"
+
+
+def run(command):
+    return subprocess.run(command, check=True, capture_output=True, text=True).stdout
+
+
+def counted(kind, times):
+    """Instructions by symbol of a run with so many exchanges; those of the archive are named espi_.. and CRATE::.."""
+    counts = collections.Counter()
+    if NATIVE:
+        with tempfile.NamedTemporaryFile() as out:
+            run(["valgrind", "--tool=callgrind", f"--callgrind-out-file={out.name}", PROGRAM, kind, str(times)])
+            for line in run(["callgrind_annotate", "--threshold=100", out.name]).splitlines():
+                words = line.split()
+                if len(words) > 2 and words[0].replace(",", "").isdigit() and ":" in line:
+                    counts[words[-2 if words[-1].startswith("[") else -1].split(":")[-1]] += int(words[0].replace(",", ""))
+        return counts
+    with tempfile.NamedTemporaryFile(mode="r") as out:
+        run(["qemu-x86_64-static", "-singlestep", "-d", "exec,nochain", "-D", out.name, PROGRAM, kind, str(times)])
+        for line in out:
+            if line.startswith("Trace"):
+                counts[line.split("] ", 1)[-1].strip()] += 1
+    return counts
+
+
+def main():
+    print(f"{'exchange':32} {'number':>6} {'bytes':>9} {'instructions':>12} {'of them load':>12} {'ns':>8} {'bus ns':>7}")
+    for kind in KINDS:
+        number, sent, said, _ = run(([] if NATIVE else ["qemu-x86_64-static"]) + [PROGRAM, kind, "1"]).split()
+        more, less = counted(kind, 2), counted(kind, 1)
+        more.subtract(less)
+        total = sum(n for symbol, n in more.items() if "::" in symbol or symbol.startswith("espi_"))
+        load = sum(n for symbol, n in more.items() if symbol.startswith("state::"))
+        clocks = 2 * (int(sent) + int(said)) + 2
+        ns = run([PROGRAM, kind, "200000"]).split()[3] if NATIVE else "-"
+        print(f"{kind:32} {number:>6} {sent + ' / ' + said:>9} {total:>12} {load:>12} {ns:>8} {clocks / 66e6 * 1e9:>7.0f}")
+
+
+if __name__ == "__main__":
+    sys.exit(main())
