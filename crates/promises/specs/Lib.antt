@@ -1,0 +1,3 @@
+pub mod ByteRuns
+pub mod Lifted
+pub mod LiftedProof
