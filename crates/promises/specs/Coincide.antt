@@ -51,8 +51,7 @@ pub exchange-coincides : {n m : ℕ} {a b r r′ w w′ : List ℕ} (st command 
     → exchanged n a r w ≡ exchangeCall st command reply write read → exchanged m b r′ w′ ≡ exchangeCall st command reply write read
     → (n ≡ m) × (a ≡ b) × (r ≡ r′) × (w ≡ w′)
 exchange-coincides st command reply write read e f =
-    let g = coincide e f in
-    (
+    let g = coincide e f in (
       ap (λ (x : Exchanged). x .word) g,
       ap (λ (x : Exchanged). x .state) g,
       ap (λ (x : Exchanged). x .reply) g,
