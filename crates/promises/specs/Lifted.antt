@@ -1,0 +1,83 @@
+-- The lifting: what a run of the nine calls over bytes has to do with a run of `step` over states. Statements only, proved in LiftedProof.
+use Prim.Native.Nat.{ℕ, _/_, _≤_}
+use mathlib.Core.Bool.{true}
+use mathlib.Core.List.{List, []}
+use mathlib.Core.Path.{_≡_}
+use lib.ListN.{length, take}
+use Rattle.base.specs.Bytes.{over}
+use Rattle.state.specs.Fresh.{freshState}
+use Rattle.state.specs.Layout.{stateLength, unpacked, holds}
+use Rattle.rules.specs.Step.{World, Call, start, espiReset, platformReset, exchange, look, answer, takeWrite, setWire, readWire, lend, Outcome, step, run, handedOver, allHanded}
+use Rattle.rules.specs.Calls.{word}
+use Rattle.rules.specs.Refusals.{numberOf}
+use Rattle.promises.specs.ByteRuns.{ByteWorld, ByteOutcome, byteStep, byteRun}
+
+-- long enough, and bytes of a sound state (`holds-sound`, `exactly` of Packing say what a pass means)
+pub record Holding (v : ByteWorld) : Type 0 where
+  pub long : stateLength ≤ length (v .state)
+  pub passes : holds (v .state) ≡ true
+
+-- the state that the bytes hold, and the stores
+abbrev pub worldOf : ByteWorld → World
+worldOf v = record { state = unpacked (v .state); write = v .write; read = v .read }
+
+abbrev pub lentReply : Call → List ℕ
+lentReply start = []
+lentReply espiReset = []
+lentReply platformReset = []
+lentReply (exchange command reply) = reply
+lentReply (look report) = []
+lentReply (answer serial success bytes) = []
+lentReply (takeWrite report) = []
+lentReply (setWire index bit value) = []
+lentReply (readWire index bit) = []
+lentReply (lend write read) = []
+
+abbrev pub lentReport : Call → List ℕ
+lentReport start = []
+lentReport espiReset = []
+lentReport platformReset = []
+lentReport (exchange command reply) = []
+lentReport (look report) = report
+lentReport (answer serial success bytes) = []
+lentReport (takeWrite report) = report
+lentReport (setWire index bit value) = []
+lentReport (readWire index bit) = []
+lentReport (lend write read) = []
+
+-- a word's bits 31:8
+abbrev pub valueOf : ℕ → ℕ
+valueOf word = word / 256
+
+-- the reply: as many bytes of its store as the word says
+abbrev pub replyIn : ByteOutcome → List ℕ
+replyIn x = take (valueOf (x .word)) (x .reply)
+
+-- an outcome over bytes shows that of the state, laid over what was lent, and holds the world after
+pub record Meets (lent form : List ℕ) (x : ByteOutcome) (o : Outcome) : Type 0 where
+  pub word : x .word ≡ word (o .number) (o .value)
+  pub number : numberOf (x .word) ≡ o .number
+  pub value : valueOf (x .word) ≡ o .value
+  pub reply : x .reply ≡ over (o .reply) lent
+  pub said : replyIn x ≡ o .reply
+  pub report : x .report ≡ over (o .report) form
+  pub world : worldOf (x .next) ≡ o .next
+  pub holding : Holding (x .next)
+
+abbrev pub Agrees : ByteWorld → Call → Type 0
+Agrees v c = Meets (lentReply c) (lentReport c) (byteStep v c) (step (worldOf v) c)
+
+pub record RunHolds (v : ByteWorld) (cs : List Call) : Type 0 where
+  pub world : worldOf (byteRun v cs) ≡ run (worldOf v) cs
+  pub holding : Holding (byteRun v cs)
+
+-- start takes no state: any bytes, if there are enough of them
+pub record Starts (v : ByteWorld) : Type 0 where
+  pub agrees : Agrees v start
+  pub fresh : unpacked (byteStep v start .next .state) ≡ freshState
+
+-- `handedOver`: a command's bytes are below 256
+pub record Lifted : Type 0 where
+  pub call : (v : ByteWorld) → Holding v → (c : Call) → handedOver c ≡ true → Agrees v c
+  pub calls : (v : ByteWorld) → Holding v → (cs : List Call) → allHanded cs ≡ true → RunHolds v cs
+  pub starts : (v : ByteWorld) → stateLength ≤ length (v .state) → Starts v

@@ -1,0 +1,375 @@
+-- The promises over bytes, each from its statement over `step` through the bridge.
+use Prim.Native.Nat.{ℕ, _+_, _^_, _≤_, _<_}
+use mathlib.Core.Bool.{Bool, true, false, _&&_, _||_}
+use mathlib.Core.List.{List, [], _∷_, _++_}
+use mathlib.Core.Path.{_≡_, refl, sym, ap, _∙_, subst}
+use native.Mathlib.Omega.{arith}
+use lib.Dec.{ltb}
+use lib.ListN.{length, drop, length-take}
+use borrow.Author.Tests.{le-ltb, lt-ltb}
+use Rattle.base.specs.Pick.{pick, pick-ind, and-left, and-right, and-true}
+use Rattle.base.specs.Bytes.{over}
+use Rattle.state.specs.Packing.{holds-sound}
+use Rattle.state.specs.Sound.{Sound}
+use Rattle.state.specs.Status.{status}
+use Rattle.state.specs.declared.State.{State}
+use Rattle.rules.specs.Board as B
+use Rattle.rules.specs.Step as S
+use Rattle.rules.specs.Step.{World, Call, Outcome, step, run, handedOver, allHanded, areBytes, shortStores, exchange, look, answer}
+use Rattle.rules.specs.Calls.{word}
+use Rattle.rules.specs.Reply.{closed}
+use Rattle.rules.specs.Kinds.{Kind, asks, tells, gets, ends, kind, askIn, isEnd, isTell, isAsk, shows, raises, got, gotBy}
+use Rattle.rules.specs.Demand3 as D
+use Rattle.rules.specs.Demand3Proof.{demand3}
+use Rattle.rules.specs.Serials.{serialOf}
+use Rattle.rules.specs.SerialsProof.{serials-told}
+use Rattle.rules.specs.Bound as W
+use Rattle.rules.specs.BoundProof.{sent-by-the-third}
+use Rattle.rules.specs.Apart as A
+use Rattle.rules.specs.Apart.{Shown, shown, others, isWireEvent}
+use Rattle.rules.specs.ApartProof.{wires-apart}
+use Rattle.rules.specs.RefusalsProof.{past-over}
+use Rattle.promises.specs.ByteRuns.{ByteWorld, ByteOutcome, byteStep, byteRun}
+use Rattle.promises.specs.Lifted.{Holding, worldOf, valueOf, replyIn, lentReply, lentReport, Meets}
+use Rattle.promises.specs.LiftedProof.{call-lifts}
+use Rattle.promises.specs.Words.{byteKind, byteWithout, byteGot, byteGotBy, byteAskedTimes, byteHandedOn, serialIn, ByteShown, byteShown, byteShows}
+use Rattle.promises.specs.Promises as P
+use Rattle.promises.specs.Promises.{Over, Delivers, HandsOver, Asked, Waits, Looks, Answered, ToldIn, AskedIn, AfterEnd, SentBy, stateIn, since, answeredAt}
+use Rattle.promises.specs.Bridge.{Stands, stands, head-handed, tail-handed, state-at, call-at, next-at, run-at, kind-at, wire-at, got-by, without-at, got-at, asked-at, goes-at, gets-at, handed-on}
+
+pub bridged : P.Bridged
+bridged v h cs b =
+    let s = run-at (stands h) cs b in
+    record {
+      world = s .world;
+      holding = s .holding;
+      call = call-at s;
+      kinds = kind-at s;
+      without = λ p. without-at (stands h) p cs b;
+      got = got-at (stands h) cs b;
+    }
+
+pub bytes-kept : P.BytesKept
+bytes-kept v h c b = call-lifts v h c b .holding
+
+-- ---- demand 3, from an answer on
+
+over-at : {x : ByteOutcome} {o : Outcome} → replyIn x ≡ o .reply → Stands (x .next) (o .next) → D.Over o → Over x
+over-at {x} {o} e s k =
+    record {
+      drops = subst (shows 4 0) (sym e) (k .drops);
+      staysDown = λ es c b h u.
+          subst (shows 4 0) (sym (call-at (run-at s es b) c h .said)) (k .staysDown es c (sym (without-at s isTell es b) ∙ u));
+      frees = subst (shows 1 1) (sym e) (k .frees);
+      staysFree = λ es c b h u n.
+          subst (shows 1 1) (sym (call-at (run-at s es b) c h .said))
+          (k .staysFree es c (sym (without-at s isAsk es b) ∙ u) (ap isAsk (sym (kind-at (run-at s es b) c h)) ∙ n));
+    }
+
+bytes : (check : ℕ) → check < 256 → areBytes (0x01 ∷ check ∷ []) ≡ true
+unfolding areBytes
+bytes check small = and-true (lt-ltb check 256 small) refl
+
+module _ {v : ByteWorld} {w : World} (s : Stands v w) (cs : List Call) (b : allHanded cs ≡ true) where
+  abbrev place : Stands (byteRun v cs) (run w cs)
+  place = run-at s cs b
+
+  count : length (byteGot v cs) ≡ length (got w cs)
+  count = ap length (got-at s cs b)
+
+  count-with : (c : Call) → handedOver c ≡ true → length (byteGot v cs) + length (byteGotBy (byteRun v cs) c) ≡ length (got w cs) + length (gotBy (run w cs) c)
+  count-with c h = rw (got-at s cs b, got-by place c h)
+
+  deliver-at : (N : ℕ) (body : ℕ → List ℕ) → D.Delivers N body w cs → Delivers N body v cs
+  deliver-at N body d =
+      record {
+        inOrder = λ c h k l.
+            let m = call-at place c h in
+            let e : stateIn (byteStep (byteRun v cs) c .next) ≡ step (run w cs) c .next .state = state-at (next-at place c h) in
+            m .said ∙ d .inOrder c (sym (kind-at place c h) ∙ k) (subst (λ (n : ℕ). n < N) count l)
+            ∙ rw (count, e);
+        accepts = λ check reply small l r x y f.
+            call-at place (exchange (0x01 ∷ check ∷ []) reply) (bytes check small) .number
+            ∙ d .accepts check reply (subst (λ (n : ℕ). n < N) count l)
+            (long reply r x y)
+            (subst (λ (t : State). D.crcFine t (0x01 ∷ check ∷ []) ≡ true) (state-at place) f);
+        stands = λ c h l.
+            subst (shows 4 1) (sym (call-at place c h .said)) (d .stands c (subst (λ (n : ℕ). n < N) (count-with c h) l));
+        held = λ c h l.
+            subst (shows 1 0) (sym (call-at place c h .said)) (d .held c (subst (λ (n : ℕ). n < N) (count-with c h) l));
+        last = λ c h k l.
+            over-at (call-at place c h .said) (next-at place c h)
+            (d .last c (sym (kind-at place c h) ∙ k) (ap (λ (n : ℕ). n + 1) (sym count) ∙ l));
+      }
+    where
+      long : (reply : List ℕ) → S.replyLength ≤ length reply → S.writeLength ≤ length (byteRun v cs .write) → S.readLength ≤ length (byteRun v cs .read)
+          → shortStores reply (run w cs) ≡ false
+      long reply r x y =
+          subst (λ (t : World). shortStores reply t ≡ false) (place .world)
+          (rw (le-ltb _ _ r, le-ltb _ _ x, le-ltb _ _ y))
+
+-- ---- demand 3, from the acceptance to the answer
+
+module _ {v : ByteWorld} {b r : List ℕ} {xs : List Call} (a : Asked v b r xs) where
+  asking : Stands v (worldOf v)
+  asking = stands (a .holding)
+
+  handed : areBytes b ≡ true
+  handed = head-handed (exchange b r) xs (a .handed)
+
+  then : Stands (byteStep v (exchange b r) .next) (step (worldOf v) (exchange b r) .next)
+  then = next-at asking (exchange b r) handed
+
+  later : allHanded xs ≡ true
+  later = tail-handed (exchange b r) xs (a .handed)
+
+  now : Stands (since v b r xs) (D.since (worldOf v) b r xs)
+  now = run-at then xs later
+
+  asked-state : D.Asked (worldOf v) b r xs
+  asked-state =
+      record {
+        accepted = sym (kind-at asking (exchange b r) handed) ∙ a .accepted;
+        unended = sym (without-at then isEnd xs later) ∙ a .unended;
+        unanswered = sym (without-at then isTell xs later) ∙ a .unanswered;
+      }
+
+  waits : (c : Call) → handedOver c ≡ true → Waits v b r xs c
+  waits c h =
+      let k = demand3 .before (worldOf v) b r xs asked-state c in
+      let m = call-at asking (exchange b r) handed in
+      let e = call-at now c h .said in
+      record {
+        defers = m .said ∙ k .defers ∙ ap (λ (t : State). closed (0x01 ∷ []) (status t)) (sym (state-at then));
+        noGet = λ g. k .noGet (sym (kind-at now c h) ∙ g);
+        down = subst (shows 4 0) (sym e) (k .down);
+        taken = subst (shows 1 0) (sym e) (k .taken);
+      }
+
+pub before : P.BeforeAnswer
+before v b r xs a = waits a
+
+-- ---- a board call's word is its number alone
+
+look-value : (w : World) (report : List ℕ) → step w (look report) .value ≡ 0
+unfolding step
+look-value w report = pick-ind (λ (o : Outcome). o .value ≡ 0) (ltb (length report) S.lookLength) (λ _. refl) (λ _. refl)
+
+answer-value : (w : World) (serial success : ℕ) (d : List ℕ) → step w (answer serial success d) .value ≡ 0
+unfolding step S.settled
+answer-value w serial success d = pick-ind (λ (o : Outcome). o .value ≡ 0) (ltb (length (w .read)) S.readLength) (λ _. refl) (λ _. refl)
+
+word-alone : {x n value : ℕ} (m : ℕ) → x ≡ word n value → n ≡ m → value ≡ 0 → x ≡ m
+word-alone m e f g = omega (arith, e, f, g)
+
+pub seen : P.RequestSeen
+seen v b r xs a report long =
+    let k = demand3 .held (worldOf v) b r xs (handed a) (asked-state a) in
+    let m = call-at (now a) (look report) refl in
+    record {
+      word = word-alone 0 (m .word) (k .looks report long) (look-value (D.since (worldOf v) b r xs) report);
+      yields =
+          m .report
+          ∙ ap (λ (l : List ℕ). over l report) (k .yields report long)
+          ∙ ap (λ (t : State). over (D.lookBytes b (t .peripheral .serial)) report) (sym (state-at (then a)));
+    }
+
+-- ---- a request, its answer, and the calls since
+
+module _ {v : ByteWorld} {b r : List ℕ} {xs : List Call} {serial success : ℕ} {d : List ℕ} {ys : List Call} (a : Answered v b r xs serial success d ys) where
+  after : Stands (answeredAt v b r xs serial success d) (step (D.since (worldOf v) b r xs) (answer serial success d) .next)
+  after = next-at (now (a .asked)) (answer serial success d) refl
+
+  answered-state : D.Answered (worldOf v) b r xs serial success d ys
+  answered-state =
+      record {
+        sound = holds-sound (v .state) (a .asked .holding .long) (a .asked .holding .passes);
+        handed = a .asked .handed;
+        asked = asked-state (a .asked);
+        answered = sym (kind-at (now (a .asked)) (answer serial success d) refl) ∙ a .answered;
+        unended = sym (without-at after isEnd ys (a .handedSince)) ∙ a .unendedSince;
+        handedOn = handed-on after ys (a .handedSince) (a .handedOn);
+        handedSince = a .handedSince;
+      }
+
+pub read-answered : P.ReadAnswered
+read-answered v b r xs serial success d ys a is size =
+    let k = demand3 .read (worldOf v) b r xs serial success d ys (answered-state a) is size in
+    let e = got-at (after a) ys (a .handedSince) in
+    record { pieces = deliver-at (after a) ys (a .handedSince) _ _ (k .pieces); whole = λ n. ap D.joinedData e ∙ k .whole (ap length (sym e) ∙ n) }
+
+pub failure-answered : P.FailureAnswered
+failure-answered v b r xs serial success d ys a bad =
+    deliver-at (after a) ys (a .handedSince) _ _ (demand3 .failure (worldOf v) b r xs serial success d ys (answered-state a) bad)
+
+pub io-write-answered : P.IoWriteAnswered
+io-write-answered v b r xs serial success d ys a io ok =
+    deliver-at (after a) ys (a .handedSince) _ _ (demand3 .ioWrite (worldOf v) b r xs serial success d ys (answered-state a) io ok)
+
+-- ---- after an ending event
+
+handed-parts : (xs ys : List Call) → allHanded (xs ++ ys) ≡ true → (allHanded xs ≡ true) × (allHanded ys ≡ true)
+unfolding allHanded
+handed-parts [] ys b = (refl, b)
+handed-parts (x ∷ xs) ys b =
+    let t = handed-parts xs ys (and-right (handedOver x) _ b) in
+    (and-true (and-left (handedOver x) _ b) (t .0), t .1)
+
+split-handed : (xs ys : List Call) {cs : List Call} → cs ≡ xs ++ ys → allHanded cs ≡ true → (allHanded xs ≡ true) × (allHanded ys ≡ true)
+split-handed xs ys e b = handed-parts xs ys (subst (λ (l : List Call). allHanded l ≡ true) e b)
+
+told-at : {v : ByteWorld} {w : World} → Stands v w → (n : ℕ) {cs : List Call} → allHanded cs ≡ true → D.ToldIn n w cs → ToldIn n v cs
+told-at s n b t =
+    let h = split-handed (t .ys) (answer n (t .success) (t .bytes) ∷ t .zs) (t .split) b in
+    record {
+      ys = t .ys;
+      success = t .success;
+      bytes = t .bytes;
+      zs = t .zs;
+      split = t .split;
+      accepted = kind-at (run-at s (t .ys) (h .0)) (answer n (t .success) (t .bytes)) refl ∙ t .accepted;
+    }
+
+asked-in : {v : ByteWorld} {w : World} → Stands v w → {cs : List Call} → allHanded cs ≡ true → D.AskedIn w cs → AskedIn v cs
+asked-in {v} {w} s b t =
+    let h = split-handed (t .xs) (t .q ∷ t .rest) (t .split) b in
+    let p = run-at s (t .xs) (h .0) in
+    let hq = head-handed (t .q) (t .rest) (h .1) in
+    let n = next-at p (t .q) hq in
+    record {
+      xs = t .xs;
+      q = t .q;
+      rest = t .rest;
+      split = t .split;
+      accepted = kind-at p (t .q) hq ∙ t .accepted;
+      answered =
+          subst (λ (x : State). ToldIn (x .peripheral .serial) (byteStep (byteRun v (t .xs)) (t .q) .next) (t .rest)) (sym (state-at n))
+          (told-at n _ (tail-handed (t .q) (t .rest) (h .1)) (t .answered));
+    }
+
+pub ended : P.EventEnds
+ended v h e cs c b hc k =
+    let he = head-handed e cs b in
+    let s = next-at (stands h) e he in
+    let hb = tail-handed e cs b in
+    let p = run-at s cs hb in
+    let d = demand3 .ended (worldOf v) e (sym (kind-at (stands h) e he) ∙ k) cs c in
+    record {
+      getPc = λ g. asked-in s hb (d .getPc (sym (kind-at p c hc) ∙ g));
+      pcAvail = λ g. asked-in s hb (d .pcAvail (ap (raises 4) (sym (call-at p c hc .said)) ∙ g));
+    }
+
+-- ---- late answers
+
+-- an answer that names the serial in the state bytes of u, where v holds what is there now
+answer-word : {v u : ByteWorld} {w x : World} → Stands v w → Stands u x → (success : ℕ) (d : List ℕ) → step w (answer (serialOf x) success d) .number ≡ 20
+    → byteStep v (answer (serialIn u) success d) .word ≡ 20
+answer-word {v} {u} {w} s t success d e =
+    subst (λ (z : State). byteStep v (answer (z .peripheral .serial) success d) .word ≡ 20) (sym (state-at t))
+    (word-alone 20 (call-at s (answer _ success d) refl .word) e (answer-value w _ success d))
+
+read-at : {v : ByteWorld} {w : World} → Stands v w → S.readLength ≤ length (v .read) → S.readLength ≤ length (w .read)
+read-at s l = subst (λ (t : World). S.readLength ≤ length (t .read)) (s .world) l
+
+pub late : P.LateAnswer
+late v h q cs b k ns lo hi success d l =
+    let hq = head-handed q cs b in
+    let s = next-at (stands h) q hq in
+    let hb = tail-handed q cs b in
+    let n = asked-at s cs hb in
+    let p = run-at s cs hb in
+    answer-word p s success d
+    (serials-told .late (worldOf v) q (sym (kind-at (stands h) q hq) ∙ k) cs ns (subst (λ (m : ℕ). 0 < m) n lo) (subst (λ (m : ℕ). m < 2 ^ 32) n hi) success d (read-at p l))
+
+pub dropped : P.DroppedAnswer
+dropped v h q xs e cs b k ke ns hi success d l =
+    let hq = head-handed q (xs ++ e ∷ cs) b in
+    let s = next-at (stands h) q hq in
+    let hb = tail-handed q (xs ++ e ∷ cs) b in
+    let t = handed-parts xs (e ∷ cs) hb in
+    let p = run-at s (xs ++ e ∷ cs) hb in
+    answer-word p s success d
+    (serials-told .dropped (worldOf v) q (sym (kind-at (stands h) q hq) ∙ k) xs e cs
+    (sym (kind-at (run-at s xs (t .0)) e (head-handed e cs (t .1))) ∙ ke) ns (subst (λ (m : ℕ). m < 2 ^ 32) (asked-at s (xs ++ e ∷ cs) hb) hi) success d (read-at p l))
+
+-- ---- wires
+
+pub third : P.SentByTheThird
+third v h g lo hi m cs b go n =
+    let s = stands h in
+    let t = sent-by-the-third (worldOf v) (holds-sound (v .state) (h .long) (h .passes)) g lo hi m cs b (sym (goes-at s cs b) ∙ go) (subst (λ (k : ℕ). 3 ≤ k) (gets-at s cs b) n) in
+    let x = split-handed (t .before) (t .call ∷ t .after) (t .split) b in
+    let p = run-at s (t .before) (x .0) in
+    let hc = head-handed (t .call) (t .after) (x .1) in
+    record {
+      before = t .before;
+      call = t .call;
+      after = t .after;
+      split = t .split;
+      isGet = wire-at p (t .call) hc ∙ t .isGet;
+      soon = subst (λ (k : ℕ). k < 3) (sym (gets-at s (t .before) (x .0))) (t .soon);
+      carries = rw (call-at p (t .call) hc .said, state-at p) (t .carries);
+    }
+
+-- what a call over bytes shows is what the call on states shows, laid over what was lent
+abbrev dress : Call → Shown → ByteShown
+dress c t =
+    record { word = word (t .number) (t .value); reply = t .reply; past = drop (t .value) (lentReply c); report = over (t .report) (lentReport c) }
+
+unfoldable dressed : List Call → List Shown → List ByteShown
+dressed [] ts = []
+dressed (c ∷ cs) [] = []
+dressed (c ∷ cs) (t ∷ ts) = dress c t ∷ dressed cs ts
+
+shown-at : (c : Call) {x : ByteOutcome} {o : Outcome} → Meets (lentReply c) (lentReport c) x o → byteShown x ≡ dress c (shown o)
+unfolding shown
+shown-at c {x} {o} m =
+    let short : length (o .reply) ≤ o .value = rw (← m .said, length-take, m .value) (omega arith) in
+    let past : drop (valueOf (x .word)) (x .reply) ≡ drop (o .value) (lentReply c) = rw (m .value, m .reply) (past-over (o .reply) (lentReply c) (o .value) short) in
+    rw (past, m .said, m .word, m .report)
+
+module _ (c : Call) (os : List Call) (t : Shown) (ts : List Shown) {x : ByteShown} {xs : List ByteShown} (e : x ≡ dress c t) (f : xs ≡ dressed os ts) where
+  one-more : (b : Bool) → pick b xs (x ∷ xs) ≡ dressed (pick b os (c ∷ os)) (pick b ts (t ∷ ts))
+  unfolding dressed
+  one-more true = f
+  one-more false = rw (e, f)
+
+shows-at : {v : ByteWorld} {w : World} → Stands v w → (cs : List Call) → allHanded cs ≡ true → byteShows v cs ≡ dressed (others cs) (A.shows w cs)
+unfolding byteShows others A.shows dressed
+shows-at s [] b = refl
+shows-at {v} {w} s (c ∷ cs) b =
+    let h = head-handed c cs b in
+    one-more c (others cs) (shown (step w c)) (A.shows (step w c .next) cs)
+    (shown-at c (call-at s c h)) (shows-at (next-at s c h) cs (tail-handed c cs b)) (isWireEvent c)
+
+pub apart : P.WiresApart
+apart v u hv hu same cs ds b d e =
+    let k = wires-apart (worldOf v) (worldOf u) cs ds same e in
+    let s = run-at (stands hv) cs b in
+    let t = run-at (stands hu) ds d in
+    record {
+      calls =
+          shows-at (stands hv) cs b ∙ ap (λ (l : List Call). dressed l (A.shows (worldOf v) cs)) e
+          ∙ ap (dressed (others ds)) (k .calls) ∙ sym (shows-at (stands hu) ds d);
+      write = ap (λ (w : World). w .write) (s .world) ∙ k .after .write ∙ ap (λ (w : World). w .write) (sym (t .world));
+      read = ap (λ (w : World). w .read) (s .world) ∙ k .after .read ∙ ap (λ (w : World). w .read) (sym (t .world));
+      config = ap (λ (w : World). w .state .config) (s .world) ∙ k .after .config ∙ ap (λ (w : World). w .state .config) (sym (t .world));
+      peripheral = ap (λ (w : World). w .state .peripheral) (s .world) ∙ k .after .peripheral ∙ ap (λ (w : World). w .state .peripheral) (sym (t .world));
+    }
+
+pub promises : P.Promises
+promises =
+    record {
+      bridge = bridged;
+      sound = bytes-kept;
+      before = before;
+      seen = seen;
+      read = read-answered;
+      failure = failure-answered;
+      ioWrite = io-write-answered;
+      ended = ended;
+      late = late;
+      dropped = dropped;
+      third = third;
+      apart = apart;
+    }

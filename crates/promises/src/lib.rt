@@ -1,0 +1,1 @@
+// The promises over bytes stand in specs/; there is no code here.
