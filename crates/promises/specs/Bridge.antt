@@ -1,6 +1,6 @@
 -- Byte runs and runs of `step` side by side: each word of Words is that of the state's run.
 use mathlib.Core.Bool.{Bool, true}
-use mathlib.Core.List.{List, [], _∷_, _++_}
+use mathlib.Core.List.{List, [], _∷_}
 use mathlib.Core.Path.{_≡_, refl, ap, _∙_, subst}
 use Rattle.base.specs.Pick.{and-left, and-right}
 use Rattle.state.specs.Layout.{unpacked}
