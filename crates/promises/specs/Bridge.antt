@@ -1,16 +1,15 @@
 -- Byte runs and runs of `step` side by side: each word of Words is that of the state's run.
-use Prim.Native.Nat.{ℕ, _+_}
-use mathlib.Core.Bool.{Bool, true, _&&_, not}
-use mathlib.Core.List.{List, [], _∷_, _++_}
-use mathlib.Core.Path.{_≡_, refl, sym, ap, _∙_, subst}
-use Rattle.base.specs.Pick.{pick, and-left, and-right}
+use mathlib.Core.Bool.{Bool, true}
+use mathlib.Core.List.{List, [], _∷_}
+use mathlib.Core.Path.{_≡_, refl, ap, _∙_, subst}
+use Rattle.base.specs.Pick.{and-left, and-right}
 use Rattle.state.specs.Layout.{unpacked}
 use Rattle.rules.specs.Step.{World, Call, step, run, handedOver, allHanded}
-use Rattle.rules.specs.Kinds.{Kind, kind, kindOf, without, got, gotBy, isAsk, replyOf, sameRead, readHandedOn}
+use Rattle.rules.specs.Kinds.{Kind, kind, kindOf, without, got, gotBy, sameRead, readHandedOn}
 use Rattle.rules.specs.Serials.{askedTimes}
-use Rattle.rules.specs.Bound.{wireKind, wireKindOf, goesOn, getsIn, endsWires, oneIfGets}
+use Rattle.rules.specs.Bound.{wireKind, wireKindOf, goesOn, getsIn}
 use Rattle.promises.specs.ByteRuns.{ByteWorld, byteStep, byteRun}
-use Rattle.promises.specs.Lifted.{Holding, worldOf, replyIn, lentReply, lentReport, Meets}
+use Rattle.promises.specs.Lifted.{Holding, worldOf, lentReply, lentReport, Meets}
 use Rattle.promises.specs.LiftedProof.{call-lifts, run-lifts}
 use Rattle.promises.specs.Words.{byteKind, byteWireKind, byteWithout, byteGotBy, byteGot, byteAskedTimes, byteHandedOn, byteGoesOn, byteGetsIn}
 

@@ -1,5 +1,5 @@
 -- The lifting proved: one law a call, then runs by induction.
-use Prim.Native.Nat.{ℕ, zero, suc, _+_, _*_, _%_, _≤_}
+use Prim.Native.Nat.{ℕ, zero, suc, _%_, _≤_}
 use mathlib.Core.Bool.{Bool, true, false, _||_, not}
 use mathlib.Core.List.{List, [], _∷_}
 use mathlib.Core.Path.{_≡_, refl, sym, ap, _∙_, subst}
@@ -28,12 +28,12 @@ use Rattle.rules.specs.Reply.{replyBytes, keptBytes}
 use Rattle.rules.specs.Step as S
 use Rattle.rules.specs.Step.{World, Call, Outcome, step, run, handedOver, allHanded, succeeded}
 use Rattle.rules.specs.Calls as X
-use Rattle.rules.specs.Calls.{word, kept, Done, Exchanged, Stored, Looked}
+use Rattle.rules.specs.Calls.{word, kept, Exchanged, Stored, Looked}
 use Rattle.rules.specs.KeptProof.{exchange-sound, answer-sound, take-sound, set-sound, espi-reset-sound, platform-reset-sound, fresh-sound}
 use Rattle.rules.specs.RefusalsProof.{SettledAs, exchange-planned, answer-settled, set-settled}
 use Rattle.rules.specs.RefusalsCallsProof.{number-word, planned-small}
-use Rattle.promises.specs.ByteRuns.{ByteWorld, ByteOutcome, afterState, afterExchange, afterLook, afterAnswer, afterTake, afterWord, byteStep, byteRun}
-use Rattle.promises.specs.Lifted.{Holding, worldOf, valueOf, replyIn, Meets, Agrees, RunHolds, Starts, Lifted}
+use Rattle.promises.specs.ByteRuns.{ByteWorld, ByteOutcome, afterState, afterExchange, afterLook, afterAnswer, afterTake, byteStep, byteRun}
+use Rattle.promises.specs.Lifted.{Holding, worldOf, valueOf, Meets, Agrees, RunHolds, Starts, Lifted}
 
 -- ---- two chains of the same guards
 

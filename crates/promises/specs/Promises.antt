@@ -3,6 +3,7 @@
 use Prim.Native.Nat.{ℕ, _+_, _^_, _≤_, _<_}
 use mathlib.Core.Bool.{Bool, true, false}
 use mathlib.Core.List.{List, [], _∷_, _++_}
+use mathlib.Core.Logic.{_≢_}
 use mathlib.Core.Path.{_≡_}
 use lib.ListN.{length}
 use Rattle.base.specs.Bytes.{over}
@@ -12,12 +13,13 @@ use Rattle.wires.specs.Groups.{markAt}
 use Rattle.state.specs.Layout.{unpacked}
 use Rattle.state.specs.Status.{status}
 use Rattle.state.specs.declared.Kind.the-variants as R
+use Rattle.state.specs.declared.Np.the-variants.{Free, Waiting}
 use Rattle.state.specs.declared.State.{State}
 use Rattle.rules.specs.Step.{Call, step, run, handedOver, allHanded, readLength, replyLength, writeLength, lookLength, succeeded, exchange, look, answer}
 use Rattle.rules.specs.Reply.{closed}
-use Rattle.rules.specs.Kinds.{Kind, asks, tells, gets, ends, kind, askIn, isRead, isEnd, isTell, isAsk, shows, raises, without, got}
+use Rattle.rules.specs.Kinds.{Kind, asks, tells, gets, ends, kind, askIn, isRead, isEnd, isTell, isAsk, shows, raises, without, got, held, requestFor}
 use Rattle.rules.specs.Demand3.{header, pieceBody, joinedData, crcFine, lookBytes}
-use Rattle.rules.specs.Serials.{noStart}
+use Rattle.rules.specs.Serials.{noStart, ForHeld}
 use Rattle.rules.specs.Bound as W
 use Rattle.rules.specs.Apart.{others, SameButWires}
 use Rattle.promises.specs.ByteRuns.{ByteWorld, ByteOutcome, byteStep, byteRun}
@@ -55,6 +57,7 @@ pub record Over (x : ByteOutcome) : Type 0 where
   pub frees : shows 1 1 (replyIn x)
   pub staysFree : (es : List Call) (c : Call) → allHanded es ≡ true → handedOver c ≡ true → byteWithout isAsk (x .next) es ≡ true
       → isAsk (byteKind (byteRun (x .next) es) c) ≡ false → shows 1 1 (replyIn (byteStep (byteRun (x .next) es) c))
+  pub free : held (worldOf (x .next)) ≡ Free
 
 -- v: the bytes after the answer; cs: the calls since; N completions with the bodies body 0, body 1, .. are owed
 pub record Delivers (N : ℕ) (body : ℕ → List ℕ) (v : ByteWorld) (cs : List Call) : Type 0 where
@@ -89,6 +92,8 @@ pub record Asked (v : ByteWorld) (b r : List ℕ) (xs : List Call) : Type 0 wher
 
 pub record Waits (v : ByteWorld) (b r : List ℕ) (xs : List Call) (c : Call) : Type 0 where
   pub defers : replyIn (byteStep v (exchange b r)) ≡ closed (0x01 ∷ []) (status (stateIn (byteStep v (exchange b r) .next)))
+  pub deferNp : shows 1 0 (replyIn (byteStep v (exchange b r)))
+  pub deferPc : shows 4 0 (replyIn (byteStep v (exchange b r)))
   pub noGet : byteKind (since v b r xs) c ≡ gets → ⊥
   pub down : shows 4 0 (replyIn (byteStep (since v b r xs) c))
   pub taken : shows 1 0 (replyIn (byteStep (since v b r xs) c))
@@ -96,13 +101,16 @@ pub record Waits (v : ByteWorld) (b r : List ℕ) (xs : List Call) (c : Call) : 
 abbrev pub BeforeAnswer : Type 0
 BeforeAnswer = (v : ByteWorld) (b r : List ℕ) (xs : List Call) → Asked v b r xs → (c : Call) → handedOver c ≡ true → Waits v b r xs c
 
--- a look has word 0, and the report begins with what the command's bytes ask and the serial
-pub record Looks (v : ByteWorld) (b r : List ℕ) (xs : List Call) (report : List ℕ) : Type 0 where
-  pub word : byteStep (since v b r xs) (look report) .word ≡ 0
-  pub yields : byteStep (since v b r xs) (look report) .report ≡ over (lookBytes b (serialIn (byteStep v (exchange b r) .next))) report
+-- the request is held as the command's bytes ask it, under the sizes then in force; a look has word 0, and its report begins with it
+pub record HeldAs (v : ByteWorld) (b r : List ℕ) (xs : List Call) : Type 0 where
+  pub request : held (worldOf (since v b r xs)) ≡ Waiting (requestFor (stateIn v) (askIn b))
+  pub serial : serialIn (since v b r xs) ≡ serialIn (byteStep v (exchange b r) .next)
+  pub looks : (report : List ℕ) → lookLength ≤ length report → byteStep (since v b r xs) (look report) .word ≡ 0
+  pub yields : (report : List ℕ) → lookLength ≤ length report
+      → byteStep (since v b r xs) (look report) .report ≡ over (lookBytes b (serialIn (byteStep v (exchange b r) .next))) report
 
-abbrev pub RequestSeen : Type 0
-RequestSeen = (v : ByteWorld) (b r : List ℕ) (xs : List Call) → Asked v b r xs → (report : List ℕ) → lookLength ≤ length report → Looks v b r xs report
+abbrev pub RequestHeld : Type 0
+RequestHeld = (v : ByteWorld) (b r : List ℕ) (xs : List Call) → Asked v b r xs → HeldAs v b r xs
 
 -- ---- a request, its answer, and the calls since
 
@@ -156,7 +164,17 @@ abbrev pub EventEnds : Type 0
 EventEnds = (v : ByteWorld) → Holding v → (e : Call) (cs : List Call) (c : Call) → allHanded (e ∷ cs) ≡ true → handedOver c ≡ true
     → byteKind v e ≡ ends → AfterEnd v e cs c
 
+-- in plain bytes: after an ending event, until an answer is accepted, the word of a GET_PC has a number other than 0
+abbrev pub GetPcRefused : Type 0
+GetPcRefused = (v : ByteWorld) → Holding v → (e : Call) (cs : List Call) → allHanded (e ∷ cs) ≡ true → byteKind v e ≡ ends
+    → byteWithout isTell (byteStep v e .next) cs ≡ true
+    → (check : ℕ) (reply : List ℕ) → check < 256 → numberAt (byteRun (byteStep v e .next) cs) (exchange (0x01 ∷ check ∷ []) reply) ≢ 0
+
 -- ---- P14
+
+-- an answer is accepted only for the held unanswered request, whose serial it names
+abbrev pub AnswerForHeld : Type 0
+AnswerForHeld = (v : ByteWorld) → Holding v → (serial success : ℕ) (d : List ℕ) → byteKind v (answer serial success d) ≡ tells → ForHeld (worldOf v) serial
 
 abbrev pub LateAnswer : Type 0
 LateAnswer = (v : ByteWorld) → Holding v → (q : Call) (cs : List Call) → allHanded (q ∷ cs) ≡ true → byteKind v q ≡ asks → noStart cs ≡ true
@@ -169,6 +187,13 @@ DroppedAnswer = (v : ByteWorld) → Holding v → (q : Call) (xs : List Call) (e
     → byteKind (byteRun (byteStep v q .next) xs) e ≡ ends → noStart (xs ++ e ∷ cs) ≡ true → byteAskedTimes (byteStep v q .next) (xs ++ e ∷ cs) < 2 ^ 32
     → (success : ℕ) (d : List ℕ) → readLength ≤ length (byteRun (byteStep v q .next) (xs ++ e ∷ cs) .read)
     → byteStep (byteRun (byteStep v q .next) (xs ++ e ∷ cs)) (answer (serialIn (byteStep v q .next)) success d) .word ≡ 20
+
+-- an accepted answer that names a request's serial is its first: so `Asked` holds of it
+abbrev pub FirstAnswer : Type 0
+FirstAnswer = (v : ByteWorld) → Holding v → (q : Call) (xs : List Call) → allHanded (q ∷ xs) ≡ true → byteKind v q ≡ asks
+    → byteWithout isEnd (byteStep v q .next) xs ≡ true → byteAskedTimes (byteStep v q .next) xs < 2 ^ 32
+    → (success : ℕ) (d : List ℕ) → byteKind (byteRun (byteStep v q .next) xs) (answer (serialIn (byteStep v q .next)) success d) ≡ tells
+    → byteWithout isTell (byteStep v q .next) xs ≡ true
 
 -- ---- P21
 
@@ -205,12 +230,15 @@ pub record Promises : Type 0 where
   pub bridge : Bridged
   pub sound : BytesKept
   pub before : BeforeAnswer
-  pub seen : RequestSeen
+  pub held : RequestHeld
   pub read : ReadAnswered
   pub failure : FailureAnswered
   pub ioWrite : IoWriteAnswered
   pub ended : EventEnds
+  pub refused : GetPcRefused
+  pub forHeld : AnswerForHeld
   pub late : LateAnswer
   pub dropped : DroppedAnswer
+  pub first : FirstAnswer
   pub third : SentByTheThird
   pub apart : WiresApart

@@ -1,40 +1,37 @@
 -- The promises over bytes, each from its statement over `step` through the bridge.
 use Prim.Native.Nat.{ℕ, _+_, _^_, _≤_, _<_}
-use mathlib.Core.Bool.{Bool, true, false, _&&_, _||_}
+use mathlib.Core.Bool.{Bool, true, false, not, true≢false}
 use mathlib.Core.List.{List, [], _∷_, _++_}
 use mathlib.Core.Path.{_≡_, refl, sym, ap, _∙_, subst}
 use native.Mathlib.Omega.{arith}
 use lib.Dec.{ltb}
 use lib.ListN.{length, drop, length-take}
-use borrow.Author.Tests.{le-ltb, lt-ltb}
+use borrow.Author.Tests.{le-ltb, lt-ltb, not-true}
 use Rattle.base.specs.Pick.{pick, pick-ind, and-left, and-right, and-true}
 use Rattle.base.specs.Bytes.{over}
 use Rattle.state.specs.Packing.{holds-sound}
-use Rattle.state.specs.Sound.{Sound}
 use Rattle.state.specs.Status.{status}
 use Rattle.state.specs.declared.State.{State}
-use Rattle.rules.specs.Board as B
 use Rattle.rules.specs.Step as S
 use Rattle.rules.specs.Step.{World, Call, Outcome, step, run, handedOver, allHanded, areBytes, shortStores, exchange, look, answer}
 use Rattle.rules.specs.Calls.{word}
 use Rattle.rules.specs.Reply.{closed}
-use Rattle.rules.specs.Kinds.{Kind, asks, tells, gets, ends, kind, askIn, isEnd, isTell, isAsk, shows, raises, got, gotBy}
+use Rattle.rules.specs.Kinds.{Kind, kind, isEnd, isTell, isAsk, shows, raises, got, gotBy, held, opcode}
 use Rattle.rules.specs.Demand3 as D
 use Rattle.rules.specs.Demand3Proof.{demand3}
 use Rattle.rules.specs.Serials.{serialOf}
 use Rattle.rules.specs.SerialsProof.{serials-told}
-use Rattle.rules.specs.Bound as W
 use Rattle.rules.specs.BoundProof.{sent-by-the-third}
 use Rattle.rules.specs.Apart as A
 use Rattle.rules.specs.Apart.{Shown, shown, others, isWireEvent}
 use Rattle.rules.specs.ApartProof.{wires-apart}
 use Rattle.rules.specs.RefusalsProof.{past-over}
 use Rattle.promises.specs.ByteRuns.{ByteWorld, ByteOutcome, byteStep, byteRun}
-use Rattle.promises.specs.Lifted.{Holding, worldOf, valueOf, replyIn, lentReply, lentReport, Meets}
+use Rattle.promises.specs.Lifted.{worldOf, valueOf, replyIn, lentReply, lentReport, Meets}
 use Rattle.promises.specs.LiftedProof.{call-lifts}
-use Rattle.promises.specs.Words.{byteKind, byteWithout, byteGot, byteGotBy, byteAskedTimes, byteHandedOn, serialIn, ByteShown, byteShown, byteShows}
+use Rattle.promises.specs.Words.{byteKind, byteWithout, byteGot, byteGotBy, serialIn, ByteShown, byteShown, byteShows}
 use Rattle.promises.specs.Promises as P
-use Rattle.promises.specs.Promises.{Over, Delivers, HandsOver, Asked, Waits, Looks, Answered, ToldIn, AskedIn, AfterEnd, SentBy, stateIn, since, answeredAt}
+use Rattle.promises.specs.Promises.{Over, Delivers, Asked, Waits, Answered, ToldIn, AskedIn, stateIn, since, answeredAt}
 use Rattle.promises.specs.Bridge.{Stands, stands, head-handed, tail-handed, state-at, call-at, next-at, run-at, kind-at, wire-at, got-by, without-at, got-at, asked-at, goes-at, gets-at, handed-on}
 
 pub bridged : P.Bridged
@@ -64,6 +61,7 @@ over-at {x} {o} e s k =
       staysFree = λ es c b h u n.
           subst (shows 1 1) (sym (call-at (run-at s es b) c h .said))
           (k .staysFree es c (sym (without-at s isAsk es b) ∙ u) (ap isAsk (sym (kind-at (run-at s es b) c h)) ∙ n));
+      free = ap held (s .world) ∙ k .free;
     }
 
 bytes : (check : ℕ) → check < 256 → areBytes (0x01 ∷ check ∷ []) ≡ true
@@ -141,6 +139,8 @@ module _ {v : ByteWorld} {b r : List ℕ} {xs : List Call} (a : Asked v b r xs) 
       let e = call-at now c h .said in
       record {
         defers = m .said ∙ k .defers ∙ ap (λ (t : State). closed (0x01 ∷ []) (status t)) (sym (state-at then));
+        deferNp = subst (shows 1 0) (sym (m .said)) (k .deferNp);
+        deferPc = subst (shows 4 0) (sym (m .said)) (k .deferPc);
         noGet = λ g. k .noGet (sym (kind-at now c h) ∙ g);
         down = subst (shows 4 0) (sym e) (k .down);
         taken = subst (shows 1 0) (sym e) (k .taken);
@@ -162,16 +162,18 @@ answer-value w serial success d = pick-ind (λ (o : Outcome). o .value ≡ 0) (l
 word-alone : {x n value : ℕ} (m : ℕ) → x ≡ word n value → n ≡ m → value ≡ 0 → x ≡ m
 word-alone m e f g = omega (arith, e, f, g)
 
-pub seen : P.RequestSeen
-seen v b r xs a report long =
+pub request-held : P.RequestHeld
+request-held v b r xs a =
     let k = demand3 .held (worldOf v) b r xs (handed a) (asked-state a) in
-    let m = call-at (now a) (look report) refl in
     record {
-      word = word-alone 0 (m .word) (k .looks report long) (look-value (D.since (worldOf v) b r xs) report);
-      yields =
-          m .report
+      request = ap held (now a .world) ∙ k .request;
+      serial = ap serialOf (now a .world) ∙ k .serial ∙ ap serialOf (sym (then a .world));
+      looks = λ report long.
+          word-alone 0 (call-at (now a) (look report) refl .word) (k .looks report long) (look-value (D.since (worldOf v) b r xs) report);
+      yields = λ report long.
+          call-at (now a) (look report) refl .report
           ∙ ap (λ (l : List ℕ). over l report) (k .yields report long)
-          ∙ ap (λ (t : State). over (D.lookBytes b (t .peripheral .serial)) report) (sym (state-at (then a)));
+          ∙ ap (λ (w : World). over (D.lookBytes b (serialOf w)) report) (sym (then a .world));
     }
 
 -- ---- a request, its answer, and the calls since
@@ -259,7 +261,42 @@ ended v h e cs c b hc k =
       pcAvail = λ g. asked-in s hb (d .pcAvail (ap (raises 4) (sym (call-at p c hc .said)) ∙ g));
     }
 
+-- a call in a run without such
+without-from : (p : Kind → Bool) (v : ByteWorld) (xs : List Call) (c : Call) (ys : List Call) → byteWithout p v (xs ++ c ∷ ys) ≡ true
+    → (p (byteKind (byteRun v xs) c) ≡ false) × (byteWithout p (byteStep (byteRun v xs) c .next) ys ≡ true)
+unfolding byteWithout byteRun
+without-from p v [] c ys e = (not-true _ (and-left (not (p (byteKind v c))) _ e), and-right (not (p (byteKind v c))) _ e)
+without-from p v (x ∷ xs) c ys e = without-from p (byteStep v x .next) xs c ys (and-right (not (p (byteKind v x))) _ e)
+
+unanswered : (v : ByteWorld) (cs : List Call) → byteWithout isTell v cs ≡ true → AskedIn v cs → ⊥
+unanswered v cs u t =
+    let x = without-from isTell v (t .xs) (t .q) (t .rest) (subst (λ (l : List Call). byteWithout isTell v l ≡ true) (t .split) u) .1 in
+    let n = byteStep (byteRun v (t .xs)) (t .q) .next in
+    let a = t .answered in
+    let y = without-from isTell n (a .ys) _ (a .zs) (subst (λ (l : List Call). byteWithout isTell n l ≡ true) (a .split) x) .0 in
+    true≢false (ap isTell (sym (a .accepted)) ∙ y)
+
+pub get-pc-refused : P.GetPcRefused
+unfolding byteKind opcode
+get-pc-refused v h e cs b k u check reply small z =
+    let c = exchange (0x01 ∷ check ∷ []) reply in
+    unanswered (byteStep v e .next) cs u (ended v h e cs c b (bytes check small) k .getPc (rw z))
+
 -- ---- late answers
+
+pub for-held : P.AnswerForHeld
+for-held v h serial success d k = serials-told .forHeld (worldOf v) serial success d (sym (kind-at (stands h) (answer serial success d) refl) ∙ k)
+
+pub first : P.FirstAnswer
+first v h q xs b k u n success d t =
+    let hq = head-handed q xs b in
+    let s = next-at (stands h) q hq in
+    let hb = tail-handed q xs b in
+    without-at s isTell xs hb
+    ∙ serials-told .first (worldOf v) q (sym (kind-at (stands h) q hq) ∙ k) xs (sym (without-at s isEnd xs hb) ∙ u)
+    (subst (λ (m : ℕ). m < 2 ^ 32) (asked-at s xs hb) n) success d
+    (ap (λ (w : World). kind (run (step (worldOf v) q .next) xs) (answer (serialOf w) success d)) (sym (s .world))
+    ∙ sym (kind-at (run-at s xs hb) (answer (serialIn (byteStep v q .next)) success d) refl) ∙ t)
 
 -- an answer that names the serial in the state bytes of u, where v holds what is there now
 answer-word : {v u : ByteWorld} {w x : World} → Stands v w → Stands u x → (success : ℕ) (d : List ℕ) → step w (answer (serialOf x) success d) .number ≡ 20
@@ -363,13 +400,16 @@ promises =
       bridge = bridged;
       sound = bytes-kept;
       before = before;
-      seen = seen;
+      held = request-held;
       read = read-answered;
       failure = failure-answered;
       ioWrite = io-write-answered;
       ended = ended;
+      refused = get-pc-refused;
+      forHeld = for-held;
       late = late;
       dropped = dropped;
+      first = first;
       third = third;
       apart = apart;
     }
