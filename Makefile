@@ -3,7 +3,7 @@ CFLAGS = -std=c11 -O2 -Wall -Wextra -Werror -Iinclude
 ARCHIVE = target/staticlib/libespi.a
 SOURCES = $(shell find crates -name '*.rt' -o -name '*.antt') crates.txt
 
-.PHONY: run archive boundary differential bench clean
+.PHONY: run archive boundary differential differential-quick bench clean
 
 run: target/board
 	./target/board
@@ -21,6 +21,19 @@ boundary: target/boundary
 
 target/boundary: tests/boundary.c include/espi.h $(ARCHIVE)
 	$(CC) $(CFLAGS) -o $@ tests/boundary.c $(ARCHIVE)
+
+# The engine written again in Rust, against the archive: calls without a difference, then every deliberate fault found.
+DIFFERENTIAL = tests/differential/target/release/differential
+
+differential: $(ARCHIVE)
+	cd tests/differential && cargo test --release --lib && cargo build --release
+	$(DIFFERENTIAL) 2000000
+	$(DIFFERENTIAL) --faults
+
+differential-quick: $(ARCHIVE)
+	cd tests/differential && cargo build --release
+	$(DIFFERENTIAL) 400000
+	$(DIFFERENTIAL) --faults
 
 clean:
 	rm -rf target
