@@ -12,7 +12,7 @@ X86_CC = x86_64-linux-gnu-gcc -static
 X86_RUN = qemu-x86_64-static
 endif
 
-.PHONY: run archive boundary bench clean
+.PHONY: run archive boundary differential differential-quick bench clean
 
 run: target/board
 	$(X86_RUN) ./target/board
@@ -36,6 +36,19 @@ bench: target/figures
 
 target/figures: tests/figures.c include/espi.h $(ARCHIVE)
 	$(X86_CC) $(CFLAGS) -D_POSIX_C_SOURCE=199309L -o $@ tests/figures.c $(ARCHIVE)
+
+# The engine written again in Rust, against the archive: calls without a difference, then every deliberate fault found.
+DIFFERENTIAL = tests/differential/target/release/differential
+
+differential: $(ARCHIVE)
+	cd tests/differential && cargo test --release --lib && cargo build --release
+	$(DIFFERENTIAL) 2000000
+	$(DIFFERENTIAL) --faults
+
+differential-quick: $(ARCHIVE)
+	cd tests/differential && cargo build --release
+	$(DIFFERENTIAL) 400000
+	$(DIFFERENTIAL) --faults
 
 clean:
 	rm -rf target

@@ -1,0 +1,193 @@
+//! The bench lines of document 01 and of readings made of it, run on this engine alone; and each deliberate fault found
+//! by a run against an engine without it.
+use crate::engine::{crc, Calls, Engine};
+use crate::fault;
+use crate::run::run;
+use crate::state::{forbidden, pack, unpack, State, GENERAL, STATE_LEN};
+use crate::traffic::Traffic;
+
+const RIGHT: Engine = Engine { fault: fault::NONE };
+
+struct Board {
+    engine: Engine,
+    state: [u8; STATE_LEN],
+    reply: [u8; 263],
+    write_store: [u8; 256],
+    read_store: [u8; 4096],
+}
+
+fn bytes(text: &str) -> Vec<u8> {
+    text.split_whitespace().map(|byte| u8::from_str_radix(byte, 16).expect("a byte in hex")).collect()
+}
+
+impl Board {
+    fn fresh() -> Board {
+        let mut board = Board { engine: RIGHT, state: [0xAA; STATE_LEN], reply: [0; 263], write_store: [0; 256], read_store: [0; 4096] };
+        assert_eq!(board.engine.start(&mut board.state), 0);
+        board
+    }
+
+    /// A command gets a number and a reply.
+    fn line(&mut self, command: &str, number: u32, reply: &str) -> &mut Board {
+        let word = self.engine.exchange(&mut self.state, &bytes(command), &mut self.reply, &mut self.write_store, &self.read_store);
+        assert_eq!(word & 0xFF, number, "number of {command}");
+        let length = (word >> 8) as usize;
+        assert_eq!(self.reply[..length], bytes(reply), "reply to {command}");
+        self
+    }
+
+    /// An answer with counting bytes.
+    fn answer(&mut self, serial: u32, count: usize, number: u32) -> &mut Board {
+        let data: Vec<u8> = (0..count).map(|at| at as u8).collect();
+        assert_eq!(self.engine.answer(&mut self.state, &mut self.read_store, serial, 1, &data), number, "answer {serial}");
+        self
+    }
+
+    /// GET_PC shows this header, and behind it the counting bytes from `from` on.
+    fn piece(&mut self, header: &str, from: usize) -> &mut Board {
+        let word = self.engine.exchange(&mut self.state, &bytes("01 07"), &mut self.reply, &mut self.write_store, &self.read_store);
+        let header = bytes(header);
+        let length = usize::from(header[1] & 15) << 8 | usize::from(header[2]);
+        assert_eq!(word as usize, (length + 7) << 8);
+        assert_eq!(self.reply[0], 0x08);
+        assert_eq!(self.reply[1..4], header);
+        assert!(self.reply[4..4 + length].iter().enumerate().all(|(at, &byte)| byte == (from + at) as u8));
+        assert_eq!(self.reply[length + 6], crc(&self.reply[..length + 6], 0));
+        self
+    }
+}
+
+#[test]
+fn crc_check_value() {
+    assert_eq!(crc(b"123456789", 0), 0xF4);
+}
+
+#[test]
+fn first_lines() {
+    Board::fresh()
+        .line("25 FB", 0, "08 07 00 3A")
+        .line("21 00 08 10", 0, "08 03 00 0C 03 07 00 AF")
+        .line("21 00 10 00", 0, "08 33 11 00 00 07 00 0F")
+        .line("01 07", 1, "03 07 00 D6")
+        .line("40 00 64 BD", 0, "01 05 00 2A");
+    let mut board = Board::fresh();
+    board.line("40 00 64 BD", 0, "01 05 00 2A");
+    assert_eq!(board.engine.answer(&mut board.state, &mut board.read_store, 1, 1, &[0x1D]), 0);
+    board.line("25 FB", 0, "08 15 00 47").line("01 07", 0, "08 0F 00 01 1D 07 00 34");
+}
+
+#[test]
+fn wire_line() {
+    let mut board = Board::fresh();
+    board.line("22 00 20 01 00 00 00 6A", 0, "08 07 00 3A");
+    assert_eq!(board.engine.set_wire(&mut board.state, 6, 0, 0), 0);
+    board.line("25 FB", 0, "08 47 00 61").line("05 1B", 0, "08 00 06 F6 07 00 41");
+}
+
+#[test]
+fn piece_lines() {
+    const READ_1030: &str = "02 00 50 A0 00 00 10 30 FA";
+    const READ_1020: &str = "02 00 50 40 00 00 10 20 B1";
+    Board::fresh()
+        .line("22 00 10 03 31 00 00 9A", 0, "08 07 00 3A")
+        .line(READ_1030, 0, "01 05 00 2A")
+        .answer(1, 160, 0)
+        .piece("0B 50 10", 0)
+        .piece("09 50 40", 16)
+        .piece("09 50 40", 80)
+        .piece("0D 50 10", 144)
+        .line("01 07", 1, "03 07 00 D6");
+    Board::fresh()
+        .line("22 00 10 03 33 00 00 4C", 0, "08 07 00 3A")
+        .line(READ_1030, 0, "01 05 00 2A")
+        .answer(1, 160, 0)
+        .piece("0F 50 A0", 0);
+    Board::fresh()
+        .line(READ_1020, 1, "03 07 00 D6")
+        .line("22 00 10 03 21 00 00 00", 0, "08 07 00 3A")
+        .line(READ_1020, 0, "01 05 00 2A")
+        .answer(1, 64, 0)
+        .piece("0B 50 20", 0)
+        .piece("0D 50 20", 32);
+    let mut board = Board::fresh();
+    board.line("22 00 10 03 71 00 00 00", 0, "08 07 00 3A").line("02 00 00 00 00 00 10 00 00", 0, "01 05 00 2A").answer(1, 4096, 0);
+    for piece in 0..64 {
+        let mark = ["0B 00 40", "09 00 40", "0D 00 40"][usize::from(piece > 0) + usize::from(piece == 63)];
+        board.piece(mark, 64 * piece);
+    }
+    board.line("25 FB", 0, "08 07 00 3A");
+}
+
+#[test]
+fn refusals() {
+    Board::fresh()
+        .line("42 00 64 00", 13, "")
+        .line("", 12, "")
+        .line("02", 12, "")
+        .line("02 05", 15, "")
+        .line("02 00", 12, "")
+        .line("04", 14, "")
+        .line("FF", 13, "")
+        .line("FF 00", 13, "")
+        .line("22 00 10 00 00 00 00 2A", 2, "02 07 00 BD")
+        .line("22 00 08 00 00 00 80 88", 0, "08 07 00 3A")
+        .line("02 05 00", 15, "")
+        .line("01 00", 16, "")
+        .line("FF FF FF", 0, "")
+        .line("01 00", 1, "03 07 00 D6");
+}
+
+/// Channel 0 off and on with an answer still open.
+#[test]
+fn late_answer() {
+    let mut board = Board::fresh();
+    board
+        .line("40 00 64 BD", 0, "01 05 00 2A")
+        .line("22 00 10 00 11 00 00 E3", 0, "08 05 00 10")
+        .line("01 07", 14, "")
+        .line("00", 14, "")
+        .line("22 00 10 01 11 00 00 00", 0, "08 07 00 3A")
+        .answer(1, 1, 20)
+        .line("25 FB", 0, "08 07 00 3A")
+        .line("40 00 60 00", 0, "01 05 00 2A")
+        .answer(1, 1, 20);
+    assert_eq!(board.engine.answer(&mut board.state, &mut board.read_store, 2, 1, &[0x1C]), 0);
+    board.line("01 07", 0, "08 0F 00 01 1C 07 00 5F");
+}
+
+#[test]
+fn packing_loses_nothing() {
+    let mut traffic = Traffic::new(5);
+    for _ in 0..20_000 {
+        let state = traffic.sound_state();
+        let mut packed = [0xEE; STATE_LEN + 1];
+        pack(&state, &mut packed);
+        assert_eq!(unpack(&packed, fault::NONE).as_ref(), Some(&state));
+        assert_eq!(packed[STATE_LEN], 0xEE);
+    }
+    assert!(!forbidden(0x008, GENERAL.reset, fault::NONE));
+    let mut packed = [0; STATE_LEN];
+    pack(&State::fresh(), &mut packed);
+    assert_eq!(unpack(&packed, fault::NONE), Some(State::fresh()));
+}
+
+/// An engine agrees with itself, and the run reaches all that it should.
+#[test]
+fn agrees_with_itself() {
+    let Ok(coverage) = run(&mut RIGHT.clone(), &mut RIGHT.clone(), 100_000, 3) else {
+        panic!("an engine that differs from itself");
+    };
+    let (_, missing) = coverage.report();
+    assert!(missing.is_empty(), "not reached: {missing:?}");
+}
+
+/// Every fault is found.
+#[test]
+fn faults_are_found() {
+    let missed: Vec<&str> = fault::ALL
+        .iter()
+        .filter(|&&(fault, _)| run(&mut RIGHT.clone(), &mut Engine { fault }, 200_000, 11).is_ok())
+        .map(|&(_, says)| says)
+        .collect();
+    assert!(missed.is_empty(), "not found: {missed:#?}");
+}

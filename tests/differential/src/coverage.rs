@@ -1,0 +1,289 @@
+//! What a run has reached, and whether it is enough.
+use crate::engine::{OK, READ_STORE_LEN, WRITE_STORE_LEN};
+use crate::state::{Phase, Request, State};
+use crate::traffic::{Call, CALLS};
+
+/// The numbers that each call can give, in the order of `CALLS`.
+const NUMBERS: [&[u32]; 9] = [
+    &[0, 10],
+    &[0, 10, 11],
+    &[0, 10, 11],
+    &[0, 1, 2, 10, 11, 12, 13, 14, 15, 16],
+    &[0, 10, 11, 23],
+    &[0, 10, 11, 20, 21],
+    &[0, 10, 11, 23],
+    &[0, 10, 11, 22],
+    &[0, 10, 11, 22],
+];
+
+/// How an exchange past 10 and 11 ended: its number, with the two conditions of number 1 apart.
+#[derive(Clone, Copy, PartialEq, Eq)]
+enum End {
+    Accepted,
+    Credit,
+    Size,
+    Forbidden,
+    Length,
+    Opcode,
+    Off,
+    Cycle,
+    Crc,
+}
+use End::*;
+
+const ENDS: [(&str, End); 9] = [
+    ("0", Accepted),
+    ("1 credit", Credit),
+    ("1 size", Size),
+    ("2", Forbidden),
+    ("12", Length),
+    ("13", Opcode),
+    ("14", Off),
+    ("15", Cycle),
+    ("16", Crc),
+];
+
+const LONG: &[End] = &[Accepted, Credit, Size, Length, Off, Cycle, Crc];
+const SHORT: &[End] = &[Accepted, Credit, Size, Length, Off, Crc];
+/// One byte never crosses a block.
+const BYTE: &[End] = &[Accepted, Credit, Length, Off, Crc];
+const GET: &[End] = BYTE;
+const WIRES: &[End] = &[Accepted, Size, Length, Off, Crc];
+
+/// Every opcode with the ends that it can have.
+const OPCODES: [(u8, &str, &[End]); 21] = [
+    (0x00, "PUT_PC", LONG),
+    (0x01, "GET_PC", GET),
+    (0x02, "PUT_NP", LONG),
+    (0x04, "PUT_VWIRE", WIRES),
+    (0x05, "GET_VWIRE", GET),
+    (0x21, "GET_CONFIGURATION", &[Accepted, Length, Crc]),
+    (0x22, "SET_CONFIGURATION", &[Accepted, Forbidden, Length, Crc]),
+    (0x25, "GET_STATUS", &[Accepted, Length, Crc]),
+    (0x40, "I/O read 1", BYTE),
+    (0x41, "I/O read 2", SHORT),
+    (0x43, "I/O read 4", SHORT),
+    (0x44, "I/O write 1", BYTE),
+    (0x45, "I/O write 2", SHORT),
+    (0x47, "I/O write 4", SHORT),
+    (0x48, "memory read 1", BYTE),
+    (0x49, "memory read 2", SHORT),
+    (0x4B, "memory read 4", SHORT),
+    (0x4C, "memory write 1", BYTE),
+    (0x4D, "memory write 2", SHORT),
+    (0x4F, "memory write 4", SHORT),
+    (0xFF, "RESET", &[Accepted, Opcode]),
+];
+
+const MARKS: [(u8, &str); 6] =
+    [(0x0F, "0Fh only"), (0x0B, "0Bh first"), (0x09, "09h middle"), (0x0D, "0Dh last"), (0x06, "06h I/O write"), (0x0E, "0Eh failure")];
+
+/// The cases that a run must meet besides.
+const CASES: [&str; 19] = [
+    "CRC checked",
+    "CRC not checked",
+    "channel 0 on",
+    "channel 0 off",
+    "channel 1 on",
+    "channel 1 off",
+    "packet of 1 group",
+    "packet of 2 groups",
+    "packet of 3 groups",
+    "packet that goes round from 6 to 4",
+    "posted write of 256 bytes",
+    "answer of 4,096 bytes",
+    "late answer while a request is open",
+    "piece cut by a size that is not today's",
+    "short read in two pieces",
+    "disabling of channel 0 with a request held",
+    "serial that wraps to 0",
+    "empty command",
+    "damaged bytes that are sound",
+];
+
+pub struct Coverage {
+    calls: u64,
+    numbers: [[u64; 24]; 9],
+    opcodes: [[u64; 9]; 21],
+    unknown_opcodes: [bool; 256],
+    marks: [u64; 6],
+    /// Reads handed over from the first piece to the last, by their number of pieces.
+    reads: [u64; 65],
+    cases: [u64; 19],
+    pieces_so_far: u64,
+}
+
+impl Default for Coverage {
+    fn default() -> Coverage {
+        Coverage {
+            calls: 0,
+            numbers: [[0; 24]; 9],
+            opcodes: [[0; 9]; 21],
+            unknown_opcodes: [false; 256],
+            marks: [0; 6],
+            reads: [0; 65],
+            cases: [0; 19],
+            pieces_so_far: 0,
+        }
+    }
+}
+
+/// N = floor((A+L-1)/P) - floor(A/P) + 1 (01, Requests, answers, pieces).
+fn pieces(request: &Request) -> u64 {
+    let (address, length, payload) = (u128::from(request.address), u128::from(request.length), u128::from(request.payload));
+    ((address + length - 1) / payload - address / payload + 1) as u64
+}
+
+impl Coverage {
+    fn case(&mut self, name: &str, met: bool) {
+        let at = CASES.iter().position(|&case| case == name).expect("a case of the list");
+        self.cases[at] += u64::from(met);
+    }
+
+    /// A call with the state before it (`None`: not sound), whether that state was damaged bytes, its word, the reply
+    /// store after it and the state after it.
+    pub fn record(&mut self, call: &Call, before: Option<&State>, damaged: bool, word: u32, reply: &[u8], after: Option<&State>) {
+        self.calls += 1;
+        let number = word & 0xFF;
+        if let Some(count) = self.numbers[call.row()].get_mut(number as usize) {
+            *count += 1;
+        }
+        let (Some(before), Some(after)) = (before, after) else {
+            return;
+        };
+        if damaged {
+            self.case("damaged bytes that are sound", number != 10);
+            return;
+        }
+        self.case(if before.crc_checked() { "CRC checked" } else { "CRC not checked" }, true);
+        self.case(if before.on0() { "channel 0 on" } else { "channel 0 off" }, true);
+        self.case(if before.on1() { "channel 1 on" } else { "channel 1 off" }, true);
+        match call {
+            Call::Exchange { command } if number != 10 => self.record_exchange(command, before, number, reply, after),
+            Call::Answer { serial, data, .. } => {
+                let open = before.request.as_ref().is_some_and(|request| request.phase == Phase::Open);
+                self.case("late answer while a request is open", number == 20 && open && *serial != before.serial);
+                self.case("answer of 4,096 bytes", number == OK && data.len() == READ_STORE_LEN);
+            }
+            _ => {}
+        }
+    }
+
+    fn record_exchange(&mut self, command: &[u8], before: &State, number: u32, reply: &[u8], after: &State) {
+        let Some(&opcode) = command.first() else {
+            self.case("empty command", true);
+            return;
+        };
+        let Some(row) = OPCODES.iter().position(|&(listed, _, _)| listed == opcode) else {
+            self.unknown_opcodes[usize::from(opcode)] = true;
+            return;
+        };
+        let no_credit = match opcode {
+            0x00 | 0x4C..=0x4F => before.write.is_some(),
+            0x02 | 0x40..=0x4B => before.request.is_some(),
+            0x01 | 0x05 => true,
+            _ => false,
+        };
+        let end = match number {
+            0 => Accepted,
+            1 if no_credit => Credit,
+            1 => Size,
+            2 => Forbidden,
+            12 => Length,
+            13 => Opcode,
+            14 => Off,
+            15 => Cycle,
+            _ => Crc,
+        };
+        self.opcodes[row][end as usize] += 1;
+        if end != Accepted {
+            return;
+        }
+        match opcode {
+            0x00 => {
+                self.case("posted write of 256 bytes", after.write.as_ref().is_some_and(|write| write.length as usize == WRITE_STORE_LEN))
+            }
+            0x01 => self.record_completion(before, reply),
+            0x05 => {
+                let groups = usize::from(reply[1]) + 1;
+                self.case(["packet of 1 group", "packet of 2 groups", "packet of 3 groups"][groups - 1], true);
+                let indexes: Vec<u8> = (0..groups).map(|at| reply[2 + 2 * at]).collect();
+                self.case("packet that goes round from 6 to 4", indexes.windows(2).any(|pair| pair == [6, 4]));
+            }
+            0x22 => self.case("disabling of channel 0 with a request held", before.request.is_some() && before.on0() && !after.on0()),
+            _ => {}
+        }
+        let asked = before.request.is_none() && after.request.is_some();
+        self.case("serial that wraps to 0", asked && after.serial == 0);
+    }
+
+    fn record_completion(&mut self, before: &State, reply: &[u8]) {
+        let Some(request) = &before.request else {
+            return;
+        };
+        let mark = reply[1];
+        if let Some(at) = MARKS.iter().position(|&(listed, _)| listed == mark) {
+            self.marks[at] += 1;
+        }
+        if !matches!(mark, 0x0F | 0x0B | 0x09 | 0x0D) {
+            return;
+        }
+        self.pieces_so_far = if request.sent == 0 { 1 } else { self.pieces_so_far + 1 };
+        self.case("piece cut by a size that is not today's", mark != 0x0F && request.payload != before.payload());
+        self.case("short read in two pieces", mark == 0x0D && request.length <= 4);
+        if matches!(mark, 0x0F | 0x0D) && self.pieces_so_far == pieces(request) {
+            self.reads[self.pieces_so_far as usize] += 1;
+        }
+    }
+
+    /// The report, and the names of everything that the run should have reached and did not.
+    pub fn report(&self) -> (String, Vec<String>) {
+        let mut text = String::new();
+        let mut missing = Vec::new();
+        let mut need = |count: u64, name: String| {
+            if count == 0 {
+                missing.push(name);
+            }
+        };
+        text += "numbers of each call:\n";
+        for (row, name) in CALLS.iter().enumerate() {
+            text += &format!("  {name:<16}");
+            for &number in NUMBERS[row] {
+                let count = self.numbers[row][number as usize];
+                text += &format!(" {number}: {count}");
+                need(count, format!("{name} with number {number}"));
+            }
+            text += "\n";
+        }
+        text += "ends of each opcode:\n";
+        for (row, (opcode, name, ends)) in OPCODES.iter().enumerate() {
+            text += &format!("  {opcode:02X} {name:<18}");
+            for (label, end) in ENDS.iter().filter(|(_, end)| ends.contains(end)) {
+                let count = self.opcodes[row][*end as usize];
+                text += &format!(" {label}: {count}");
+                need(count, format!("{name} with end {label}"));
+            }
+            text += "\n";
+        }
+        let unknown = self.unknown_opcodes.iter().filter(|&&seen| seen).count();
+        text += &format!("opcodes that are none: {unknown} of {}\n", 256 - OPCODES.len());
+        text += "completions:";
+        for (at, (_, name)) in MARKS.iter().enumerate() {
+            text += &format!(" {name}: {}", self.marks[at]);
+            need(self.marks[at], format!("completion {name}"));
+        }
+        text += "\nreads handed over by number of pieces:";
+        for (number, &count) in self.reads.iter().enumerate().filter(|&(_, &count)| count > 0) {
+            text += &format!(" {number}: {count}");
+        }
+        for number in [1, 2, 3, 4, 8, 16, 32, 64] {
+            need(self.reads[number], format!("a read of {number} pieces"));
+        }
+        text += "\ncases:\n";
+        for (at, name) in CASES.iter().enumerate() {
+            text += &format!("  {name}: {}\n", self.cases[at]);
+            need(self.cases[at], name.to_string());
+        }
+        (text, missing)
+    }
+}

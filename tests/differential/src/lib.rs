@@ -1,0 +1,13 @@
+//! An independent check of the eSPI target engine: document 01 written again in ordinary Rust (`state`, `engine`), seeded
+//! traffic (`traffic`), and a run that makes each call on two engines and compares every byte afterwards (`run`).
+//!
+//! "01" in a comment is document 01, with the name of its section; "STATE.md" is docs/STATE.md.
+pub mod coverage;
+pub mod engine;
+pub mod fault;
+pub mod run;
+pub mod state;
+pub mod traffic;
+
+#[cfg(test)]
+mod bench;

@@ -1,0 +1,798 @@
+//! Seeded traffic: calls, lengths of lent slices, sound states and damaged ones. Mostly meaningful for the state it is
+//! shown, and bent at the edges of every rule.
+use crate::engine::{crc, LOOK_REPORT_LEN, READ_STORE_LEN, REPLY_LEN, TAKE_REPORT_LEN, WRITE_STORE_LEN};
+use crate::state::{
+    forbidden, pack, within, Kind, Phase, Request, State, Write, CHANNEL_0, CHANNEL_1, ENABLE, GENERAL, GROUPS, READY, STATE_LEN,
+};
+
+/// Random numbers by xorshift with a multiplication at the end.
+pub struct Random(u64);
+
+impl Random {
+    pub fn new(seed: u64) -> Random {
+        let mut random = Random((seed ^ 0x6A09_E667_F3BC_C908).wrapping_mul(0x9E37_79B9_7F4A_7C15) | 1);
+        random.double();
+        random
+    }
+
+    pub fn double(&mut self) -> u64 {
+        self.0 ^= self.0 >> 12;
+        self.0 ^= self.0 << 25;
+        self.0 ^= self.0 >> 27;
+        self.0.wrapping_mul(0x2545_F491_4F6C_DD1D)
+    }
+
+    pub fn word(&mut self) -> u32 {
+        (self.double() >> 32) as u32
+    }
+
+    pub fn byte(&mut self) -> u8 {
+        (self.double() >> 56) as u8
+    }
+
+    /// A number below `n`, which is above 0.
+    pub fn below(&mut self, n: usize) -> usize {
+        ((u128::from(self.double()) * n as u128) >> 64) as usize
+    }
+
+    /// True once in `n` times.
+    pub fn once_in(&mut self, n: usize) -> bool {
+        self.below(n) == 0
+    }
+
+    pub fn pick<T: Copy>(&mut self, from: &[T]) -> T {
+        from[self.below(from.len())]
+    }
+
+    pub fn fill(&mut self, bytes: &mut [u8]) {
+        for part in bytes.chunks_mut(8) {
+            let random = self.double().to_le_bytes();
+            part.copy_from_slice(&random[..part.len()]);
+        }
+    }
+
+    fn bytes(&mut self, count: usize) -> Vec<u8> {
+        let mut bytes = vec![0; count];
+        self.fill(&mut bytes);
+        bytes
+    }
+}
+
+/// A call with its numbers and the bytes that it reads only.
+#[derive(Clone, Debug)]
+pub enum Call {
+    Start,
+    Reset,
+    PlatformReset,
+    Exchange { command: Vec<u8> },
+    Look,
+    Answer { serial: u32, success: u32, data: Vec<u8> },
+    TakeWrite,
+    SetWire { index: u32, bit: u32, value: u32 },
+    ReadWire { index: u32, bit: u32 },
+}
+
+/// The names of the calls, in the order of `Call::row`.
+pub const CALLS: [&str; 9] = ["start", "reset", "platform_reset", "exchange", "look", "answer", "take_write", "set_wire", "read_wire"];
+
+impl Call {
+    pub fn row(&self) -> usize {
+        match self {
+            Call::Start => 0,
+            Call::Reset => 1,
+            Call::PlatformReset => 2,
+            Call::Exchange { .. } => 3,
+            Call::Look => 4,
+            Call::Answer { .. } => 5,
+            Call::TakeWrite => 6,
+            Call::SetWire { .. } => 7,
+            Call::ReadWire { .. } => 8,
+        }
+    }
+}
+
+/// How many bytes of each slice are lent.
+#[derive(Clone, Copy, Debug)]
+pub struct Lengths {
+    pub state: usize,
+    pub reply: usize,
+    pub write_store: usize,
+    pub read_store: usize,
+    pub report: usize,
+}
+
+/// The room that each slice may take.
+pub const ROOM: Lengths = Lengths {
+    state: STATE_LEN + 60,
+    reply: REPLY_LEN + 140,
+    write_store: WRITE_STORE_LEN + 140,
+    read_store: READ_STORE_LEN + 200,
+    report: 60,
+};
+
+pub struct Traffic {
+    pub random: Random,
+    /// In calm times nothing is reset, disabled or put in place of the state, so that long reads are finished.
+    calm: bool,
+}
+
+impl Traffic {
+    pub fn new(seed: u64) -> Traffic {
+        Traffic { random: Random::new(seed), calm: false }
+    }
+
+    fn once_in(&mut self, n: usize) -> bool {
+        self.random.once_in(n)
+    }
+
+    fn below(&mut self, n: usize) -> usize {
+        self.random.below(n)
+    }
+
+    fn pick<T: Copy>(&mut self, from: &[T]) -> T {
+        self.random.pick(from)
+    }
+
+    /// Now and then the times change.
+    pub fn change_times(&mut self) {
+        if self.once_in(600) {
+            self.calm = !self.calm;
+        }
+    }
+
+    /// Whether another sound state is put in place of this one.
+    pub fn replaces_state(&mut self) -> bool {
+        !self.calm && self.once_in(120)
+    }
+
+    // ---- lengths
+
+    fn lent(&mut self, needed: usize, room: usize) -> usize {
+        match self.below(150) {
+            0 => needed - 1,
+            1 => self.below(needed),
+            2 => room,
+            3..=20 => needed,
+            _ => needed + self.below(25),
+        }
+    }
+
+    pub fn lengths(&mut self, call: &Call) -> Lengths {
+        let report = if matches!(call, Call::TakeWrite) { TAKE_REPORT_LEN } else { LOOK_REPORT_LEN };
+        let rare = matches!(call, Call::Start | Call::Reset | Call::PlatformReset);
+        let state = if rare && self.once_in(8) { self.pick(&[0, STATE_LEN - 1]) } else { self.lent(STATE_LEN, ROOM.state) };
+        Lengths {
+            state,
+            reply: self.lent(REPLY_LEN, ROOM.reply),
+            write_store: self.lent(WRITE_STORE_LEN, ROOM.write_store),
+            read_store: self.lent(READ_STORE_LEN, ROOM.read_store),
+            report: self.lent(report, ROOM.report),
+        }
+    }
+
+    // ---- calls
+
+    /// One of the three calls that begin anew.
+    fn begin(&mut self) -> Call {
+        match self.below(5) {
+            0 => Call::Start,
+            1 | 2 => Call::Reset,
+            _ => Call::PlatformReset,
+        }
+    }
+
+    /// A call on damaged bytes, which are put right after it.
+    pub fn call_on_damaged(&mut self, now: &State) -> Call {
+        if self.once_in(8) {
+            self.begin()
+        } else {
+            self.call(now)
+        }
+    }
+
+    pub fn call(&mut self, now: &State) -> Call {
+        if !self.calm && self.once_in(250) {
+            return self.begin();
+        }
+        let open = now.request.as_ref().is_some_and(|request| request.phase == Phase::Open);
+        match self.below(100) {
+            0..=4 => Call::Look,
+            5..=8 => self.answer(now),
+            9..=24 if open => self.answer(now),
+            9..=11 => Call::TakeWrite,
+            12..=24 if now.write.is_some() => Call::TakeWrite,
+            25..=32 => self.set_wire(),
+            33..=36 => self.read_wire(),
+            _ => Call::Exchange { command: self.command(now) },
+        }
+    }
+
+    fn set_wire(&mut self) -> Call {
+        let index = match self.below(12) {
+            0 => self.below(10) as u32,
+            1 => self.pick(&[0x104, 0x8000_0005, u32::MAX, 4 + 64, 7, 2]),
+            _ => 4 + self.below(3) as u32,
+        };
+        let value = match self.below(20) {
+            0 => self.pick(&[2, 3, 0x100, 0x101, 0x8000_0001, u32::MAX]),
+            _ => self.below(2) as u32,
+        };
+        Call::SetWire { index, bit: self.wire_bit(), value }
+    }
+
+    fn read_wire(&mut self) -> Call {
+        let index = match self.below(12) {
+            0 => self.below(10) as u32,
+            1 => self.pick(&[0x104, 0x102, 0x8000_0005, u32::MAX, 2 + 64]),
+            _ => 2 + self.below(6) as u32,
+        };
+        Call::ReadWire { index, bit: self.wire_bit() }
+    }
+
+    fn wire_bit(&mut self) -> u32 {
+        match self.below(16) {
+            0 => self.pick(&[4, 5, 7, 8, 31, 32, 33, 0x100, 0x8000_0000, u32::MAX]),
+            _ => self.below(4) as u32,
+        }
+    }
+
+    /// Mostly the right serial and count, else a late or wrong serial, a wrong count, a failure with data.
+    fn answer(&mut self, now: &State) -> Call {
+        let serial = match self.below(10) {
+            0 => now.serial.wrapping_sub(1 + self.below(3) as u32),
+            1 => self.pick(&[0, 1, now.serial ^ 0x100, now.serial ^ 0x8000_0000, now.serial.wrapping_add(1)]),
+            _ => now.serial,
+        };
+        let success = match self.below(8) {
+            0 | 1 => 0,
+            2 => self.pick(&[2, 0x100, 0x8000_0000, u32::MAX, 0x0001_0000]),
+            _ => 1,
+        };
+        let length = match &now.request {
+            Some(request) => request.length as usize,
+            None => self.below(5),
+        };
+        let wanted = match &now.request {
+            Some(request) if request.kind == Kind::IoWrite => 0,
+            _ if success == 0 => 0,
+            _ => length,
+        };
+        let count = match self.below(24) {
+            0 => self.below(8),
+            1 => wanted + 1,
+            2 => wanted.saturating_sub(1),
+            3 => length,
+            4 if self.once_in(8) => self.below(4300),
+            _ => wanted,
+        };
+        Call::Answer { serial, success, data: self.random.bytes(count) }
+    }
+
+    // ---- commands
+
+    /// A command with its CRC byte, mostly well formed.
+    fn command(&mut self, now: &State) -> Vec<u8> {
+        let ready = now.request.as_ref().is_some_and(|request| request.phase != Phase::Open);
+        let pending = now.pending.contains(&true);
+        let likely = match self.below(10) {
+            0..=4 if ready => Some(0x01),
+            5 if pending => Some(0x05),
+            6 if !now.on0() => Some(0x22),
+            _ => None,
+        };
+        let mut command = match (likely, self.below(100)) {
+            (Some(0x22), _) => self.set_configuration(now),
+            (Some(opcode), _) => vec![opcode],
+            (None, 0..=2) => vec![0x01],
+            (None, 3..=22) => self.read(now),
+            (None, 23..=32) => self.io_write(now),
+            (None, 33..=48) => self.write(now),
+            (None, 49..=51) => vec![0x05],
+            (None, 52..=64) => self.put_wires(now),
+            (None, 65..=73) => self.get_configuration(),
+            (None, 74..=85) => self.set_configuration(now),
+            (None, 86) => return self.reset(),
+            (None, 87) => self.random.bytes(1),
+            (None, 88..=90) => self.no_opcode(),
+            (None, _) => vec![0x25],
+        };
+        // Damage under a right CRC.
+        if self.once_in(20) {
+            self.damage(&mut command);
+        }
+        let sum = crc(&command, 0);
+        command.push(sum);
+        // Damage that the CRC does not cover.
+        match self.below(60) {
+            0..=3 => {
+                let last = command.len() - 1;
+                command[last] ^= 1 << self.below(8);
+            }
+            4 => self.damage(&mut command),
+            _ => {}
+        }
+        command
+    }
+
+    fn damage(&mut self, command: &mut Vec<u8>) {
+        match self.below(8) {
+            0 => command.truncate(self.below(command.len() + 1)),
+            1 => command.truncate(1 + self.below(4)),
+            2 => command.truncate(command.len().saturating_sub(1)),
+            3 => command.push(self.random.byte()),
+            4 => {
+                let more = 1 + self.below(6);
+                command.extend(self.random.bytes(more));
+            }
+            5 if command.len() > 1 => command[1] = self.random.byte(),
+            6 if !command.is_empty() => command[0] = self.random.byte(),
+            _ if !command.is_empty() => {
+                let at = self.below(command.len());
+                command[at] ^= 1 << self.below(8);
+            }
+            _ => {}
+        }
+    }
+
+    /// Opcodes that are none, with bytes behind them as if they were.
+    fn no_opcode(&mut self) -> Vec<u8> {
+        const NEAR: [u8; 15] = [0x03, 0x06, 0x07, 0x08, 0x09, 0x0A, 0x0B, 0x20, 0x23, 0x24, 0x26, 0x3F, 0x50, 0x80, 0xFE];
+        let opcode = if self.once_in(2) { self.pick(&[0x42, 0x46, 0x4A, 0x4E]) } else { self.pick(&NEAR) };
+        let more = self.below(9);
+        let mut command = vec![opcode];
+        command.extend(self.random.bytes(more));
+        command
+    }
+
+    /// FFh two or more times, or nearly so.
+    fn reset(&mut self) -> Vec<u8> {
+        let length = match self.below(8) {
+            0 => 1,
+            1 => 3 + self.below(8),
+            2 => self.pick(&[16, 263, 4096, 5000]),
+            _ => 2,
+        };
+        let mut command = vec![0xFF; length];
+        if self.once_in(3) {
+            let at = self.below(length);
+            command[at] ^= 1 << self.below(8);
+        }
+        command
+    }
+
+    /// An address whose place within a block of `block` bytes is `into`.
+    fn address(&mut self, bits: u32, block: u32, into: u32) -> u64 {
+        let all = if bits == 64 { u64::MAX } else { (1 << bits) - 1 };
+        let base = match self.below(6) {
+            0 => 0,
+            1 => u64::MAX,
+            2 => u64::MAX - 0xFFFF_FFFF,
+            3 => 0x1000,
+            _ => self.random.double(),
+        };
+        (base & !u64::from(block - 1) | u64::from(into % block)) & all
+    }
+
+    /// A place in the block and a length: mostly within it, often up to its edge or one past it.
+    fn span(&mut self, block: u32) -> (u32, u32) {
+        let into = match self.below(4) {
+            0 => 0,
+            1 => block - 1 - self.below(8) as u32,
+            _ => self.below(block as usize) as u32,
+        };
+        let rest = block - into;
+        match self.below(16) {
+            0..=3 => (into, rest),
+            4 => (into, rest + 1),
+            5..=7 => (0, block),
+            8 => (into, 1 + self.below(4096) as u32),
+            9 => (self.below(4096) as u32, 1 + self.below(300) as u32),
+            10 => (0, 4096),
+            _ => (into, 1 + self.below(rest as usize) as u32),
+        }
+    }
+
+    /// The place of a short access, often at an edge of either size.
+    fn short_span(&mut self, now: &State) -> (u32, u32) {
+        let block = self.pick(&[now.payload(), now.read_size(), 64, 4]);
+        let into = match self.below(3) {
+            0 => self.below(block as usize) as u32,
+            _ => (block - self.below(5).min(block as usize) as u32) % block,
+        };
+        (block, into)
+    }
+
+    fn long_header(&mut self, opcode: u8, cycle: u8, length: u32, address: u64, address_bytes: usize) -> Vec<u8> {
+        let tag = self.below(16) as u8;
+        let mut command = vec![opcode, cycle, tag << 4 | (length >> 8 & 0x0F) as u8, length as u8];
+        command.extend_from_slice(&address.to_be_bytes()[8 - address_bytes..]);
+        if self.once_in(25) {
+            command[1] = self.pick(&[0x00, 0x01, 0x02, 0x03, 0x04, 0x05, 0x06, 0x10, 0x11, 0x0F, 0x82]);
+        }
+        command
+    }
+
+    fn short_header(&mut self, opcode: u8, address: u64, address_bytes: usize) -> (Vec<u8>, usize) {
+        let (code, size) = self.pick(&[(0, 1), (1, 2), (3, 4)]);
+        let mut command = vec![opcode + code];
+        command.extend_from_slice(&address.to_be_bytes()[8 - address_bytes..]);
+        (command, size)
+    }
+
+    /// PUT_PC or a short memory write.
+    fn write(&mut self, now: &State) -> Vec<u8> {
+        if self.once_in(2) {
+            let (block, into) = self.short_span(now);
+            let address = self.address(32, block, into);
+            let (mut command, size) = self.short_header(0x4C, address, 4);
+            command.extend(self.random.bytes(size));
+            return command;
+        }
+        let (into, mut length) = self.span(now.payload());
+        if length > 600 && !self.once_in(8) {
+            length = 1 + length % 300;
+        }
+        let (cycle, bytes) = self.pick(&[(0x01, 4), (0x03, 8)]);
+        let address = self.address(8 * bytes as u32, 4096, into);
+        let mut command = self.long_header(0x00, cycle, length, address, bytes);
+        command.extend(self.random.bytes(length.min(4096) as usize));
+        command
+    }
+
+    /// PUT_NP, a short memory read or an I/O read.
+    fn read(&mut self, now: &State) -> Vec<u8> {
+        match self.below(4) {
+            0 => {
+                let (block, into) = self.short_span(now);
+                let address = self.address(16, block, into);
+                self.short_header(0x40, address, 2).0
+            }
+            1 => {
+                let (block, into) = self.short_span(now);
+                let address = self.address(32, block, into);
+                self.short_header(0x48, address, 4).0
+            }
+            _ => {
+                let (into, length) = self.span(now.read_size());
+                let (cycle, bytes) = self.pick(&[(0x00, 4), (0x02, 8)]);
+                let address = self.address(8 * bytes as u32, 4096, into);
+                self.long_header(0x02, cycle, length, address, bytes)
+            }
+        }
+    }
+
+    fn io_write(&mut self, now: &State) -> Vec<u8> {
+        let (block, into) = self.short_span(now);
+        let address = self.address(16, block, into);
+        let (mut command, size) = self.short_header(0x44, address, 2);
+        command.extend(self.random.bytes(size));
+        command
+    }
+
+    fn put_wires(&mut self, now: &State) -> Vec<u8> {
+        let limit = now.operating_count();
+        let count = match self.below(10) {
+            0 => limit + 1,
+            1 => limit,
+            2 => 1 + self.below(64),
+            _ => 1 + self.below(limit),
+        };
+        let ignored = self.pick(&[0x00, 0x00, 0x40, 0x80, 0xC0]);
+        let mut command = vec![0x04, (count - 1) as u8 & 0x3F | ignored];
+        for _ in 0..count {
+            let index = match self.below(6) {
+                0 => self.pick(&[0, 1, 4, 5, 6, 8, 64, 128 + 2, 255]),
+                _ => self.pick(&[2, 3, 7]),
+            };
+            command.push(index);
+            command.push(self.random.byte());
+        }
+        command
+    }
+
+    fn register_address(&mut self) -> u16 {
+        let address =
+            self.pick(&[0x004, 0x008, 0x008, 0x010, 0x010, 0x010, 0x020, 0x020, 0x020, 0x000, 0x00C, 0x014, 0x030, 0x040, 0x810, 0xFFC]);
+        match self.below(6) {
+            0 => address | (self.random.word() & 0xF003) as u16,
+            _ => address,
+        }
+    }
+
+    fn get_configuration(&mut self) -> Vec<u8> {
+        let [high, low] = self.register_address().to_be_bytes();
+        vec![0x21, high, low]
+    }
+
+    /// A write that mostly asks for legal values, with any value in the bits that it cannot write.
+    fn set_configuration(&mut self, now: &State) -> Vec<u8> {
+        let mut address = self.register_address();
+        if !now.on0() && self.once_in(2) {
+            address = 0x010;
+        }
+        let other = match self.below(3) {
+            0 => 0,
+            1 => u32::MAX,
+            _ => self.random.word(),
+        };
+        let data = match address & 0x0FFC {
+            0x008 => {
+                let mode = if self.once_in(12) { 3 } else { self.below(3) as u32 };
+                let frequency = if self.once_in(12) { 5 + self.below(3) as u32 } else { self.below(5) as u32 };
+                other & !0x8C70_0000 | (self.below(2) as u32) << 31 | mode << 26 | frequency << 20
+            }
+            0x010 => {
+                let read = if self.once_in(12) { 0 } else { self.pick(&[1, 2, 3, 4, 5, 6, 7, 7, 7]) };
+                let payload = if self.once_in(10) { self.pick(&[0, 4, 5, 6, 7]) } else { self.pick(&[1, 1, 2, 3]) };
+                let enable = u32::from(self.calm || !self.once_in(8));
+                other & !0x7701 | read << 12 | payload << 8 | enable
+            }
+            0x020 => {
+                let count = if self.once_in(10) { self.pick(&[8, 9, 15, 63]) } else { self.pick(&[0, 0, 1, 1, 2, 3, 7]) };
+                let enable = u32::from(if now.on1() { !self.once_in(6) } else { self.once_in(2) });
+                other & !0x003F_0001 | count << 16 | enable
+            }
+            _ => other,
+        };
+        let [high, low] = address.to_be_bytes();
+        let mut command = vec![0x22, high, low];
+        command.extend_from_slice(&data.to_le_bytes());
+        command
+    }
+
+    // ---- states
+
+    /// Any sound state, mostly with something held.
+    pub fn sound_state(&mut self) -> State {
+        let mut state = State::fresh();
+        loop {
+            state.general = GENERAL.reset ^ self.random.word() & GENERAL.writable;
+            if !forbidden(0x008, state.general, 0) {
+                break;
+            }
+        }
+        loop {
+            let value = CHANNEL_0.reset ^ self.random.word() & CHANNEL_0.writable;
+            let enable = if self.once_in(8) { 0 } else { ENABLE | READY };
+            state.channel0 = value & !(ENABLE | READY) | enable;
+            if !forbidden(0x010, state.channel0, 0) {
+                break;
+            }
+        }
+        let enable = if self.once_in(3) { 0 } else { ENABLE | READY };
+        state.channel1 = CHANNEL_1.reset | (self.below(8) as u32) << 16 | enable;
+        state.serial = self.pick(&[0, 1, 2, 0xFFFF_FFFE, u32::MAX, 0x7FFF_FFFF, 0x0001_0000]);
+        for (row, group) in GROUPS.iter().enumerate() {
+            state.levels[row] = if self.once_in(3) { group.reset } else { self.random.byte() & group.defined };
+            state.pending[row] = group.up && state.on1() && self.once_in(2);
+        }
+        state.place = self.pick(&[4, 5, 6]);
+        if state.on0() {
+            if self.once_in(2) {
+                state.write = Some(self.held_write());
+            }
+            if !self.once_in(4) {
+                state.request = Some(self.held_request());
+            }
+        }
+        state
+    }
+
+    fn held_write(&mut self) -> Write {
+        let payload = self.pick(&[64, 128, 256]);
+        let into = self.below(payload as usize) as u32;
+        let length = 1 + self.below((payload - into) as usize) as u32;
+        Write { address: self.address(64, payload, into), length, payload }
+    }
+
+    fn held_request(&mut self) -> Request {
+        let kind = self.pick(&[Kind::MemoryRead, Kind::MemoryRead, Kind::IoRead, Kind::IoWrite]);
+        let payload = self.pick(&[64, 128, 256]);
+        let read_size = self.pick(&[64, 128, 256, 512, 1024, 2048, 4096]);
+        let (address, length) = match kind {
+            Kind::MemoryRead => {
+                let into = if self.once_in(3) { 0 } else { self.below(read_size as usize) as u32 };
+                let length = if self.once_in(3) { read_size - into } else { 1 + self.below((read_size - into) as usize) as u32 };
+                (self.address(64, read_size, into), length)
+            }
+            Kind::IoRead | Kind::IoWrite => loop {
+                let block = if kind == Kind::IoWrite { payload } else { read_size };
+                let edge = self.pick(&[payload, block]);
+                let into = (edge - self.below(5) as u32) % edge;
+                let address = self.address(16, edge, into);
+                let length = self.pick(&[1, 2, 4]);
+                if within(address, length, block) {
+                    break (address, length);
+                }
+            },
+        };
+        let phase = self.pick(&[Phase::Open, Phase::Success, Phase::Success, Phase::Failure]);
+        let bytes = match kind {
+            Kind::IoWrite if length == 4 => self.random.word(),
+            Kind::IoWrite => self.random.word() & ((1 << (8 * length)) - 1),
+            _ => 0,
+        };
+        let tag = if kind == Kind::MemoryRead { self.below(16) as u8 } else { 0 };
+        let mut request = Request { phase, kind, tag, address, length, payload, read_size, bytes, sent: 0 };
+        if phase == Phase::Success && kind != Kind::IoWrite {
+            request.sent = self.an_edge(&request).unwrap_or(0);
+        }
+        request
+    }
+
+    /// Some count of bytes sent that ends at a piece's edge, short of the whole, if there is one above 0.
+    fn an_edge(&mut self, request: &Request) -> Option<u32> {
+        let first = rest_of_block(request.address, request.payload);
+        if first >= request.length || request.payload == 0 {
+            return None;
+        }
+        let edges = (request.length - 1 - first) / request.payload + 1;
+        Some(first + request.payload * self.below(edges as usize) as u32)
+    }
+
+    /// State bytes that are damaged, or nearly: bits flipped, or one or two fields at the edge of what is sound.
+    pub fn damaged_bytes(&mut self, now: &State) -> [u8; STATE_LEN] {
+        let mut state = if self.once_in(4) { now.clone() } else { self.sound_state() };
+        let mut bytes = [0; STATE_LEN];
+        let (fields, places) = self.pick(&[(1, 0), (1, 0), (1, 0), (0, 1), (0, 1), (0, 1), (2, 0), (1, 1), (0, 2)]);
+        for _ in 0..fields {
+            self.bend(&mut state);
+        }
+        pack(&state, &mut bytes);
+        for _ in 0..places {
+            self.bend_bytes(&mut bytes);
+        }
+        bytes
+    }
+
+    /// A change of one field of the state's bytes.
+    fn bend_bytes(&mut self, bytes: &mut [u8; STATE_LEN]) {
+        match self.below(12) {
+            0 | 1 => {
+                let at = self.below(STATE_LEN);
+                bytes[at] ^= 1 << self.below(8);
+            }
+            2 => {
+                let at = self.below(STATE_LEN);
+                bytes[at] = self.random.byte();
+            }
+            3 => bytes[12] = self.pick(&[0, 1, 2, 0x81, 0xFF]),
+            4 => bytes[29] = self.pick(&[0, 1, 2, 3, 4, 5, 0xFF]),
+            5 => bytes[30] = self.pick(&[0, 1, 2, 3, 4, 0x82, 0xFF]),
+            6 => {
+                let at = 13 + self.below(16);
+                bytes[at] = bytes[at].wrapping_add(1);
+            }
+            7 => {
+                let at = 30 + self.below(30);
+                bytes[at] = bytes[at].wrapping_add(1);
+            }
+            8 => {
+                let at = 64 + self.below(6);
+                bytes[at] ^= self.pick(&[1, 2, 4, 8, 0x10, 0x80]);
+            }
+            9 => {
+                let at = 70 + self.below(6);
+                bytes[at] = self.pick(&[0, 1, 2, 0xFF]);
+            }
+            10 => bytes[76] = self.pick(&[0, 2, 3, 4, 5, 6, 7, 0x84, 0xFF]),
+            _ => {
+                let at = self.below(12);
+                bytes[at] ^= 1 << self.below(8);
+            }
+        }
+    }
+
+    /// A change of one field of the state to something at the edge of what is sound.
+    fn bend(&mut self, state: &mut State) {
+        match self.below(4) {
+            0 => self.bend_registers(state),
+            1 if state.write.is_some() => self.bend_write(state),
+            _ if state.request.is_some() => self.bend_request(state),
+            _ => self.bend_registers(state),
+        }
+    }
+
+    fn bend_registers(&mut self, state: &mut State) {
+        match self.below(11) {
+            0 => state.channel0 ^= ENABLE,
+            1 => state.channel0 ^= READY,
+            2 => state.channel0 ^= ENABLE | READY,
+            3 => state.channel1 ^= ENABLE,
+            4 => state.channel1 ^= READY,
+            5 => state.channel1 ^= ENABLE | READY,
+            6 => state.channel0 = state.channel0 & !0x7000 | self.pick(&[0, 1, 7]) << 12,
+            7 => state.channel0 = state.channel0 & !0x0700 | self.pick(&[0, 1, 3, 4, 7]) << 8,
+            8 => state.channel1 = state.channel1 & !0x003F_0000 | self.pick(&[7, 8, 63]) << 16,
+            9 => state.general = state.general & !0x0C00_0000 | self.pick(&[2, 3]) << 26,
+            _ => state.general = state.general & !0x0070_0000 | self.pick(&[4, 5, 6, 7]) << 20,
+        }
+    }
+
+    fn bend_write(&mut self, state: &mut State) {
+        let Some(write) = state.write.as_mut() else {
+            return;
+        };
+        let rest = rest_of_block(write.address, write.payload);
+        match self.random.below(5) {
+            0 => write.length = self.random.pick(&[0, 0, rest, rest + 1, write.payload, write.payload + 1, 0x0100_0001]),
+            1 => write.payload = self.random.pick(&[0, 32, 64, 128, 256, 512, 65, 0x0100_0040]),
+            2 => {
+                // A size that is not legal and holds the write all the same.
+                write.payload = self.random.pick(&[32, 512]);
+                write.length = 1 + self.random.below(16) as u32;
+                write.address &= !63;
+            }
+            3 => write.address = self.random.double(),
+            _ => write.address = write.address.wrapping_add(1),
+        }
+    }
+
+    fn bend_request(&mut self, state: &mut State) {
+        let Some(mut request) = state.request else {
+            return;
+        };
+        let block = if request.kind == Kind::IoWrite { request.payload } else { request.read_size };
+        let rest = rest_of_block(request.address, block);
+        let length = request.length;
+        match self.below(14) {
+            0 => request.phase = self.pick(&[Phase::Open, Phase::Success, Phase::Failure]),
+            1 => request.kind = self.pick(&[Kind::MemoryRead, Kind::IoRead, Kind::IoWrite]),
+            2 => request.tag = self.pick(&[0, 1, 15, 16, 0xFF]),
+            3 => request.address = self.pick(&[0x1_0000, 0xFFFF, 0xFFFF_0000, request.address & 0xFFFF | 1 << 40]),
+            4 => request.address = request.address.wrapping_add(1),
+            5 if request.kind == Kind::MemoryRead => {
+                request.length = self.pick(&[0, 0, rest, rest + 1, block, block + 1, 4096, 4097, 0x0100_0001]);
+                request.sent = 0;
+            }
+            5 => request.length = self.pick(&[0, 1, 2, 3, 3, 3, 4, 5, 8, 0x0100_0001]),
+            6 => request.payload = self.pick(&[0, 32, 64, 128, 256, 512, 96, 0x0100_0040]),
+            7 => request.read_size = self.pick(&[0, 32, 64, 128, 4096, 8192, 96, 0x0100_0040]),
+            8 => request.bytes = self.pick(&[1, 0x100, 0x1_0000, 0x0100_0000]),
+            9 => request.bytes ^= 1 << self.below(32),
+            10 => {
+                // Bytes sent at an edge, whatever the phase and kind.
+                if let Some(edge) = self.an_edge(&request) {
+                    request.sent = edge;
+                }
+            }
+            11 => {
+                request.sent = self.pick(&[
+                    1,
+                    length,
+                    length.wrapping_sub(1),
+                    length + 1,
+                    request.payload,
+                    request.sent ^ 1,
+                    request.sent ^ 0x0100_0000,
+                ])
+            }
+            12 => {
+                // A length such that all bytes sent end at an edge.
+                if let Some(edge) = self.an_edge(&request) {
+                    request.length = edge;
+                    request.sent = edge;
+                }
+            }
+            _ => {
+                // Sizes that are not legal and hold the request all the same.
+                let size = self.pick(&[32, 512, 8192]);
+                if self.once_in(2) {
+                    request.payload = size;
+                } else {
+                    request.read_size = size;
+                }
+                request.address &= !63;
+                request.length = self.pick(&[1, 2, 4]);
+                request.sent = 0;
+                request.bytes &= 0xFF;
+            }
+        }
+        state.request = Some(request);
+    }
+}
+
+/// The bytes from an address to the end of its block.
+fn rest_of_block(address: u64, block: u32) -> u32 {
+    block - address.checked_rem(u64::from(block)).unwrap_or(0) as u32
+}
