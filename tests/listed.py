@@ -113,7 +113,7 @@ def proofs(page):
             continue
         (statement, _), (proof, file) = pair[0], pair[1]
         path = os.path.join("crates", file)
-        if os.path.isfile(path) and not re.search(r"^pub " + re.escape(proof) + r" : " + re.escape(statement) + r"$", read(path), re.M):
+        if os.path.isfile(path) and not re.search(r"^pub " + re.escape(proof) + r" : (?:\w+\.)?" + re.escape(statement) + r"$", read(path), re.M):
             fault(f"{page}: {path} has no '{proof} : {statement}'")
 
 
