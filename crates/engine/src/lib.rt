@@ -169,7 +169,13 @@ fn posted(s: State, address: u64, length: u32, from: u32) -> Plan
         return fatally(s);
     }
     let next = with_peripheral(s, held(p, address, length, payload));
-    say(0, Response::Accept, Body::Nothing, next, Kept::Data(from, length))
+    say(
+        0,
+        Response::Accept,
+        Body::Nothing,
+        next,
+        Kept::Data(from, length),
+    )
 }
 
 // ---- non-posted requests
@@ -227,7 +233,13 @@ fn requested(s: State, q: Request) -> Plan
     if !state::within(q.address, q.length, size) {
         return fatally(s);
     }
-    say(0, Response::Defer, Body::Nothing, with_peripheral(s, asked(p, q)), Kept::Nothing)
+    say(
+        0,
+        Response::Defer,
+        Body::Nothing,
+        with_peripheral(s, asked(p, q)),
+        Kept::Nothing,
+    )
 }
 
 // The bytes of an I/O write of this size, low byte first.
@@ -396,7 +408,10 @@ fn read_request(s: State, h: Head) -> Plan
     ensures { λ r. ⌜ r ≡ ask s (requestOf (s .config) R.MemoryRead (h .address) (h .length) (h .tag) 0) ⌝ }
 {
     let c = s.config;
-    requested(s, request_of(c, Kind::MemoryRead, h.address, h.length, h.tag, 0))
+    requested(
+        s,
+        request_of(c, Kind::MemoryRead, h.address, h.length, h.tag, 0),
+    )
 }
 
 fn read_register(s: State, address: u32) -> Plan
@@ -518,9 +533,15 @@ fn answer_taken(s: State, q: Request, success: bool) -> Plan
     let p = s.peripheral;
     if success {
         let n = answer_length(q);
-        return done_quietly(with_peripheral(s, with_request(p, Np::Ready(q, 0))), Kept::Data(0, n));
+        return done_quietly(
+            with_peripheral(s, with_request(p, Np::Ready(q, 0))),
+            Kept::Data(0, n),
+        );
     }
-    done_quietly(with_peripheral(s, with_request(p, Np::Failed(q))), Kept::Nothing)
+    done_quietly(
+        with_peripheral(s, with_request(p, Np::Failed(q))),
+        Kept::Nothing,
+    )
 }
 
 fn answer_waiting(s: State, q: Request, serial: u32, success: bool, n: usize) -> Plan
@@ -584,5 +605,8 @@ pub fn set_wire(s: State, index: u32, bit: u32, value: u32) -> Plan
     let c = s.config;
     let r = c.r020;
     let w = s.wires;
-    done_quietly(with_wires(s, w.set(r.on(), index, bit, value)), Kept::Nothing)
+    done_quietly(
+        with_wires(s, w.set(r.on(), index, bit, value)),
+        Kept::Nothing,
+    )
 }

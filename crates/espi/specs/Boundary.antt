@@ -63,7 +63,7 @@ module _ (st : List ℕ) (g : Loaded) (e : g ≡ loaded st) where
       → st′ ≡ over (packed (p .next)) st
       → report′ ≡ over (B.takeReport (g .state .peripheral .write)) report
       → stored (p .number) st′ report′
-        ≡ stored (B.takeWrite (unpacked st) .number) (kept (B.takeWrite (unpacked st) .next) st) (over (B.takeReport (unpacked st .peripheral .write)) report)
+      ≡ stored (B.takeWrite (unpacked st) .number) (kept (B.takeWrite (unpacked st) .next) st) (over (B.takeReport (unpacked st .peripheral .write)) report)
   taken-by p st′ report report′ ep es er =
       rw (es, er)
       (ap (λ (q : Plan). stored (q .number) (kept (q .next) st) (over (B.takeReport (g .state .peripheral .write)) report)) ep
@@ -75,7 +75,7 @@ module _ (st : List ℕ) (g : Loaded) (e : g ≡ loaded st) where
       → number ≡ B.lookNumber n
       → report′ ≡ over (B.lookReport n (g .state .peripheral .serial)) report
       → looked number report′
-        ≡ looked (B.lookNumber (unpacked st .peripheral .request)) (over (B.lookReport (unpacked st .peripheral .request) (unpacked st .peripheral .serial)) report)
+      ≡ looked (B.lookNumber (unpacked st .peripheral .request)) (over (B.lookReport (unpacked st .peripheral .request) (unpacked st .peripheral .serial)) report)
   looked-by n number report report′ en ew er =
       rw (ew, er)
       (ap (λ (z : Np). looked (B.lookNumber z) (over (B.lookReport z (g .state .peripheral .serial)) report)) (sym en)

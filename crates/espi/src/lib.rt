@@ -13,10 +13,15 @@ ghost use Rattle.rules.specs.Calls.{done, exchanged, stored, looked, startCall,
 
 // The least lengths of the lent slices.
 const STATE: usize = 77;
+
 const REPLY: usize = 263;
+
 const WRITE_STORE: usize = 256;
+
 const READ_STORE: usize = 4096;
+
 const LOOK_REPORT: usize = 19;
+
 const TAKE_REPORT: usize = 10;
 
 #[no_mangle]
@@ -63,7 +68,14 @@ pub extern "C" fn espi_platform_reset(state: &mut [u8]) -> u32
 }
 
 // A plan carried out on the lent bytes.
-fn commit(p: Plan, state: &mut [u8], command: &[u8], reply: &mut [u8], write_store: &mut [u8], read_store: &[u8]) -> u32
+fn commit(
+    p: Plan,
+    state: &mut [u8],
+    command: &[u8],
+    reply: &mut [u8],
+    write_store: &mut [u8],
+    read_store: &[u8],
+) -> u32
     requires { ⌜ (77 ≤ length (now state)) × (263 ≤ length (now reply)) × (256 ≤ length (now «write_store»)) × (4096 ≤ length (now «read_store»)) × AnswerFits (p .answer) × KeptFits (p .kept) (length (now command)) 256 ⌝ }
     ensures { λ r. ⌜ exchanged r (now (state .exit)) (now (reply .exit)) (now («write_store» .exit)) ≡ exchangePlanned p (now (state .entry)) (now (command .entry)) (now (reply .entry)) (now («write_store» .entry)) (now («read_store» .entry)) ⌝ }
 {

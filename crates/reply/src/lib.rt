@@ -75,7 +75,11 @@ fn put_groups(reply: &mut [u8], code: u8, p: Packet) -> usize
             6
         }
         Packet::Three(a, b, c) => {
-            base::put_at(reply, 0, &[code, 2, a.index, a.byte, b.index, b.byte, c.index, c.byte]);
+            base::put_at(
+                reply,
+                0,
+                &[code, 2, a.index, a.byte, b.index, b.byte, c.index, c.byte],
+            );
             8
         }
     }
@@ -134,7 +138,13 @@ pub fn answer(reply: &mut [u8], a: Answer, reads: &[u8]) -> u32
 {
     match a {
         Answer::Silent => 0,
-        Answer::Said(response, body, status) => say(reply, response_byte(response), body, status, reads),
+        Answer::Said(response, body, status) => say(
+            reply,
+            response_byte(response),
+            body,
+            status,
+            reads,
+        ),
     }
 }
 
