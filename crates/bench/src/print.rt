@@ -1,4 +1,5 @@
 // One line of text at a time.
+ghost use Prim.Native.Nat.{_<_};
 
 // Room for the longest reply, 263 bytes at three characters each, and its command.
 pub const ROOM: usize = 1024;
@@ -49,6 +50,36 @@ pub fn hex(line: &mut [u8; 1024], at: usize, bytes: &[u8], n: usize) -> usize {
     end
 }
 
+// One decimal digit, but no leading zero.
+fn place(line: &mut [u8; 1024], at: usize, value: u32, unit: u32) -> usize
+    requires { ⌜ 0 < unit ⌝ }
+{
+    if value < unit {
+        return at;
+    }
+    put(line, at, b'0' + (value / unit % 10) as u8)
+}
+
+// A number below 10,000.
+pub fn decimal(line: &mut [u8; 1024], at: usize, value: u32) -> usize {
+    let a = place(line, at, value, 1000);
+    let b = place(line, a, value, 100);
+    let c = place(line, b, value, 10);
+    put(line, c, b'0' + (value % 10) as u8)
+}
+
+// A call's name and number, the number in two places.
+pub fn call(line: &mut [u8; 1024], name: &[u8], word: u32) -> usize {
+    let number = word % 256;
+    let a = text(line, 0, name);
+    let b = put(line, a, b' ');
+    if number < 10 {
+        let c = put(line, b, b' ');
+        return decimal(line, c, number);
+    }
+    decimal(line, b, number)
+}
+
 fn part(bytes: &[u8], n: usize) {
     if n <= bytes.len() {
         io::write_all(1, &bytes[..n]);
@@ -59,4 +90,10 @@ fn part(bytes: &[u8], n: usize) {
 pub fn line(line: &mut [u8; 1024], at: usize) {
     let end = put(line, at, b'\n');
     part(line, end);
+}
+
+pub fn title(words: &[u8]) {
+    let mut out = [0; 1024];
+    let n = text(&mut out, 0, words);
+    line(&mut out, n);
 }

@@ -1,7 +1,6 @@
 use mathlib.Core.Path.{sym}
 use borrow.Author.Needs.{needs}
 use lib.Seq.{length-take-le}
-use denote.Ref.{now}
 use Rattle.bench.proofs.print.part.Statement.{statement}
 use Rattle.bench.proofs.print.part.Tie as tie
 
