@@ -49,6 +49,8 @@ def functions(path):
 def source():
     crates = {}
     for path in sorted(glob.glob("crates/*/src/*.rt")):
+        if os.path.isfile(os.path.join(os.path.dirname(path), "main.rt")):
+            continue  # a program has no callers: what its modules show each other is not public
         crates.setdefault(path.split("/")[1], {}).update(functions(path))
     return crates
 
