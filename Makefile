@@ -28,13 +28,13 @@ target/board: examples/board.c include/espi.h $(ARCHIVE)
 boundary: target/boundary
 	$(X86_RUN) ./target/boundary
 
-target/boundary: tests/boundary.c include/espi.h $(ARCHIVE)
+target/boundary: tests/boundary.c tests/crc8.h include/espi.h $(ARCHIVE)
 	$(X86_CC) $(CFLAGS) -o $@ tests/boundary.c $(ARCHIVE)
 
 bench: target/figures
 	python3 tests/figures.py
 
-target/figures: tests/figures.c include/espi.h $(ARCHIVE)
+target/figures: tests/figures.c tests/crc8.h include/espi.h $(ARCHIVE)
 	$(X86_CC) $(CFLAGS) -D_POSIX_C_SOURCE=199309L -o $@ tests/figures.c $(ARCHIVE)
 
 # The engine written again in Rust, against the archive: calls without a difference, then every deliberate fault found.

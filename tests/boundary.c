@@ -4,6 +4,7 @@
 #include <stdlib.h>
 #include <string.h>
 
+#include "crc8.h"
 #include "espi.h"
 
 #define GUARD 32
@@ -301,17 +302,6 @@ static uint32_t below(uint32_t n)
     return (uint32_t)(seed >> 33) % n;
 }
 
-static uint8_t crc(const uint8_t *b, size_t n)
-{
-    uint8_t r = 0;
-    for (size_t i = 0; i < n; i++) {
-        r ^= b[i];
-        for (int k = 0; k < 8; k++)
-            r = (uint8_t)(r & 0x80 ? (r << 1) ^ 0x07 : r << 1);
-    }
-    return r;
-}
-
 /* A command that is often well formed: an opcode, fields, and as many bytes as they ask for. */
 static size_t some_command(uint8_t *b)
 {
@@ -361,7 +351,7 @@ static size_t some_command(uint8_t *b)
             n = (b[0] < 0x48 ? 3 : 5) + (b[0] & 4 ? size : 0);
         }
     }
-    b[n] = crc(b, n);
+    b[n] = crc8(b, n);
     n++;
     if (below(12) == 0)
         b[below((uint32_t)n)] ^= (uint8_t)(1u << below(8));

@@ -4,20 +4,10 @@
 #include <string.h>
 #include <time.h>
 
+#include "crc8.h"
 #include "espi.h"
 
 static uint8_t state[ESPI_STATE_LEN], kept[ESPI_STATE_LEN], reply[ESPI_REPLY_LEN], write_store[ESPI_WRITE_STORE_LEN], read_store[ESPI_READ_STORE_LEN];
-
-static uint8_t crc8(const uint8_t *b, size_t n)
-{
-    uint8_t r = 0;
-    for (size_t i = 0; i < n; i++) {
-        r ^= b[i];
-        for (int k = 0; k < 8; k++)
-            r = (uint8_t)(r & 0x80 ? (r << 1) ^ 0x07 : r << 1);
-    }
-    return r;
-}
 
 static uint32_t send(uint8_t *command, size_t n)
 {
