@@ -321,7 +321,7 @@ impl Traffic {
             2 => command.truncate(command.len().saturating_sub(1)),
             3 => command.push(self.random.byte()),
             4 => {
-                let more = 1 + self.below(6);
+                let more = if self.once_in(20) { 5000 } else { 1 + self.below(6) };
                 command.extend(self.random.bytes(more));
             }
             5 if command.len() > 1 => command[1] = self.random.byte(),
@@ -349,7 +349,7 @@ impl Traffic {
         let length = match self.below(8) {
             0 => 1,
             1 => 3 + self.below(8),
-            2 => self.pick(&[16, 263, 4096, 5000]),
+            2 => self.pick(&[16, 263, 4096, 20_000]),
             _ => 2,
         };
         let mut command = vec![0xFF; length];
@@ -716,10 +716,10 @@ impl Traffic {
         let rest = rest_of_block(write.address, write.payload);
         match self.random.below(5) {
             0 => write.length = self.random.pick(&[0, 0, rest, rest + 1, write.payload, write.payload + 1, 0x0100_0001]),
-            1 => write.payload = self.random.pick(&[0, 32, 64, 128, 256, 512, 65, 0x0100_0040]),
+            1 => write.payload = self.random.pick(&[0, 32, 64, 65, 128, 256, 257, 258, 512, 0x0100_0040]),
             2 => {
                 // A size that is not legal and holds the write all the same.
-                write.payload = self.random.pick(&[32, 512]);
+                write.payload = self.random.pick(&[32, 257, 258, 512]);
                 write.length = 1 + self.random.below(16) as u32;
                 write.address &= !63;
             }
@@ -746,8 +746,8 @@ impl Traffic {
                 request.sent = 0;
             }
             5 => request.length = self.pick(&[0, 1, 2, 3, 3, 3, 4, 5, 8, 0x0100_0001]),
-            6 => request.payload = self.pick(&[0, 32, 64, 128, 256, 512, 96, 0x0100_0040]),
-            7 => request.read_size = self.pick(&[0, 32, 64, 128, 4096, 8192, 96, 0x0100_0040]),
+            6 => request.payload = self.pick(&[0, 32, 64, 96, 128, 256, 257, 258, 512, 0x0100_0040]),
+            7 => request.read_size = self.pick(&[0, 32, 64, 96, 128, 4096, 4097, 8192, 0x0100_0040]),
             8 => request.bytes = self.pick(&[1, 0x100, 0x1_0000, 0x0100_0000]),
             9 => request.bytes ^= 1 << self.below(32),
             10 => {
@@ -776,13 +776,13 @@ impl Traffic {
             }
             _ => {
                 // Sizes that are not legal and hold the request all the same.
-                let size = self.pick(&[32, 512, 8192]);
+                let size = self.pick(&[32, 257, 258, 512, 4097, 8192]);
                 if self.once_in(2) {
                     request.payload = size;
                 } else {
                     request.read_size = size;
                 }
-                request.address &= !63;
+                request.address &= 0xFFC0;
                 request.length = self.pick(&[1, 2, 4]);
                 request.sent = 0;
                 request.bytes &= 0xFF;
