@@ -51,4 +51,4 @@ differential-quick: $(ARCHIVE)
 	$(DIFFERENTIAL) --faults
 
 clean:
-	rm -rf target
+	rm -rf target tests/differential/target
