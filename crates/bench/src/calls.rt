@@ -2,7 +2,7 @@
 use crate::print;
 
 // Command and reply, or that the bus is not driven.
-pub fn exchanged(command: &[u8], word: u32, reply: &[u8]) {
+fn exchanged(command: &[u8], word: u32, reply: &[u8]) {
     let mut line = [0; 1024];
     let a = print::call(&mut line, b"exchange", word);
     let b = print::put(&mut line, a, b' ');
@@ -30,7 +30,7 @@ pub fn lent(
     exchanged(command, word, reply);
 }
 
-pub fn send(
+fn send(
     state: &mut [u8; 77],
     write_store: &mut [u8; 256],
     read_store: &[u8; 4096],
@@ -38,6 +38,19 @@ pub fn send(
 ) {
     let mut reply = [0; 263];
     lent(state, command, &mut reply, write_store, read_store);
+}
+
+// Sends the first n bytes.
+pub fn send_part(
+    state: &mut [u8; 77],
+    write_store: &mut [u8; 256],
+    read_store: &[u8; 4096],
+    bytes: &[u8],
+    n: usize,
+) {
+    if n <= bytes.len() {
+        send(state, write_store, read_store, &bytes[..n]);
+    }
 }
 
 fn get_pc(state: &mut [u8; 77], write_store: &mut [u8; 256], read_store: &[u8; 4096]) {
@@ -91,7 +104,7 @@ pub fn look(state: &[u8; 77]) {
     reported(b"look", word, &report);
 }
 
-fn low_first(low: u8, high: u8) -> usize {
+pub fn low_first(low: u8, high: u8) -> usize {
     (low as usize) + 256 * (high as usize)
 }
 
@@ -126,7 +139,7 @@ fn answered(word: u32, serial: u32, success: u32, count: u32) {
     print::line(&mut line, g);
 }
 
-pub fn answer(
+fn answer(
     state: &mut [u8; 77],
     read_store: &mut [u8; 4096],
     serial: u32,
@@ -150,15 +163,17 @@ fn fill(bytes: &mut [u8; 4096]) {
     }
 }
 
-fn answer_part(
+// Answers with the first n bytes.
+pub fn answer_part(
     state: &mut [u8; 77],
     read_store: &mut [u8; 4096],
     serial: u32,
+    success: u32,
     bytes: &[u8],
     n: usize,
 ) {
     if n <= bytes.len() {
-        answer(state, read_store, serial, 1, &bytes[..n]);
+        answer(state, read_store, serial, success, &bytes[..n]);
     }
 }
 
@@ -169,7 +184,7 @@ fn answer_first(
     bytes: &[u8; 4096],
     n: usize,
 ) {
-    answer_part(state, read_store, serial, bytes, n);
+    answer_part(state, read_store, serial, 1, bytes, n);
 }
 
 // Success with n bytes: byte i is i plus the number of its block of 64, modulo 256.

@@ -1,17 +1,14 @@
-// The bench: document 01's lines, numbers and calls through the exported functions, a line for each call.
-mod bench_lines;
+// Plays the script on standard input through the exported functions: a line for each call, with its number, command and reply.
 mod calls;
-mod kinds;
-mod numbers;
+mod narrow;
 mod print;
-mod story;
+mod script;
 
 fn main() {
     let mut state = [0; 77];
     let mut write_store = [0; 256];
     let mut read_store = [0; 4096];
-    bench_lines::run(&mut state, &mut write_store, &mut read_store);
-    numbers::run(&mut state, &mut write_store, &mut read_store);
-    kinds::run(&mut state, &mut write_store, &mut read_store);
-    story::run(&mut state, &mut write_store, &mut read_store);
+    let mut text = io::large_buffer();
+    let n = io::read_full(0, &mut text);
+    script::play(&mut state, &mut write_store, &mut read_store, &text[..n]);
 }

@@ -2,7 +2,7 @@
 ghost use Prim.Native.Nat.{_<_};
 
 // Room for the longest reply, 263 bytes at three characters each, and its command.
-pub const ROOM: usize = 1024;
+const ROOM: usize = 1024;
 
 pub fn put(line: &mut [u8; 1024], at: usize, byte: u8) -> usize {
     if at < ROOM {

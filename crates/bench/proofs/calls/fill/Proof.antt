@@ -1,3 +1,4 @@
+-- Each index is below 4,096.
 use Prim.Native.Nat.{_-_}
 use native.Mathlib.Omega.{arith}
 use Rattle.bench.proofs.calls.fill.Statement.{statement}

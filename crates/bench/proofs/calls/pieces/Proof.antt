@@ -1,3 +1,4 @@
+-- Ends: one exchange less is left at each turn.
 use native.Mathlib.Omega.{arith}
 use Rattle.bench.proofs.calls.pieces.Statement.{statement}
 use Rattle.bench.proofs.calls.pieces.Tie as tie

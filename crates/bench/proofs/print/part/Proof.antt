@@ -1,3 +1,4 @@
+-- The part lent is as long as asked, since it fits.
 use mathlib.Core.Path.{sym}
 use borrow.Author.Needs.{needs}
 use lib.Seq.{length-take-le}

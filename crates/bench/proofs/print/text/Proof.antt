@@ -1,3 +1,4 @@
+-- Each index is within the bytes.
 use Prim.Native.Nat.{_-_}
 use native.Mathlib.Omega.{arith}
 use lib.ListN.{length}

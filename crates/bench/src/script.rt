@@ -1,0 +1,209 @@
+// A script, one call a line: a word told by its first letter, then from column 9 on bytes in hex. Any other line is a title.
+use crate::calls;
+use crate::narrow;
+use crate::print;
+
+fn nibble(c: u8) -> u8 {
+    if c >= b'A' {
+        return (c - b'A') % 6 + 10;
+    }
+    if c >= b'0' {
+        return (c - b'0') % 10;
+    }
+    0
+}
+
+fn byte(high: u8, low: u8) -> u8 {
+    16 * (nibble(high) % 16) + nibble(low) % 16
+}
+
+fn at(line: &[u8; 1024], i: usize) -> u8 {
+    if i < 1024 {
+        return line[i];
+    }
+    0
+}
+
+// The byte that stands in hex at column p.
+fn field(line: &[u8; 1024], p: usize) -> u8 {
+    if p < 1023 {
+        return byte(at(line, p), at(line, p + 1));
+    }
+    0
+}
+
+fn wide(x: u8) -> u32 {
+    x as u32
+}
+
+// The bytes from column p on, and how many there are.
+fn fields(line: &[u8; 1024], n: usize, p: usize, bytes: &mut [u8; 1024]) -> usize {
+    let mut k = 0;
+    let mut column = p;
+    while column < 1024 {
+        if n <= column {
+            return k;
+        }
+        k = print::put(bytes, k, field(line, column));
+        column += 3;
+    }
+    k
+}
+
+fn exchange(
+    state: &mut [u8; 77],
+    write_store: &mut [u8; 256],
+    read_store: &[u8; 4096],
+    line: &[u8; 1024],
+    n: usize,
+    bytes: &mut [u8; 1024],
+) {
+    let k = fields(line, n, 9, bytes);
+    calls::send_part(state, write_store, read_store, bytes, k);
+}
+
+fn answer(
+    state: &mut [u8; 77],
+    read_store: &mut [u8; 4096],
+    line: &[u8; 1024],
+    n: usize,
+    bytes: &mut [u8; 1024],
+) {
+    let k = fields(line, n, 15, bytes);
+    calls::answer_part(
+        state,
+        read_store,
+        wide(field(line, 9)),
+        wide(field(line, 12)),
+        bytes,
+        k,
+    );
+}
+
+// The calls that move bytes.
+fn obey_bus(
+    state: &mut [u8; 77],
+    write_store: &mut [u8; 256],
+    read_store: &mut [u8; 4096],
+    line: &[u8; 1024],
+    n: usize,
+) -> bool {
+    let mut bytes = [0; 1024];
+    let word = line[0];
+    if word == b'e' {
+        exchange(state, write_store, read_store, line, n, &mut bytes);
+        return true;
+    }
+    if word == b'g' {
+        calls::pieces(state, write_store, read_store, wide(field(line, 9)));
+        return true;
+    }
+    if word == b'a' {
+        answer(state, read_store, line, n, &mut bytes);
+        return true;
+    }
+    if word == b'f' {
+        let count = calls::low_first(field(line, 15), field(line, 12));
+        calls::answer_long(state, read_store, wide(field(line, 9)), count);
+        return true;
+    }
+    if word == b'n' {
+        narrow::run(state, write_store, read_store);
+        return true;
+    }
+    false
+}
+
+// The calls on the state alone, and the take.
+fn obey_board(state: &mut [u8; 77], write_store: &[u8; 256], line: &[u8; 1024]) -> bool {
+    let word = line[0];
+    if word == b's' {
+        calls::start(state);
+        return true;
+    }
+    if word == b'r' {
+        calls::reset(state);
+        return true;
+    }
+    if word == b'p' {
+        calls::platform_reset(state);
+        return true;
+    }
+    if word == b'b' {
+        *state = [0xFF; 77];
+        return true;
+    }
+    if word == b'l' {
+        calls::look(state);
+        return true;
+    }
+    if word == b't' {
+        calls::take(state, write_store);
+        return true;
+    }
+    if word == b'w' {
+        calls::set_wire(
+            state,
+            wide(field(line, 9)),
+            wide(field(line, 12)),
+            wide(field(line, 15)),
+        );
+        return true;
+    }
+    if word == b'v' {
+        calls::read_wire(state, wide(field(line, 9)), wide(field(line, 12)));
+        return true;
+    }
+    false
+}
+
+fn obey(
+    state: &mut [u8; 77],
+    write_store: &mut [u8; 256],
+    read_store: &mut [u8; 4096],
+    line: &mut [u8; 1024],
+    n: usize,
+) {
+    if n == 0 {
+        print::line(line, n);
+        return;
+    }
+    if obey_bus(state, write_store, read_store, line, n) {
+        return;
+    }
+    if obey_board(state, write_store, line) {
+        return;
+    }
+    print::line(line, n);
+}
+
+// One character of the script; the length of the line so far.
+fn step(
+    state: &mut [u8; 77],
+    write_store: &mut [u8; 256],
+    read_store: &mut [u8; 4096],
+    line: &mut [u8; 1024],
+    n: usize,
+    c: u8,
+) -> usize {
+    if c != b'\n' {
+        return print::put(line, n, c);
+    }
+    obey(state, write_store, read_store, line, n);
+    0
+}
+
+pub fn play(
+    state: &mut [u8; 77],
+    write_store: &mut [u8; 256],
+    read_store: &mut [u8; 4096],
+    script: &[u8],
+) {
+    let mut line = [0; 1024];
+    let mut n = 0;
+    let mut i = 0;
+    while i < script.len() {
+        n = step(state, write_store, read_store, &mut line, n, script[i]);
+        i += 1;
+    }
+}
