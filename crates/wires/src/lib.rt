@@ -7,7 +7,7 @@ ghost use lib.Bits.{bitAnd};
 ghost use lib.Dec.{eqb, ltb};
 ghost use Rattle.wires.specs.Turn.{after};
 ghost use Rattle.wires.specs.Sending.{packetAnd, leftBy, asked, sending, Sendable};
-ghost use Rattle.wires.specs.Groups.{senders, groupOf, freshWires, withGroup, levelAt, nibble, putPair, putPairs, definedBit, settable, setWire, readWire, anyPending, differs, enabled, disabled, placed, resetGroup, platformWires, undefinedZero, marksRight, placeRight, soundWires};
+ghost use Rattle.wires.specs.Groups.{senders, groupOf, freshWires, withGroup, levelAt, nibble, putPair, putPairs, definedBit, settable, setWire, readWire, anyPending, differs, enabled, disabled, placed, resetGroup, platformWires, onlyDefined, undefinedZero, marksRight, placeRight, soundWires};
 
 pub struct WireRow {
     pub index: u8,
@@ -122,13 +122,6 @@ impl Packet {
 }
 
 // "undefined wire bits are 0"
-fn only_defined(level: u8, defined: u8) -> bool
-    requires { ⌜ defined ≤ 15 ⌝ }
-    ensures { λ r. ⌜ r ≡ (eqb (bitAnd level (15 - defined)) 0 && ltb level 16) ⌝ }
-{
-    (level & (15 - defined) == 0) & (level < 16)
-}
-
 pub fn defined_bit(index: u32, bit: u32) -> bool
     ensures { λ r. ⌜ r ≡ definedBit index bit ⌝ }
 {
@@ -361,15 +354,24 @@ impl Wires {
         self.reset_group(6).reset_group(7).placed(4)
     }
 
+    fn only_defined(self, index: usize) -> bool
+        requires { ⌜ (2 ≤ index) × (index ≤ 7) ⌝ }
+        ensures { λ r. ⌜ r ≡ onlyDefined self index ⌝ }
+    {
+        let at = index - 2;
+        let level = self.level[at];
+        (level & (15 - TABLE[at].defined) == 0) & (level < 16)
+    }
+
     fn undefined_zero(self) -> bool
         ensures { λ r. ⌜ r ≡ undefinedZero self ⌝ }
     {
-        only_defined(self.level[0], TABLE[0].defined)
-            & only_defined(self.level[1], TABLE[1].defined)
-            & only_defined(self.level[2], TABLE[2].defined)
-            & only_defined(self.level[3], TABLE[3].defined)
-            & only_defined(self.level[4], TABLE[4].defined)
-            & only_defined(self.level[5], TABLE[5].defined)
+        self.only_defined(2)
+            & self.only_defined(3)
+            & self.only_defined(4)
+            & self.only_defined(5)
+            & self.only_defined(6)
+            & self.only_defined(7)
     }
 
     fn marks_right(self, on: bool) -> bool
