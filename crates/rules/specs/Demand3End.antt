@@ -1,6 +1,6 @@
 -- After an ending event no completion is ready before a request accepted since has been answered under its own serial (P16).
 use Prim.Native.Nat.{ℕ}
-use mathlib.Core.Bool.{Bool, true, false, true≢false}
+use mathlib.Core.Bool.{Bool, true, false, _&&_, not, true≢false}
 use mathlib.Core.List.{List, [], _∷_}
 use mathlib.Core.Logic.{_⊎_, inl, inr}
 use mathlib.Core.Path.{_≡_, refl, sym, ap, _∙_}
@@ -9,15 +9,35 @@ use lib.Dec.{ltb}
 use lib.ListN.{length}
 use borrow.Author.Tests.{eqb-true, ltb-true}
 use Rattle.base.specs.Pick.{and-left, and-right}
+use Rattle.registers.specs.declared.Config.{Config}
+use Rattle.state.specs.Fresh.{dropped as droppedOf}
 use Rattle.state.specs.Status.{bit, pcAvail, some}
 use Rattle.state.specs.Upward.{upward}
+use Rattle.registers.specs.Registers.{on0}
 use Rattle.state.specs.declared.Np.{Np}
 use Rattle.state.specs.declared.Np.the-variants.{Free, Waiting}
+use Rattle.state.specs.declared.Peripheral.{Peripheral}
 use Rattle.state.specs.declared.Request.{Request}
+use Rattle.state.specs.declared.State.{State}
+use Rattle.rules.specs.Decide.{reconfigured}
 use Rattle.rules.specs.Step.{World, Call, Outcome, step, run, answer}
-use Rattle.rules.specs.Kinds.{Kind, gets, kind, held, raises}
-use Rattle.rules.specs.View.{Shown, Move, same, asked, told, sent, lent, dropped, view, view-as, clash, end-free}
+use Rattle.rules.specs.Kinds.{Kind, gets, ends, kind, held, raises}
+use Rattle.rules.specs.View.{Shown, Ended, byStart, byEspiReset, byPlatformReset, byDisabling, Move, same, asked, told, sent, lent, dropped, view, view-as, clash}
 use Rattle.rules.specs.Demand3.{ToldIn, AskedIn, EventEnds}
+
+-- ---- the event itself: nothing is held after it
+
+pub ended-free : {s t : State} → Ended s t → t .peripheral .request ≡ Free
+ended-free byStart = refl
+ended-free byEspiReset = refl
+ended-free byPlatformReset = refl
+ended-free {s} (byDisabling c e) = ap (λ (p : Peripheral). p .request) (by s c e)
+  where
+    by : (s : State) (c : Config) → on0 (s .config .r010) && not (on0 (c .r010)) ≡ true → reconfigured s c .peripheral ≡ droppedOf (s .peripheral)
+    by s c e = rw e
+
+pub end-free : {w : World} {c : Call} {o : Outcome} → Move w c o ends → held (o .next) ≡ Free
+end-free (dropped a b d x) = ended-free a
 
 -- ---- what a run's tail has, the run has
 
@@ -50,7 +70,7 @@ module _ (w : World) (c : Call) (cs : List Call) (s : Story (step w c .next) cs)
   free-story k e h (told q n t d f a b l m x r y) = clash (cc)
   free-story k e h (sent p ps u a b d r x) = clash (cc)
   free-story k e h (lent write read f a b d x) = asked-later (s .fromFree (a ∙ h))
-  free-story k e h (dropped a b d x) = asked-later (s .fromFree a)
+  free-story k e h (dropped a b d x) = asked-later (s .fromFree (ended-free a))
 
   still : (n : ℕ) → step w c .next .state .peripheral .serial ≡ n → ToldIn (step w c .next .state .peripheral .serial) (step w c .next) cs ⊎ AskedIn (step w c .next) cs → ToldIn n w (c ∷ cs) ⊎ AskedIn w (c ∷ cs)
   still n e (inl t) = inl (told-later (rw e at t))
@@ -65,7 +85,7 @@ module _ (w : World) (c : Call) (cs : List Call) (s : Story (step w c .next) cs)
       inl (record { ys = []; success = t; bytes = d; zs = cs; split = ap (λ (x : Call). x ∷ cs) named; accepted = ap (kind w) (sym named) ∙ e })
   waiting-story k e q h (sent p ps u a b d r x) = clash (cc)
   waiting-story k e q h (lent write read f a b d x) = still _ b (s .fromWaiting q (a ∙ h))
-  waiting-story k e q h (dropped a b d x) = inr (asked-later (s .fromFree a))
+  waiting-story k e q h (dropped a b d x) = inr (asked-later (s .fromFree (ended-free a)))
 
 not-ready : (n : Np) → pcAvail n ≡ true → n ≡ Free → ⊥
 unfolding upward

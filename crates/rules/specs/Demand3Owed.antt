@@ -27,6 +27,7 @@ use Rattle.rules.specs.Decide as D
 use Rattle.rules.specs.Reply.{closed, headerBytes, dataBytes}
 use Rattle.rules.specs.Step.{World, Call, step, run, exchanged, shortStores, exchange}
 use Rattle.rules.specs.Kinds.{Kind, gets, kind, isEnd, isTell, isAsk, without, got, gotBy, replyOf, held, shows, sameRead, readHandedOn}
+use Rattle.rules.specs.Demand3End.{ended-free}
 use Rattle.rules.specs.View.{Shown, Move, same, asked, told, sent, lent, dropped, view, clash}
 use Rattle.rules.specs.Demand3.{crcFine, Over, joinedData, dataIn}
 
@@ -190,7 +191,7 @@ down-step w c k h q (asked b r f a m y d z v) = ap pcAvail m
 down-step w c k h q (told p m t d f a b i y v r z) = clash (cc)
 down-step w c k h q (sent p ps u a b d r v) = absurd (true≢false (sym (ap some u) ∙ h))
 down-step w c k h q (lent write read f a b d v) = ap pcAvail a ∙ h
-down-step w c k h q (dropped a b d v) = ap pcAvail a
+down-step w c k h q (dropped a b d v) = ap pcAvail (ended-free a)
 
 down-run : (es : List Call) (w : World) → pcAvail (held w) ≡ false → without isTell w es ≡ true → pcAvail (held (run w es)) ≡ false
 unfolding without run
@@ -214,7 +215,7 @@ free-step w c k h q (asked b r f a m y d z v) = clash (cc)
 free-step w c k h q (told p m t d f a b i y v r z) = clash (cc)
 free-step w c k h q (sent p ps u a b d r v) = clash (cc)
 free-step w c k h q (lent write read f a b d v) = a ∙ h
-free-step w c k h q (dropped a b d v) = a
+free-step w c k h q (dropped a b d v) = ended-free a
 
 pub free-run : (es : List Call) (w : World) → held w ≡ Free → without isAsk w es ≡ true → held (run w es) ≡ Free
 unfolding without run

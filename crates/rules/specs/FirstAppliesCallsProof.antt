@@ -31,24 +31,10 @@ use Rattle.rules.specs.Calls.{word, Done, Exchanged, Stored, Looked, sta
 use Rattle.rules.specs.RefusalsProof.{exchange-planned}
 use Rattle.rules.specs.RefusalsCallsProof.{number-word, planned-small}
 use Rattle.rules.specs.FirstApplies.{Row, firstOf, noneApplies, exchangeRows, startRows, resetRows, lookRows, takeRows, answerRows, setRows, readRows, unanswered, writeHeld, bytesWanted, successBytes, wireDefined, wireOfBoard, First, FirstApplies}
+use Rattle.rules.specs.Rows.{numbered, none-first}
 use Rattle.rules.specs.FirstAppliesProof.{read-off, command-number}
 
 -- ---- 0 exactly where no row applies
-
-abbrev pub numbered : List Row → Bool
-numbered [] = true
-numbered (r ∷ rs) = not (eqb (r .number) 0) && numbered rs
-
-pub none-first : (rows : List Row) → numbered rows ≡ true → (firstOf rows ≡ 0) ↔ (noneApplies rows ≡ true)
-none-first [] h = (λ _. refl, λ _. refl)
-none-first (r ∷ rs) h = go (none-first rs (and-right (not (eqb (r .number) 0)) (numbered rs) h)) (r .applies)
-  where
-    first-one : not (eqb (r .number) 0) ≡ true
-    first-one = and-left (not (eqb (r .number) 0)) (numbered rs) h
-
-    go : (firstOf rs ≡ 0) ↔ (noneApplies rs ≡ true) → (t : Bool) → (pick t (r .number) (firstOf rs) ≡ 0) ↔ (not t && noneApplies rs ≡ true)
-    go rest true = (λ e. absurd (eqb-false (r .number) 0 (not-true (eqb (r .number) 0) first-one) e), λ e. absurd (true≢false (sym e)))
-    go rest false = rest
 
 first : {n : ℕ} {rows : List Row} → n ≡ firstOf rows → numbered rows ≡ true → First n rows
 first {n} {rows} e h =

@@ -20,7 +20,8 @@ use Rattle.rules.specs.Board as B
 use Rattle.rules.specs.Step.{World, Call, Outcome, step, run, settled, succeeded, readLength, answer}
 use Rattle.rules.specs.Step.{start, espiReset, platformReset, exchange, look, takeWrite, setWire, readWire, lend}
 use Rattle.rules.specs.Kinds.{Kind, idle, asks, tells, gets, ends, lends, kind, kindOf, isStart, isAsk, isEnd, isTell, without, held}
-use Rattle.rules.specs.View.{Move, same, asked, told, sent, lent, dropped, view, view-as, answeredAs, clash, end-free}
+use Rattle.rules.specs.View.{Move, same, asked, told, sent, lent, dropped, view, view-as, answeredAs, clash}
+use Rattle.rules.specs.Demand3End.{ended-free, end-free}
 use Rattle.rules.specs.Serials.{serialOf, SerialGiven, ForHeld, AnswerForHeld, askedTimes, noStart, LateAnswer, DroppedAnswer, FirstAnswer, Serials}
 use Rattle.rules.specs.declared.Plan.{Plan}
 use Rattle.rules.specs.Demand3Owed.{free-run}
@@ -188,7 +189,7 @@ done-step w c k h f (asked b r g a m n d z v) = absurd (true≢false f)
 done-step w c k h f (told p m t d g a b i n v r z) = ap waiting n ∙ answered-done p (succeeded t)
 done-step w c k h f (sent p ps u a b d r v) = ap waiting a ∙ handed-done (held w) h
 done-step w c k h f (lent write read g a b d v) = ap waiting a ∙ h
-done-step w c k h f (dropped a b d v) = ap waiting a
+done-step w c k h f (dropped a b d v) = ap waiting (ended-free a)
 
 done-run : (cs : List Call) (w : World) → waiting (held w) ≡ false → without isAsk w cs ≡ true → waiting (held (run w cs)) ≡ false
 unfolding run without

@@ -30,7 +30,7 @@ use Rattle.rules.specs.Fields.{byte, isPosted, isNonPosted}
 use Rattle.rules.specs.FieldsProof.{by-posted, by-asked}
 use Rattle.rules.specs.FirstApplies.{Row, firstOf, noneApplies, formRows, creditRows, sizeRows, valueRows, commandRows, enabled0, enabled1, writeHeld, requestHeld, completionReady, groupPending, fitsSize}
 use Rattle.rules.specs.FirstAppliesProof.{command-number}
-use Rattle.rules.specs.FirstAppliesCallsProof.{none-first}
+use Rattle.rules.specs.Rows.{none-first, first-after, none-after}
 use Rattle.rules.specs.Refusals.{Refusal}
 use Rattle.rules.specs.RefusalsProof.{refusals-change-nothing}
 use Rattle.rules.specs.Shape.{replyOf, acceptCode, statusShown, Shape}
@@ -88,17 +88,7 @@ word-bits s =
     rw (← free-as (s .peripheral .write), ← idle-as (s .peripheral .request), ← avail-as (s .peripheral .request))
     (bits-of (pcFree (s .peripheral .write)) (npFree (s .peripheral .request)) (pcAvail (s .peripheral .request)) (anyPending (s .wires)))
 
--- ---- rows one after the other
-
-first-after : (xs ys : List Row) → noneApplies xs ≡ true → firstOf (xs ++ ys) ≡ firstOf ys
-first-after [] ys h = refl
-first-after (x ∷ xs) ys h =
-    let e : x .applies ≡ false = not-true (x .applies) (and-left (not (x .applies)) (noneApplies xs) h) in
-    ap (λ (t : Bool). pick t (x .number) (firstOf (xs ++ ys))) e ∙ first-after xs ys (and-right (not (x .applies)) (noneApplies xs) h)
-
-none-after : (xs ys : List Row) → noneApplies (xs ++ ys) ≡ true → noneApplies ys ≡ true
-none-after [] ys h = h
-none-after (x ∷ xs) ys h = none-after xs ys (and-right (not (x .applies)) (noneApplies (xs ++ ys)) h)
+-- ---- GET_PC and GET_VWIRE
 
 -- a command that needs its channel and something waiting
 avail : (bit n : ℕ) (on waits : Bool) → (on ≡ false → waits ≡ false) → bit ≡ bitFor waits → n ≡ pick (not on) 14 (pick (not waits) 1 0) → (bit ≡ 1) ↔ (n ≡ 0)

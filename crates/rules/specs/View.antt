@@ -26,7 +26,6 @@ use Rattle.command.specs.declared.Opcode.{Opcode}
 use Rattle.command.specs.declared.Opcode.the-variants as O
 use Rattle.command.specs.declared.Decoded.{Decoded}
 use Rattle.command.specs.declared.Decoded.the-variants.{Known}
-use Rattle.state.specs.Fresh as Fresh
 use Rattle.state.specs.Sound.{within}
 use Rattle.state.specs.Status.{status, bit, npFree, pcFree, pcAvail}
 use Rattle.state.specs.Upward.{upward, handed}
@@ -76,6 +75,13 @@ abbrev pub answeredAs : Request → Bool → Np
 answeredAs q true = Ready q 0
 answeredAs q false = Failed q
 
+-- the state after an ending event: start, the two resets, a write that disables channel 0
+pub data Ended (s : State) : State → Type 0 where
+  byStart : Ended s B.started
+  byEspiReset : Ended s (B.espiReset s)
+  byPlatformReset : Ended s (B.platformReset s)
+  byDisabling : (c : Config) → on0 (s .config .r010) && not (on0 (c .r010)) ≡ true → Ended s (D.reconfigured s c)
+
 pub data Move (w : World) (c : Call) (o : Outcome) : Kind → Type 0 where
   same : held (o .next) ≡ held w → o .next .state .peripheral .serial ≡ w .state .peripheral .serial → o .next .read ≡ w .read
       → Shown (held w) (o .reply) → Move w c o idle
@@ -93,7 +99,7 @@ pub data Move (w : World) (c : Call) (o : Outcome) : Kind → Type 0 where
   lent : (write read : List ℕ) → c ≡ lend write read → held (o .next) ≡ held w
       → o .next .state .peripheral .serial ≡ w .state .peripheral .serial → o .next .read ≡ read
       → o .reply ≡ [] → Move w c o lends
-  dropped : held (o .next) ≡ Free → o .next .state .peripheral .serial ≡ pick (isStart c) 0 (w .state .peripheral .serial) → o .next .read ≡ w .read
+  dropped : Ended (w .state) (o .next .state) → o .next .state .peripheral .serial ≡ pick (isStart c) 0 (w .state .peripheral .serial) → o .next .read ≡ w .read
       → Shown (held w) (o .reply) → Move w c o ends
 
 quiet : {n : Np} → Shown n []
@@ -126,6 +132,12 @@ is-free Free e = refl
 is-free (Waiting q) e = absurd (true≢false (sym e))
 is-free (Ready q s) e = absurd (true≢false (sym e))
 is-free (Failed q) e = absurd (true≢false (sym e))
+
+edge-serial : (was is : Bool) (p : Peripheral) → D.peripheralEdge was is p .serial ≡ p .serial
+edge-serial true true p = refl
+edge-serial true false p = refl
+edge-serial false true p = refl
+edge-serial false false p = refl
 
 -- the edge that drops the queues is the disabling that the bytes say
 edge-of : (c : Config) (a v : ℕ) → on0 (c .r010) && not (on0 (writeAt c a v .r010)) ≡ eqb a 0x010 && (on0 (c .r010) && not (eqb (v % 2) 1))
@@ -182,10 +194,7 @@ module _ (w : World) (b r : List ℕ) where
   edge-seen : (c : Config) (t : Bool) → on0 (w .state .config .r010) && not (on0 (c .r010)) ≡ t
       → Move w (exchange b r) (exchanged w b (acceptThen (w .state) (D.reconfigured (w .state) c))) (pick t ends idle)
   unfolding exchanged replyBytes
-  edge-seen c true e = dropped (ap (λ (p : Peripheral). p .request) (by e)) (ap (λ (p : Peripheral). p .serial) (by e)) refl (shown _ _)
-    where
-      by : on0 (w .state .config .r010) && not (on0 (c .r010)) ≡ true → D.reconfigured (w .state) c .peripheral ≡ Fresh.dropped (w .state .peripheral)
-      by e = rw e
+  edge-seen c true e = dropped (byDisabling c e) (edge-serial (on0 (w .state .config .r010)) (on0 (c .r010)) (w .state .peripheral)) refl (shown _ _)
   edge-seen c false e = same (ap (λ (p : Peripheral). p .request) (by e)) (ap (λ (p : Peripheral). p .serial) (by e)) refl (shown _ _)
     where
       by : on0 (w .state .config .r010) && not (on0 (c .r010)) ≡ false → D.reconfigured (w .state) c .peripheral ≡ w .state .peripheral
@@ -288,9 +297,9 @@ either false m = m
 
 pub view : (w : World) (c : Call) → Move w c (step w c) (kind w c)
 unfolding step kindOf exchanged replyBytes settled over B.setWireCall B.takeWrite B.answer
-view w start = dropped refl refl refl quiet
-view w espiReset = dropped refl refl refl quiet
-view w platformReset = dropped refl refl refl quiet
+view w start = dropped byStart refl refl quiet
+view w espiReset = dropped byEspiReset refl refl quiet
+view w platformReset = dropped byPlatformReset refl refl quiet
 view w (exchange b r) =
     pick-ind (λ (o : Outcome). Move w (exchange b r) o (kindOf (w .state) (exchange b r) o)) (shortStores r w) (λ _. same refl refl refl quiet) (λ _. exchange-seen w b r)
 view w (look report) =
@@ -314,6 +323,3 @@ view-as w c e = subst (Move w c (step w c)) e (view w c)
 -- for a case that the facts in hand rule out
 pub clash : {X : Type 0} → _≡_ {A = ℕ} 0 1 → X
 clash e = absurd (omega arith)
-
-pub end-free : {w : World} {c : Call} {o : Outcome} → Move w c o ends → held (o .next) ≡ Free
-end-free (dropped a b d x) = a
