@@ -6,7 +6,7 @@ use Rattle.base.specs.Pick.{and-left, and-right}
 use Rattle.state.specs.Layout.{unpacked}
 use Rattle.rules.specs.Step.{World, Call, step, run, handedOver, allHanded}
 use Rattle.rules.specs.Kinds.{Kind, kind, kindOf, without, got, gotBy, sameRead, readHandedOn}
-use Rattle.rules.specs.Serials.{askedTimes}
+use Rattle.rules.specs.Answers.{askedTimes}
 use Rattle.rules.specs.Bound.{wireKind, wireKindOf, goesOn, getsIn}
 use Rattle.promises.specs.ByteRuns.{ByteWorld, byteStep, byteRun}
 use Rattle.promises.specs.Lifted.{Holding, worldOf, lentReply, lentReport, Meets}

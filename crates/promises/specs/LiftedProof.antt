@@ -31,7 +31,7 @@ use Rattle.rules.specs.Calls as X
 use Rattle.rules.specs.Calls.{word, kept, Exchanged, Stored, Looked}
 use Rattle.rules.specs.KeptProof.{exchange-sound, answer-sound, take-sound, set-sound, espi-reset-sound, platform-reset-sound, fresh-sound}
 use Rattle.rules.specs.RefusalsProof.{SettledAs, exchange-planned, answer-settled, set-settled}
-use Rattle.rules.specs.RefusalsCallsProof.{number-word, planned-small}
+use Rattle.rules.specs.WholeRefusalsProof.{number-word, planned-small}
 use Rattle.promises.specs.ByteRuns.{ByteWorld, ByteOutcome, afterState, afterExchange, afterLook, afterAnswer, afterTake, byteStep, byteRun}
 use Rattle.promises.specs.Lifted.{Holding, worldOf, valueOf, Meets, Agrees, RunHolds, Starts, Lifted}
 

@@ -19,7 +19,7 @@ use Rattle.rules.specs.Step.{Call, step, run, handedOver, allHanded, readLength
 use Rattle.rules.specs.Reply.{closed}
 use Rattle.rules.specs.Kinds.{Kind, asks, tells, gets, ends, kind, askIn, isRead, isEnd, isTell, isAsk, shows, raises, without, got, held, requestFor}
 use Rattle.rules.specs.Demand3.{header, pieceBody, joinedData, crcFine, lookBytes}
-use Rattle.rules.specs.Serials.{noStart, ForHeld}
+use Rattle.rules.specs.Answers.{noStart, ForHeld}
 use Rattle.rules.specs.Bound as W
 use Rattle.rules.specs.Apart.{others, SameButWires}
 use Rattle.promises.specs.ByteRuns.{ByteWorld, ByteOutcome, byteStep, byteRun}

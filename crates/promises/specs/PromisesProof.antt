@@ -19,8 +19,8 @@ use Rattle.rules.specs.Reply.{closed}
 use Rattle.rules.specs.Kinds.{Kind, kind, isEnd, isTell, isAsk, shows, raises, got, gotBy, held, opcode}
 use Rattle.rules.specs.Demand3 as D
 use Rattle.rules.specs.Demand3Proof.{demand3}
-use Rattle.rules.specs.Serials.{serialOf}
-use Rattle.rules.specs.SerialsProof.{serials-told}
+use Rattle.rules.specs.Answers.{serialOf}
+use Rattle.rules.specs.AnswersProof.{serials-told}
 use Rattle.rules.specs.BoundProof.{sent-by-the-third}
 use Rattle.rules.specs.Apart as A
 use Rattle.rules.specs.Apart.{Shown, shown, others, isWireEvent}

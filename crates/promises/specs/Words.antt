@@ -1,4 +1,4 @@
--- The words of the promises over bytes: those of Kinds, Serials, Bound and Apart, read off words, replies and state bytes.
+-- The words of the promises over bytes: those of Kinds, Answers, Bound and Apart, read off words, replies and state bytes.
 use Prim.Native.Nat.{ℕ, _+_}
 use mathlib.Core.Bool.{Bool, true, _&&_, not}
 use mathlib.Core.List.{List, [], _∷_, _++_}

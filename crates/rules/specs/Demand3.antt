@@ -79,7 +79,7 @@ pub record HandsOver (A L P tag : ℕ) (d : List ℕ) (w : World) (cs : List Cal
 -- ---- from the acceptance to the answer: P15 (a) and (e), P17
 
 -- b are the bytes of a non-posted request that w accepts; xs are the calls after it, with no ending event and no accepted answer
--- (an accepted answer that names the request's serial is its first: `FirstAnswer` of Serials)
+-- (an accepted answer that names the request's serial is its first: `FirstAnswer` of Answers)
 pub record Asked (w : World) (b r : List ℕ) (xs : List Call) : Type 0 where
   pub accepted : kind w (exchange b r) ≡ asks
   pub unended : without isEnd (step w (exchange b r) .next) xs ≡ true

@@ -27,7 +27,7 @@ use Rattle.rules.specs.Decide as D
 use Rattle.rules.specs.Reply.{closed, headerBytes, dataBytes}
 use Rattle.rules.specs.Step.{World, Call, step, run, exchanged, shortStores, exchange}
 use Rattle.rules.specs.Kinds.{Kind, gets, kind, isEnd, isTell, isAsk, without, got, gotBy, replyOf, held, shows, sameRead, readHandedOn}
-use Rattle.rules.specs.Demand3End.{ended-free}
+use Rattle.rules.specs.AfterEnd.{ended-free}
 use Rattle.rules.specs.View.{Shown, Move, same, asked, told, sent, lent, dropped, view, clash}
 use Rattle.rules.specs.Demand3.{crcFine, Over, joinedData, dataIn}
 

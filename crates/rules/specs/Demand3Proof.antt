@@ -20,7 +20,7 @@ use Rattle.rules.specs.Kinds.{tells, kind, askIn, requestFor, isRead, is
 use Rattle.rules.specs.KeptProof.{sound-step, sound-run}
 use Rattle.rules.specs.View.{Move, asked, told, view-as, answeredAs}
 use Rattle.rules.specs.Demand3.{since, header, pieceBody, Answered, HandsOver, Delivers, ReadAnswered, FailureAnswered, IoWriteAnswered, Demand3}
-use Rattle.rules.specs.Demand3End.{ended}
+use Rattle.rules.specs.AfterEnd.{ended}
 use Rattle.rules.specs.Demand3Owed.{Owes, joined-owed}
 use Rattle.rules.specs.Demand3Read.{pieceOfRead, read-owes, failure-owes, io-write-owes, header-is, body-is, datas-are}
 use Rattle.rules.specs.Demand3Deliver.{deliver}

@@ -8,7 +8,7 @@ pub mod Fits
 pub mod Kinds
 pub mod View
 pub mod Demand3
-pub mod Demand3End
+pub mod AfterEnd
 pub mod Apart
 pub mod ApartProof
 pub mod WireRuns
@@ -30,8 +30,8 @@ pub mod KeptFits
 pub mod KeptClauses
 pub mod KeptRegisters
 pub mod SoundMeans
-pub mod Serials
-pub mod SerialsProof
+pub mod Answers
+pub mod AnswersProof
 pub mod Fields
 pub mod FieldsProof
 pub mod Admitted
@@ -44,12 +44,12 @@ pub mod Shape
 pub mod ShapeProof
 pub mod StatusSays
 pub mod StatusSaysProof
-pub mod FirstAppliesCallsProof
-pub mod RefusalsCallsProof
+pub mod WholeFirstAppliesProof
+pub mod WholeRefusalsProof
 pub mod Effects
 pub mod EffectsProof
 pub mod ConfigWrites
 pub mod ConfigWritesProof
 pub mod PostedWrites
 pub mod PostedWritesProof
-pub mod Bench
+pub mod Vectors
