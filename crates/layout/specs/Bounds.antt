@@ -17,9 +17,6 @@ use Rattle.wires.specs.Table.{rowAt}
 use Rattle.wires.specs.Groups.{levelAt, markAt, onlyDefined, undefinedZero, marksRight, placeRight, soundWires}
 use Rattle.wires.specs.declared.Wires.{Wires}
 use Rattle.state.specs.Status.{bit}
-use Rattle.sound.specs.Sound.{soundRequest, sound, fitsRequest, fitsWrite, fits}
-use Rattle.layout.specs.Layout.{configBytes, writeBytes, kindByte, requestBytes, npBytes, wiresBytes, packed, postedIn, requestIn, writeOf, npOf, unpacked}
-use Rattle.sound.specs.Facts.{MadeRequest, waiting-request, ready-request, failed-request, sound-parts, fit-made}
 use Rattle.state.specs.declared.Kind.{Kind}
 use Rattle.state.specs.declared.Kind.the-variants.{MemoryRead, IoRead, IoWrite}
 use Rattle.state.specs.declared.Request.{Request}
@@ -29,6 +26,9 @@ use Rattle.state.specs.declared.Write.{Write}
 use Rattle.state.specs.declared.Write.the-variants.{Empty, Held}
 use Rattle.state.specs.declared.Posted.{Posted}
 use Rattle.state.specs.declared.State.{State}
+use Rattle.sound.specs.Sound.{soundRequest, sound, fitsRequest, fitsWrite, fits}
+use Rattle.sound.specs.Facts.{MadeRequest, waiting-request, ready-request, failed-request, sound-parts, fit-made}
+use Rattle.layout.specs.Layout.{configBytes, writeBytes, kindByte, requestBytes, npBytes, wiresBytes, packed, postedIn, requestIn, writeOf, npOf, unpacked}
 
 record AllBytes (l : List ℕ) : Type 0 where
   byte : (k : ℕ) → getD l k 0 < 256

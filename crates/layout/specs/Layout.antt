@@ -10,7 +10,6 @@ use Rattle.registers.specs.declared.Config.{Config}
 use Rattle.wires.specs.Groups.{levelAt, markAt}
 use Rattle.wires.specs.declared.Wires.{Wires}
 use Rattle.state.specs.Status.{bit}
-use Rattle.sound.specs.Sound.{sound}
 use Rattle.state.specs.declared.Kind.{Kind}
 use Rattle.state.specs.declared.Kind.the-variants.{MemoryRead, IoRead, IoWrite}
 use Rattle.state.specs.declared.Request.{Request}
@@ -21,6 +20,7 @@ use Rattle.state.specs.declared.Write.{Write}
 use Rattle.state.specs.declared.Write.the-variants.{Empty, Held}
 use Rattle.state.specs.declared.Peripheral.{Peripheral}
 use Rattle.state.specs.declared.State.{State}
+use Rattle.sound.specs.Sound.{sound}
 use Rattle.layout.specs.declared.Loaded.{Loaded}
 
 -- the fixed length

@@ -11,13 +11,13 @@ use lib.Seq.{getD-take, take-all, take-at}
 use borrow.Author.Tests.{eq-eqb}
 use Rattle.base.specs.Pick.{and-left, and-right, and-true}
 use Rattle.base.specs.Bytes.{number4, number8, over, over-take, take-over, agree, agree-take}
+use Rattle.state.specs.declared.State.{State}
 use Rattle.sound.specs.Sound.{sound, fits, Sound}
 use Rattle.layout.specs.Layout.{stateLength, packed, configIn, postedIn, requestIn, wiresIn, peripheralIn, unpacked, holds}
 use Rattle.layout.specs.Round.{round}
 pub use Rattle.layout.specs.Round.{packed-length}
 use Rattle.layout.specs.Bounds.{unpacked-fits}
 pub use Rattle.layout.specs.Bounds.{packed-bytes}
-use Rattle.state.specs.declared.State.{State}
 
 -- ---- bytes past the length do not matter
 

@@ -14,9 +14,6 @@ use Rattle.registers.specs.declared.Config.{Config}
 use Rattle.wires.specs.Groups.{markAt}
 use Rattle.wires.specs.declared.Wires.{Wires}
 use Rattle.state.specs.Status.{bit}
-use Rattle.sound.specs.Sound.{soundRequest, soundWrite, sound, fitsRequest, fitsWrite, Sound}
-use Rattle.layout.specs.Layout.{stateLength, configBytes, writeBytes, kindByte, requestBytes, npBytes, wiresBytes, packed, writeOf, kindOf, npOf, wiresIn, postedIn, requestIn, configIn, unpacked}
-use Rattle.sound.specs.Facts.{MadeRequest, waiting-request, failed-request, ready-request, held-write, sound-parts, fit-parts}
 use Rattle.state.specs.declared.Kind.{Kind}
 use Rattle.state.specs.declared.Kind.the-variants.{MemoryRead, IoRead, IoWrite}
 use Rattle.state.specs.declared.Request.{Request}
@@ -25,6 +22,9 @@ use Rattle.state.specs.declared.Np.the-variants.{Free, Waiting, Ready, Failed}
 use Rattle.state.specs.declared.Write.{Write}
 use Rattle.state.specs.declared.Write.the-variants.{Empty, Held}
 use Rattle.state.specs.declared.State.{State}
+use Rattle.sound.specs.Sound.{soundRequest, soundWrite, sound, fitsRequest, fitsWrite, Sound}
+use Rattle.sound.specs.Facts.{MadeRequest, waiting-request, failed-request, ready-request, held-write, sound-parts, fit-parts}
+use Rattle.layout.specs.Layout.{stateLength, configBytes, writeBytes, kindByte, requestBytes, npBytes, wiresBytes, packed, writeOf, kindOf, npOf, wiresIn, postedIn, requestIn, configIn, unpacked}
 
 -- ---- lengths
 

@@ -5,8 +5,8 @@ use mathlib.Core.Path.{_≡_, sym, _∙_}
 use lib.Dec.{eqb, ltb}
 use borrow.Author.Tests.{not-true, not-false, eqb-true, ne-eqb}
 use Rattle.base.specs.Pick.{and-right}
-use Rattle.sound.specs.Sound.{shortSize, ioMade}
 use Rattle.state.specs.declared.Request.{Request}
+use Rattle.sound.specs.Sound.{shortSize, ioMade}
 
 -- ---- guards: a call's answer x for the test t, and the guard `if !x`
 

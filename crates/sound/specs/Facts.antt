@@ -15,7 +15,6 @@ use Rattle.pieces.specs.Edges.{next-le, next-pos, next-ok}
 use Rattle.state.specs.Fresh.{freshState, dropped}
 use Rattle.state.specs.Upward.{nextOf, handed, afterPiece, afterSuccess}
 use Rattle.state.specs.Status.{pcFree, npFree}
-use Rattle.sound.specs.Sound.{within, shortSize, ioMade, madeAs, requestMade, sentRight, soundRequest, soundWrite, nothingHeld, soundPeripheral, sound, fitsRequest, fitsWrite, fitsConfig, fitsPeripheral, fits, Sound}
 use Rattle.state.specs.declared.Kind.{Kind}
 use Rattle.state.specs.declared.Kind.the-variants.{MemoryRead, IoRead, IoWrite}
 use Rattle.state.specs.declared.Request.{Request}
@@ -26,6 +25,7 @@ use Rattle.state.specs.declared.Write.{Write}
 use Rattle.state.specs.declared.Write.the-variants.{Empty, Held}
 use Rattle.state.specs.declared.Peripheral.{Peripheral}
 use Rattle.state.specs.declared.State.{State}
+use Rattle.sound.specs.Sound.{within, shortSize, ioMade, madeAs, requestMade, sentRight, soundRequest, soundWrite, nothingHeld, soundPeripheral, sound, fitsRequest, fitsWrite, fitsConfig, fitsPeripheral, fits, Sound}
 
 or-either : (a b : Bool) → a || b ≡ true → (a ≡ true) ⊎ (b ≡ true)
 or-either true b e = inl refl

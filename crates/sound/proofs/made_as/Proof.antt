@@ -1,6 +1,6 @@
 use mathlib.Core.Path.{ap, sym, _∙_}
-use Rattle.sound.specs.Sound.{madeAs}
 use Rattle.state.specs.declared.Kind.{Kind}
+use Rattle.sound.specs.Sound.{madeAs}
 use borrow.Author.Needs.{needs}
 use Rattle.sound.proofs.made_as.Statement.{statement}
 use Rattle.sound.proofs.made_as.Tie as tie

@@ -1,6 +1,6 @@
 use mathlib.Core.Path.{ap, sym, _∙_}
-use Rattle.sound.specs.Sound.{sentRight}
 use Rattle.state.specs.declared.Kind.{Kind}
+use Rattle.sound.specs.Sound.{sentRight}
 use borrow.Author.Needs.{needs}
 use Rattle.sound.proofs.sent_right.Statement.{statement}
 use Rattle.sound.proofs.sent_right.Tie as tie
