@@ -32,7 +32,7 @@ ghost use Rattle.state.specs.declared.Kind.the-variants as R;
 ghost use Rattle.rules.specs.declared.Body.the-variants as B;
 ghost use Rattle.command.specs.declared.Command.the-variants as C;
 ghost use Rattle.command.specs.Facts.{CommandFits, SizeFits};
-ghost use Rattle.state.specs.Sound.{sound};
+ghost use Rattle.sound.specs.Sound.{sound};
 ghost use Rattle.rules.specs.Plan.{silent, said, fatal, nonFatal, accept, defer, acceptThen, quietly};
 ghost use Rattle.rules.specs.Decide.{withPeripheral, withWires, withRequest, holding, post, requestOf, sizeFor, asking, ask, bytesOf, short, getPc, putVwire, getVwire, peripheralEdge, wiresEdge, reconfigured, setConfiguration, reset008h, dataAt, decide, channelsOf, exchange};
 ghost use Rattle.engine.specs.Laws.{refusedBy};
@@ -165,7 +165,7 @@ fn posted(s: State, address: u64, length: u32, from: u32) -> Plan
     let c = s.config;
     let r = c.r010;
     let payload = r.payload_size();
-    if !state::within(address, length, payload) {
+    if !sound::within(address, length, payload) {
         return fatally(s);
     }
     let next = with_peripheral(s, held(p, address, length, payload));
@@ -230,7 +230,7 @@ fn requested(s: State, q: Request) -> Plan
         return fatally(s);
     }
     let size = size_for(q);
-    if !state::within(q.address, q.length, size) {
+    if !sound::within(q.address, q.length, size) {
         return fatally(s);
     }
     say(
@@ -281,12 +281,12 @@ fn hand_over(s: State) -> Plan
 {
     let p = s.peripheral;
     let n = p.request;
-    let up = state::next_completion(n);
+    let up = upward::next_completion(n);
     match up {
         Next::Nothing => fatally(s),
         Next::One(c) => accepted(
             Body::Piece(c),
-            with_peripheral(s, with_request(p, state::handed(n))),
+            with_peripheral(s, with_request(p, upward::handed(n))),
         ),
     }
 }

@@ -26,7 +26,6 @@ use Rattle.command.specs.declared.Command.{Command}
 use Rattle.command.specs.declared.Command.the-variants as C
 use Rattle.command.specs.declared.Decoded.{Decoded}
 use Rattle.command.specs.declared.Decoded.the-variants.{Known, Refused}
-use Rattle.state.specs.Sound.{within}
 use Rattle.state.specs.Status.{status, bit, pcFree, npFree, pcAvail, peripheralStatus}
 use Rattle.state.specs.Upward.{upward, handed}
 use Rattle.state.specs.declared.Completion.{Completion}
@@ -37,6 +36,7 @@ use Rattle.state.specs.declared.Request.{Request}
 use Rattle.state.specs.declared.State.{State}
 use Rattle.state.specs.declared.Write.{Write}
 use Rattle.state.specs.declared.Write.the-variants.{Empty, Held}
+use Rattle.sound.specs.Sound.{within}
 use Rattle.rules.specs.Plan.{fatal}
 use Rattle.rules.specs.Decide as D
 use Rattle.rules.specs.Board as B

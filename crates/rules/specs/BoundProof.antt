@@ -35,8 +35,6 @@ use Rattle.command.specs.declared.Opcode.the-variants as O
 use Rattle.command.specs.declared.Command.{Command}
 use Rattle.command.specs.declared.Decoded.{Decoded}
 use Rattle.command.specs.declared.Decoded.the-variants.{Known, Refused}
-use Rattle.state.specs.Facts.{sound-wires}
-use Rattle.state.specs.Sound.{Sound, within}
 use Rattle.state.specs.Status.{status, npFree, pcFree}
 use Rattle.state.specs.Upward.{upward}
 use Rattle.state.specs.declared.Completion.{Completion}
@@ -45,6 +43,8 @@ use Rattle.state.specs.declared.Np.the-variants.{Free, Waiting, Ready, Failed}
 use Rattle.state.specs.declared.Request.{Request}
 use Rattle.state.specs.declared.Write.{Write}
 use Rattle.state.specs.declared.Write.the-variants.{Empty, Held}
+use Rattle.sound.specs.Facts.{sound-wires}
+use Rattle.sound.specs.Sound.{Sound, within}
 use Rattle.rules.specs.Plan.{silent, fatal, acceptThen}
 use Rattle.rules.specs.Decide as D
 use Rattle.rules.specs.Board as B

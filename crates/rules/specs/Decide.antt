@@ -25,7 +25,6 @@ use Rattle.registers.specs.Registers.{crcChecked}
 use Rattle.state.specs.Fresh.{dropped}
 use Rattle.state.specs.Upward.{upward, handed}
 use Rattle.state.specs.Status.{pcFree, npFree}
-use Rattle.state.specs.Sound.{within}
 use Rattle.state.specs.declared.Kind.{Kind}
 use Rattle.state.specs.declared.Kind.the-variants as R
 use Rattle.state.specs.declared.Request.{Request}
@@ -36,6 +35,7 @@ use Rattle.state.specs.declared.Write.the-variants.{Empty, Held}
 use Rattle.state.specs.declared.Peripheral.{Peripheral}
 use Rattle.state.specs.declared.Completion.{Completion}
 use Rattle.state.specs.declared.State.{State}
+use Rattle.sound.specs.Sound.{within}
 use Rattle.rules.specs.Plan.{silent, said, fatal, nonFatal, accept, defer, acceptThen, quietly}
 use Rattle.rules.specs.declared.Response.the-variants.{Accept}
 use Rattle.rules.specs.declared.Body.the-variants as B

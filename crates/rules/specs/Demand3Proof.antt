@@ -9,11 +9,11 @@ use Rattle.base.specs.Pick.{and-left, and-right}
 use Rattle.base.specs.Bytes.{over}
 use Rattle.pieces.specs.Laws.{joined-pieces}
 use Rattle.pieces.specs.Pieces.{blocks, pieces}
-use Rattle.state.specs.Facts.{MadeRequest, waiting-request, sound-request}
-use Rattle.state.specs.Sound.{Sound}
 use Rattle.state.specs.Upward.{handed, bare}
 use Rattle.state.specs.declared.Np.the-variants.{Waiting}
 use Rattle.state.specs.declared.Request.{Request}
+use Rattle.sound.specs.Facts.{MadeRequest, waiting-request, sound-request}
+use Rattle.sound.specs.Sound.{Sound}
 use Rattle.rules.specs.Board.{bytesFor}
 use Rattle.rules.specs.Step.{World, Call, Outcome, step, succeeded, handedOver, allHanded, exchange, answer}
 use Rattle.rules.specs.Kinds.{tells, kind, askIn, requestFor, isRead, isEnd, without, held, readHandedOn}

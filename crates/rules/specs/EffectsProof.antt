@@ -23,8 +23,8 @@ use Rattle.command.specs.declared.Need.the-variants.{Whole, More}
 use Rattle.command.specs.declared.Opcode.{Opcode}
 use Rattle.command.specs.declared.Opcode.the-variants as O
 use Rattle.state.specs.Status.{pcFree, npFree}
-use Rattle.state.specs.Sound.{within}
 use Rattle.state.specs.Upward.{upward, handed, afterSuccess}
+use Rattle.sound.specs.Sound.{within}
 use Rattle.pieces.specs.Pieces.{nextSize}
 use Rattle.state.specs.declared.Kind.{Kind}
 use Rattle.state.specs.declared.Kind.the-variants as R

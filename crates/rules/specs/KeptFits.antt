@@ -23,8 +23,6 @@ use Rattle.command.specs.declared.Command.{Command}
 use Rattle.command.specs.declared.Command.the-variants as C
 use Rattle.command.specs.declared.Decoded.{Decoded}
 use Rattle.command.specs.declared.Decoded.the-variants.{Known, Refused}
-use Rattle.state.specs.Facts.{ReadyRequest, legal-payload, ready-request, waiting-request, sound-config, sound-request}
-use Rattle.state.specs.Sound.{sound, within, soundRequest}
 use Rattle.state.specs.Status.{pcFree, npFree}
 use Rattle.state.specs.Upward.{successOf, upward}
 use Rattle.state.specs.declared.Kind.{Kind}
@@ -34,6 +32,8 @@ use Rattle.state.specs.declared.Np.{Np}
 use Rattle.state.specs.declared.Np.the-variants.{Free, Waiting, Ready, Failed}
 use Rattle.state.specs.declared.Completion.{Completion}
 use Rattle.state.specs.declared.State.{State}
+use Rattle.sound.specs.Facts.{ReadyRequest, legal-payload, ready-request, waiting-request, sound-config, sound-request}
+use Rattle.sound.specs.Sound.{sound, within, soundRequest}
 use Rattle.rules.specs.Fits.{BodyFits, AnswerFits, DataFits, KeptFits, PlanFits, PieceFits}
 use Rattle.rules.specs.Plan.{responseByte}
 use Rattle.rules.specs.Decide as D

@@ -25,7 +25,6 @@ use Rattle.command.specs.declared.Decoded.{Decoded}
 use Rattle.command.specs.declared.Decoded.the-variants.{Known, Refused}
 use Rattle.state.specs.Fresh.{freshState, dropped}
 use Rattle.state.specs.Status.{pcFree, npFree}
-use Rattle.state.specs.Sound.{Sound, within, madeAs}
 use Rattle.state.specs.Upward.{upward}
 use Rattle.state.specs.declared.Kind.the-variants as R
 use Rattle.state.specs.declared.Request.{Request}
@@ -36,6 +35,7 @@ use Rattle.state.specs.declared.Write.the-variants.{Empty, Held}
 use Rattle.state.specs.declared.Peripheral.{Peripheral}
 use Rattle.state.specs.declared.Completion.{Completion}
 use Rattle.state.specs.declared.State.{State}
+use Rattle.sound.specs.Sound.{Sound, within, madeAs}
 use Rattle.rules.specs.Decide as D
 use Rattle.rules.specs.Board as B
 use Rattle.rules.specs.Step as S

@@ -9,8 +9,6 @@ use lib.Dec.{lit<}
 use borrow.Author.Tests.{lt-ltb, le-leb, eq-eqb}
 use Rattle.base.specs.Pick.{and-right, and-true}
 use Rattle.command.specs.Facts.{SizeFits}
-use Rattle.state.specs.Facts.{MadeMemoryRead, MadeIo, MadeIoRead, MadeIoWrite, waiting-request, handed-sound, handed-fits}
-use Rattle.state.specs.Sound.{shortSize, ioMade, madeAs, requestMade, writeMade, sentRight, soundRequest, soundWrite}
 use Rattle.state.specs.Status.{pcFree, npFree}
 use Rattle.state.specs.Upward.{handed}
 use Rattle.state.specs.declared.Kind.{Kind}
@@ -21,6 +19,8 @@ use Rattle.state.specs.declared.Np.the-variants.{Waiting, Ready, Failed}
 use Rattle.state.specs.declared.Posted.{Posted}
 use Rattle.state.specs.declared.Write.the-variants.{Held}
 use Rattle.state.specs.declared.Peripheral.{Peripheral}
+use Rattle.sound.specs.Facts.{MadeMemoryRead, MadeIo, MadeIoRead, MadeIoWrite, waiting-request, handed-sound, handed-fits}
+use Rattle.sound.specs.Sound.{shortSize, ioMade, madeAs, requestMade, writeMade, sentRight, soundRequest, soundWrite}
 use Rattle.rules.specs.Decide.{holding, asking, withRequest}
 use Rattle.rules.specs.Board.{emptied}
 use Rattle.rules.specs.KeptParts.{RequestOk, WriteOk, PeripheralOk, empty-ok, held-on}

@@ -21,7 +21,6 @@ use Rattle.command.specs.declared.Place.{Place}
 use Rattle.command.specs.declared.Command.{Command}
 use Rattle.command.specs.declared.Command.the-variants as C
 use Rattle.state.specs.Status.{pcFree, npFree}
-use Rattle.state.specs.Sound.{within}
 use Rattle.state.specs.Upward.{upward}
 use Rattle.state.specs.declared.Request.{Request}
 use Rattle.state.specs.declared.Completion.{Completion}
@@ -30,6 +29,7 @@ use Rattle.state.specs.declared.Np.the-variants.{Free, Waiting, Ready, Failed}
 use Rattle.state.specs.declared.Write.{Write}
 use Rattle.state.specs.declared.Write.the-variants.{Empty, Held}
 use Rattle.state.specs.declared.State.{State}
+use Rattle.sound.specs.Sound.{within}
 use Rattle.rules.specs.Plan.{silent, fatal, nonFatal}
 use Rattle.rules.specs.Decide as D
 use Rattle.rules.specs.Board as B

@@ -18,8 +18,6 @@ use Rattle.wires.specs.Kept.{sound-view, sound-test}
 use Rattle.wires.specs.declared.Wires.{Wires}
 use Rattle.pieces.specs.Pieces.{blocks, edge}
 use Rattle.pieces.specs.Edges.{edge-of, edge-zero, edge-whole}
-use Rattle.state.specs.Facts.{ReadyRequest, legal-payload, ready-request, held-write, made-memory-read, made-io-read, made-io-write, sent-write, sound-parts, sound-made, sound-off, fit-parts}
-use Rattle.state.specs.Sound.{sound, fits, madeAs, requestMade, sentRight, soundRequest, soundWrite, nothingHeld, fitsRequest, fitsWrite}
 use Rattle.state.specs.Status.{pcFree, npFree}
 use Rattle.state.specs.declared.Kind.{Kind}
 use Rattle.state.specs.declared.Kind.the-variants.{MemoryRead, IoRead, IoWrite}
@@ -30,6 +28,8 @@ use Rattle.state.specs.declared.Write.{Write}
 use Rattle.state.specs.declared.Write.the-variants.{Empty, Held}
 use Rattle.state.specs.declared.Peripheral.{Peripheral}
 use Rattle.state.specs.declared.State.{State}
+use Rattle.sound.specs.Facts.{ReadyRequest, legal-payload, ready-request, held-write, made-memory-read, made-io-read, made-io-write, sent-write, sound-parts, sound-made, sound-off, fit-parts}
+use Rattle.sound.specs.Sound.{sound, fits, madeAs, requestMade, sentRight, soundRequest, soundWrite, nothingHeld, fitsRequest, fitsWrite}
 use Rattle.rules.specs.KeptClauses.{Coded, MadeAs, Made, RequestMade, WriteMade, ReadSent, SentAs, BytesSent, GroupRight, Clauses}
 use Rattle.rules.specs.KeptQueues.{memory-read-test, io-read-test, io-write-test}
 use Rattle.rules.specs.KeptRegisters.{registers-reached, reached-registers}

@@ -23,9 +23,9 @@ use Rattle.wires.specs.Changes.{put-read, put-undefined, put-passes, put-marks,
 use Rattle.wires.specs.Sent.{waiters, queue, sent-queue, sent-count, sent-levels, sent-stays, sent-gone, pairBytes}
 use Rattle.wires.specs.declared.Wires.{Wires}
 use Rattle.command.specs.Decode.{registerAddress, registerData}
-use Rattle.state.specs.Sound.{Sound, fits, fitsConfig, fitsPeripheral}
 use Rattle.state.specs.Status.{status}
 use Rattle.state.specs.declared.State.{State}
+use Rattle.sound.specs.Sound.{Sound, fits, fitsConfig, fitsPeripheral}
 use Rattle.rules.specs.Reply.{closed}
 use Rattle.rules.specs.Step.{World, Call, exchange, setWire, readWire, Outcome, step}
 use Rattle.rules.specs.Bound.{WireKind, nothing, puts, gets, sets, enables, disables, starts, resets, platformResets, edge, commandWire, wireKindOf, wireKind, wiresOf}

@@ -1,11 +1,3 @@
 pub mod Fresh
 pub mod Upward
 pub mod Status
-pub mod Sound
-pub mod Layout
-pub mod Groups
-pub mod Facts
-pub mod Round
-pub mod Coded
-pub mod Bounds
-pub mod Packing

@@ -1,4 +1,4 @@
-use Rattle.state.specs.Layout.{unpacked}
+use Rattle.layout.specs.Layout.{unpacked}
 use Rattle.base.specs.Pick.{taken, passed}
 use borrow.Author.Tests.{lt-ltb, le-ltb}
 use mathlib.Core.Path.{refl, _∙_}
