@@ -3,23 +3,13 @@ ghost use mathlib.Core.Path.{_≡_};
 ghost use mathlib.Core.Bool.{Bool};
 ghost use Prim.Native.Nat.{ℕ, _+_, _-_, _*_, _≤_, _<_};
 ghost use Rattle.pieces.specs.Marks.{markOf, markType};
-ghost use Rattle.pieces.specs.Pieces.{blocks, nextSize, nextMark};
+ghost use Rattle.pieces.specs.Pieces.{nextSize, nextMark};
 
 pub enum Mark {
     Only,
     First,
     Middle,
     Last,
-}
-
-// N: how many blocks of `payload` bytes a read touches.
-pub fn count(address: u64, length: u32, payload: u32) -> u32
-    requires { ⌜ (1 ≤ length) × (length ≤ 4096) × (1 ≤ payload) × (payload ≤ 4096) ⌝ }
-    ensures { λ r. ⌜ r ≡ blocks address length payload ⌝ }
-{
-    let p = payload as u64;
-    let in_block = (address % p) as u32;
-    (in_block + length - 1) / payload + 1
 }
 
 // How many bytes the next piece has, when `sent` have gone.
