@@ -1,4 +1,4 @@
-/* One exchange of a kind, repeated: tests/figures.py counts its instructions and, on x86-64, its nanoseconds. figures KIND TIMES */
+/* One call of a kind, repeated: tests/figures.py counts its instructions and, on x86-64, its nanoseconds. figures KIND TIMES */
 #include <stdio.h>
 #include <stdlib.h>
 #include <string.h>
@@ -65,6 +65,31 @@ static size_t stage(const char *kind, uint8_t *c)
     return c[0] = 0x01, 1; /* a refusal: GET_PC with no completion ready */
 }
 
+/* One turn: the kind's exchange, or a board call that does a part of what every exchange does. */
+typedef uint32_t turn(const uint8_t *command, size_t n);
+
+static uint32_t exchange(const uint8_t *command, size_t n)
+{
+    return espi_exchange(state, sizeof state, command, n, reply, sizeof reply, write_store, sizeof write_store, read_store, sizeof read_store);
+}
+
+static uint32_t refused(const uint8_t *command, size_t n)
+{
+    (void)command, (void)n;
+    return espi_set_wire(state, sizeof state, 6, 4, 0);
+}
+
+static uint32_t set(const uint8_t *command, size_t n)
+{
+    (void)command, (void)n;
+    return espi_set_wire(state, sizeof state, 6, 0, 0);
+}
+
+static turn *turn_of(const char *kind)
+{
+    return strcmp(kind, "set wire, refused") == 0 ? refused : strcmp(kind, "set wire") == 0 ? set : exchange;
+}
+
 int main(int argc, char **argv)
 {
     uint8_t command[400] = {0};
@@ -73,13 +98,14 @@ int main(int argc, char **argv)
         return 1;
     size_t n = stage(argv[1], command);
     long times = atol(argv[2]);
+    turn *turn = turn_of(argv[1]);
     uint32_t word = 0;
     memcpy(kept, state, sizeof state);
     command[n] = crc8(command, n);
     clock_gettime(CLOCK_MONOTONIC, &from);
     for (long i = 0; i < times; i++) {
         memcpy(state, kept, sizeof state);
-        word = espi_exchange(state, sizeof state, command, n + 1, reply, sizeof reply, write_store, sizeof write_store, read_store, sizeof read_store);
+        word = turn(command, n + 1);
     }
     clock_gettime(CLOCK_MONOTONIC, &to);
     printf("%u %zu %u %.1f\n", (unsigned)espi_number(word), n + 1, (unsigned)espi_value(word),

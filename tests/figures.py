@@ -6,12 +6,14 @@ them; elsewhere the emulator's trace does, one line an instruction. Nanoseconds 
 """
 import collections
 import platform
+import re
 import subprocess
 import sys
 import tempfile
 
 KINDS = ["GET_STATUS", "short I/O read", "its GET_PC", "64-byte piece", "256-byte piece", "PUT_PC of 64 bytes", "PUT_VWIRE", "GET_VWIRE",
          "GET_CONFIGURATION", "SET_CONFIGURATION", "a refusal (GET_PC, none ready)"]
+BOARD = ["set wire, refused", "set wire"]  # load and little else; load, a wire changed, the state packed
 PROGRAM = "target/figures"
 NATIVE = platform.machine() == "x86_64"
 
@@ -27,9 +29,9 @@ def counted(kind, times):
         with tempfile.NamedTemporaryFile() as out:
             run(["valgrind", "--tool=callgrind", f"--callgrind-out-file={out.name}", PROGRAM, kind, str(times)])
             for line in run(["callgrind_annotate", "--threshold=100", out.name]).splitlines():
-                words = line.split()
-                if len(words) > 2 and words[0].replace(",", "").isdigit() and ":" in line:
-                    counts[words[-2 if words[-1].startswith("[") else -1].split(":")[-1]] += int(words[0].replace(",", ""))
+                row = re.match(r"\s*([\d,]+) \(\s*[\d.]+%\)\s+[^\s:]+:(\S+)", line)
+                if row:
+                    counts[row.group(2)] += int(row.group(1).replace(",", ""))
         return counts
     with tempfile.NamedTemporaryFile(mode="r") as out:
         run(["qemu-x86_64-static", "-singlestep", "-d", "exec,nochain", "-D", out.name, PROGRAM, kind, str(times)])
@@ -39,17 +41,26 @@ def counted(kind, times):
     return counts
 
 
+def figures(kind):
+    """Number, bytes sent and said, instructions of the archive, those of them in `load`, nanoseconds."""
+    number, sent, said, _ = run(([] if NATIVE else ["qemu-x86_64-static"]) + [PROGRAM, kind, "1"]).split()
+    more, less = counted(kind, 2), counted(kind, 1)
+    more.subtract(less)
+    total = sum(n for symbol, n in more.items() if "::" in symbol or symbol.startswith("espi_"))
+    load = sum(n for symbol, n in more.items() if symbol.startswith(("layout::", "sound::")))
+    ns = min((run([PROGRAM, kind, "200000"]).split()[3] for _ in range(5)), key=float) if NATIVE else "-"
+    return number, int(sent), int(said), total, load, ns
+
+
 def main():
     print(f"{'exchange':32} {'number':>6} {'bytes':>9} {'instructions':>12} {'of them load':>12} {'ns':>8} {'bus ns':>7}")
     for kind in KINDS:
-        number, sent, said, _ = run(([] if NATIVE else ["qemu-x86_64-static"]) + [PROGRAM, kind, "1"]).split()
-        more, less = counted(kind, 2), counted(kind, 1)
-        more.subtract(less)
-        total = sum(n for symbol, n in more.items() if "::" in symbol or symbol.startswith("espi_"))
-        load = sum(n for symbol, n in more.items() if symbol.startswith("state::"))
-        clocks = 2 * (int(sent) + int(said)) + 2
-        ns = run([PROGRAM, kind, "200000"]).split()[3] if NATIVE else "-"
-        print(f"{kind:32} {number:>6} {sent + ' / ' + said:>9} {total:>12} {load:>12} {ns:>8} {clocks / 66e6 * 1e9:>7.0f}")
+        number, sent, said, total, load, ns = figures(kind)
+        clocks = 2 * (sent + said) + 2
+        print(f"{kind:32} {number:>6} {f'{sent} / {said}':>9} {total:>12} {load:>12} {ns:>8} {clocks / 66e6 * 1e9:>7.0f}")
+    for kind in BOARD:
+        _, _, _, total, load, ns = figures(kind)
+        print(f"{kind:32} {'':>6} {'':>9} {total:>12} {load:>12} {ns:>8}")
 
 
 if __name__ == "__main__":

@@ -40,6 +40,7 @@ pub mod RefusalsProof
 pub mod FirstApplies
 pub mod Rows
 pub mod FirstAppliesProof
+pub mod AskedFields
 pub mod Shape
 pub mod ShapeProof
 pub mod StatusSays
