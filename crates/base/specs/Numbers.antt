@@ -9,15 +9,6 @@ use lib.Pow.{mod-pow-add}
 use lib.Seq.{drop-cons, getD-append-add, getD-drop, length-take-le}
 use Rattle.base.specs.Bytes.{low2, low4, low8, joined4, number4, number8}
 
-pub length-low2 : (v : ℕ) → length (low2 v) ≡ 2
-length-low2 v = refl
-
-pub length-low4 : (v : ℕ) → length (low4 v) ≡ 4
-length-low4 v = refl
-
-pub length-low8 : (v : ℕ) → length (low8 v) ≡ 8
-length-low8 v = refl
-
 -- ---- a number's bytes give it back
 
 joined : (a b c d m₂ m₃ m₄ : ℕ) → m₂ ≡ b * 256 + a → m₃ ≡ c * 65536 + m₂ → m₄ ≡ d * 16777216 + m₃ → joined4 a b c d ≡ m₄

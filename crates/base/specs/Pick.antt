@@ -13,13 +13,6 @@ taken {A} {b} {x} a rest e h = subst (λ (t : Bool). x ≡ pick t a rest) (sym e
 pub passed : {A : Type 0} {b : Bool} {x : A} (a rest : A) → b ≡ false → x ≡ rest → x ≡ pick b a rest
 passed {A} {b} {x} a rest e h = subst (λ (t : Bool). x ≡ pick t a rest) (sym e) h
 
--- the same for a guard that denies its test
-pub taken-not : {A : Type 0} {b : Bool} {x : A} (a rest : A) → b ≡ false → x ≡ a → x ≡ pick (not b) a rest
-taken-not {A} {b} {x} a rest e h = subst (λ (t : Bool). x ≡ pick (not t) a rest) (sym e) h
-
-pub passed-not : {A : Type 0} {b : Bool} {x : A} (a rest : A) → b ≡ true → x ≡ rest → x ≡ pick (not b) a rest
-passed-not {A} {b} {x} a rest e h = subst (λ (t : Bool). x ≡ pick (not t) a rest) (sym e) h
-
 -- what holds of both holds of the one picked
 pub pick-ind : {A : Type 0} (Q : A → Type 0) (b : Bool) {x y : A} → (b ≡ true → Q x) → (b ≡ false → Q y) → Q (pick b x y)
 pick-ind Q true f g = f refl

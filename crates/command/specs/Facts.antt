@@ -261,10 +261,6 @@ admit-tells on checked b d e = subst (AdmitTells on checked b) e (tells-checked 
 
 -- ---- the laws
 
-pub admit-empty : (on : Channels) (checked : Bool) (b : List ℕ) → length b ≡ 0 → admit on checked b ≡ Refused 12
-unfolding admit decode
-admit-empty on checked b e = rw (eq-eqb (length b) 0 e)
-
 pub refused-number : (on : Channels) (checked : Bool) (b : List ℕ) (n : ℕ) → admit on checked b ≡ Refused n → (12 ≤ n) × (n ≤ 16)
 refused-number on checked b n e = admit-tells on checked b (Refused n) e
 

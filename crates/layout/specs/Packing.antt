@@ -107,9 +107,6 @@ packed-holds s l w e =
 pub unpacked-over : (s : State) (l : List ℕ) → Sound s → unpacked (over (packed s) l) ≡ s
 unpacked-over s l w = packed-found s (over (packed s) l) w (take-over (packed s) l stateLength (packed-length s))
 
-pub unpacked-before : (s : State) (t : List ℕ) → Sound s → unpacked (packed s ++ t) ≡ s
-unpacked-before s t w = packed-found s (packed s ++ t) w (take-at (packed s) t stateLength (packed-length s))
-
 pub holds-packed : (s : State) (l : List ℕ) → Sound s → holds (over (packed s) l) ≡ true
 holds-packed s l w = packed-holds s (over (packed s) l) w (take-over (packed s) l stateLength (packed-length s))
 

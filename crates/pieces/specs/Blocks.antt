@@ -25,14 +25,6 @@ pub blocks-sum : (A L P : ℕ) → 0 < P → 0 < L → A / P + blocks A L P ≡ 
 unfolding blocks
 blocks-sum A L P p l = omega (arith, div-mono {a = A} {b = A + L - 1} P p (omega arith))
 
--- N by the place in the first block, where `A + L` may be more than a word
-pub blocks-in-block : (A L P : ℕ) → 0 < P → 0 < L → (A % P + L - 1) / P + 1 ≡ blocks A L P
-unfolding blocks
-blocks-in-block A L P p l =
-    let e : A + L - 1 ≡ A / P * P + (A % P + L - 1) = omega (arith, div-add-mod' A P) in
-    let s : (A + L - 1) / P ≡ A / P + (A % P + L - 1) / P = rw e (mul-add-div-right p (A / P) (A % P + L - 1)) in
-    omega arith
-
 pub blocks-le : (A L P n : ℕ) → 0 < P → 0 < L → A % P + L ≤ n * P → blocks A L P ≤ n
 blocks-le A L P n p l h =
     let a : (A + L - 1) / P < A / P + n = div-lt-iff-lt-mul p .1 (omega (arith, div-add-mod' A P)) in

@@ -26,20 +26,6 @@ length-pieces A L P = go (blocks A L P) 0
     go zero k = refl
     go (suc n) k = ap suc (go n (suc k))
 
-pub nth-piece : (A L P k : ℕ) (d : Piece) → k < blocks A L P → getD (pieces A L P) k d ≡ piece A L P k
-unfolding pieces piecesFrom
-nth-piece A L P k d h = go (blocks A L P) 0 k h ∙ ap (piece A L P) (omega arith)
-  where
-    go : (n j i : ℕ) → i < n → getD (piecesFrom A L P j n) i d ≡ piece A L P (j + i)
-    go zero j i less = absurd (omega arith)
-    go (suc n) j zero less = rw (add-zero j)
-    go (suc n) j (suc i) less = go n (suc j) i (omega arith) ∙ ap (piece A L P) (omega arith)
-
--- each begins where the one before it ends
-pub piece-after : (A L P k : ℕ) → piece A L P (suc k) .from ≡ piece A L P k .from + piece A L P k .size
-unfolding piece
-piece-after A L P k = omega (arith, edge-up A L P k)
-
 -- the cutting at blocks is marked by the rule of any cutting
 marks-from : (A L P n k : ℕ) → k + n ≡ blocks A L P → map (λ (q : Piece). q .mark) (piecesFrom A L P k n) ≡ marksFrom (eqb k 0) (sizes (piecesFrom A L P k n))
 unfolding piecesFrom piece marksFrom

@@ -28,41 +28,9 @@ by-address Q p q r other a = tested (eqb a 0x008) (eqb a 0x010) (eqb a 0x020) re
     tested false false true e f g = at-equal Q a 0x020 r g
     tested false false false e f g = other a e f g
 
--- what a write makes of the register at an address
-abbrev pub writtenAt : ℕ → ℕ → ℕ → ℕ
-writtenAt a old v =
-    pick (eqb a 0x008) (masked old v writable008)
-    (pick (eqb a 0x010) (readied (masked old v writable010))
-    (pick (eqb a 0x020) (readied (masked old v writable020))
-    old))
-
 -- elsewhere a write is without effect
 pub write-other : (c : Config) (a v : ℕ) → eqb a 0x008 ≡ false → eqb a 0x010 ≡ false → eqb a 0x020 ≡ false → writeAt c a v ≡ c
 write-other c a v e f g = rw (e, f, g)
-
-pub read-same : (c : Config) (a v : ℕ) → readAt (writeAt c a v) a ≡ writtenAt a (readAt c a) v
-read-same c a v =
-    by-address (λ (x : ℕ). readAt (writeAt c x v) x ≡ writtenAt x (readAt c x) v) refl refl refl
-    (λ x e f g. rw (e, f, g)) a
-
-pub read-other : (c : Config) (a b v : ℕ) → (a ≡ b → ⊥) → readAt (writeAt c a v) b ≡ readAt c b
-read-other c a b v =
-    by-address (λ (x : ℕ). (x ≡ b → ⊥) → readAt (writeAt c x v) b ≡ readAt c b)
-    (λ h. rw (ne-eqb b 0x008 (λ e. h (sym e))))
-    (λ h. rw (ne-eqb b 0x010 (λ e. h (sym e))))
-    (λ h. rw (ne-eqb b 0x020 (λ e. h (sym e))))
-    (λ x e f g h. rw (e, f, g)) a
-
--- each register under a write
-pub write-r008 : (c : Config) (a v : ℕ) → writeAt c a v .r008 ≡ pick (eqb a 0x008) (write008 (c .r008) v) (c .r008)
-write-r008 c a v =
-    by-address (λ (x : ℕ). writeAt c x v .r008 ≡ pick (eqb x 0x008) (write008 (c .r008) v) (c .r008)) refl refl refl
-    (λ x e f g. rw (e, f, g)) a
-
-pub write-r010 : (c : Config) (a v : ℕ) → writeAt c a v .r010 ≡ pick (eqb a 0x010) (write010 (c .r010) v) (c .r010)
-write-r010 c a v =
-    by-address (λ (x : ℕ). writeAt c x v .r010 ≡ pick (eqb x 0x010) (write010 (c .r010) v) (c .r010)) refl refl refl
-    (λ x e f g. rw (e, f, g)) a
 
 pub write-r020 : (c : Config) (a v : ℕ) → writeAt c a v .r020 ≡ pick (eqb a 0x020) (write020 (c .r020) v) (c .r020)
 write-r020 c a v =

@@ -318,9 +318,6 @@ sound-config s e = sound-parts s e .config
 pub sound-request : (s : State) → sound s ≡ true → soundRequest (s .peripheral .request) ≡ true
 sound-request s e = sound-parts s e .request
 
-pub sound-write : (s : State) → sound s ≡ true → soundWrite (s .peripheral .write) ≡ true
-sound-write s e = sound-parts s e .write
-
 pub sound-wires : (s : State) → sound s ≡ true → soundWires (on1 (s .config .r020)) (s .wires) ≡ true
 sound-wires s e = sound-parts s e .wires
 
@@ -396,11 +393,6 @@ pub fresh-sound : Sound freshState
 unfolding sound fits soundRequest soundWrite
 fresh-sound = record { isSound = refl; isFit = refl }
 
-pub dropped-sound : (p : Peripheral) (on : Bool) → soundPeripheral on (dropped p) ≡ true
-unfolding soundRequest soundWrite
-dropped-sound p true = refl
-dropped-sound p false = refl
-
 -- ---- an answered request
 
 pub ready-made : (q : Request) (sent : ℕ) → requestMade q ≡ true → sentRight (q .kind) q sent ≡ true → soundRequest (Ready q sent) ≡ true
@@ -415,14 +407,6 @@ sent-none : (k : Kind) (q : Request) → 1 ≤ q .length → sentRight k q 0 ≡
 sent-none MemoryRead q h = and-true (lt-ltb 0 (q .length) h) refl
 sent-none IoRead q h = and-true (lt-ltb 0 (q .length) h) refl
 sent-none IoWrite q h = refl
-
-pub answered-sound : (q : Request) → soundRequest (Waiting q) ≡ true → soundRequest (Ready q 0) ≡ true
-unfolding soundRequest
-answered-sound q e = ready-made q 0 e (sent-none (q .kind) q (request-made q e .least))
-
-pub failed-sound : (q : Request) → soundRequest (Waiting q) ≡ true → soundRequest (Failed q) ≡ true
-unfolding soundRequest
-failed-sound q e = e
 
 -- ---- what is held once a completion is handed over is sound, and fits
 

@@ -226,38 +226,6 @@ module _ (on : Bool) (w : Wires) (i bit value : ℕ) (ok : settable i bit value 
 
 -- ---- enabling and platform reset
 
--- the first two of the three groups that enabling marks anew
-abbrev marked4 : Wires → Wires
-marked4 w = withGroup w 4 (levelAt w 4) (differs w 4)
-
-abbrev marked5 : Wires → Wires
-marked5 w = withGroup (marked4 w) 5 (levelAt w 5) (differs w 5)
-
-pub enabled-levels : (w : Wires) → enabled w .level ≡ w .level
-enabled-levels w = simp set-getD
-
--- each up group is marked exactly if it differs from its reset value
-pub enabled-mark : (w : Wires) (i : ℕ) → wholeWires w ≡ true → 2 ≤ i → i ≤ 7 → isUp i ≡ true → markAt (enabled w) i ≡ differs w i
-enabled-mark w i e h l =
-    let e₁ = whole-with w 4 (levelAt w 4) (differs w 4) ∙ e in
-    let e₂ = whole-with (marked4 w) 5 (levelAt w 5) (differs w 5) ∙ e₁ in
-    six (λ (j : ℕ). isUp j ≡ true → markAt (enabled w) j ≡ differs w j) clash clash
-    (λ _.
-    mark-other (marked5 w) 6 (levelAt w 6) (differs w 6) 4 (omega arith) (omega arith) (λ q. omega arith)
-    ∙ mark-other (marked4 w) 5 (levelAt w 5) (differs w 5) 4 (omega arith) (omega arith) (λ q. omega arith)
-    ∙ mark-same w 4 (levelAt w 4) (differs w 4) e (omega arith) (omega arith))
-    (λ _.
-    mark-other (marked5 w) 6 (levelAt w 6) (differs w 6) 5 (omega arith) (omega arith) (λ q. omega arith)
-    ∙ mark-same (marked4 w) 5 (levelAt w 5) (differs w 5) e₁ (omega arith) (omega arith))
-    (λ _. mark-same (marked5 w) 6 (levelAt w 6) (differs w 6) e₂ (omega arith) (omega arith))
-    clash i h l
-
-pub enabled-other : (w : Wires) (j : ℕ) → 2 ≤ j → isUp j ≡ false → markAt (enabled w) j ≡ markAt w j
-enabled-other w j h n =
-    mark-other (marked5 w) 6 (levelAt w 6) (differs w 6) j (omega arith) h (λ q. clash (sym n ∙ ap isUp q))
-    ∙ mark-other (marked4 w) 5 (levelAt w 5) (differs w 5) j (omega arith) h (λ q. clash (sym n ∙ ap isUp q))
-    ∙ mark-other w 4 (levelAt w 4) (differs w 4) j (omega arith) h (λ q. clash (sym n ∙ ap isUp q))
-
 -- platform reset: groups 6 and 7 as at start, the others as they were
 pub platform-reset : (w : Wires) → wholeWires w ≡ true
     → ((levelAt (platformWires w) 6 ≡ rowAt 4 .reset) × (markAt (platformWires w) 6 ≡ false))
@@ -270,11 +238,4 @@ platform-reset w e =
         mark-other v 7 (rowAt 5 .reset) false 6 (omega arith) (omega arith) (λ q. omega arith) ∙ mark-same w 6 (rowAt 4 .reset) false e (omega arith) (omega arith),
       ),
       (level-same v 7 (rowAt 5 .reset) false e₁ (omega arith) (omega arith), mark-same v 7 (rowAt 5 .reset) false e₁ (omega arith) (omega arith)),
-    )
-
-pub platform-other : (w : Wires) (j : ℕ) → 2 ≤ j → j ≤ 5 → (levelAt (platformWires w) j ≡ levelAt w j) × (markAt (platformWires w) j ≡ markAt w j)
-platform-other w j h l =
-    let v = resetGroup w 6 in (
-      level-other v 7 (rowAt 5 .reset) false j (omega arith) h (λ q. omega arith) ∙ level-other w 6 (rowAt 4 .reset) false j (omega arith) h (λ q. omega arith),
-      mark-other v 7 (rowAt 5 .reset) false j (omega arith) h (λ q. omega arith) ∙ mark-other w 6 (rowAt 4 .reset) false j (omega arith) h (λ q. omega arith),
     )

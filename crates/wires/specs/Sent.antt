@@ -141,13 +141,6 @@ sent-gone w ks g (List·Memᴰ·head {x = x} {xs = xs} q) =
     (ap (λ (y : ℕ). getD (set (w .pending) (y + 4 - 2) false) (g + 4 - 2) false) (sym q) ∙ off-there (w .pending) (g + 4 - 2))
 sent-gone w ks g (List·Memᴰ·tail {x = x} {xs = xs} m) = sent-gone (withGroup w (x + 4) (levelAt w (x + 4)) false) xs g m
 
--- the place is behind the last one sent (Sending.place-last), and one of the senders'
-pub sent-place : (w : Wires) (capacity : ℕ) → 4 ≤ w .place → w .place ≤ 6
-    → (4 ≤ afterSent w (sent w capacity) .place) × (afterSent w (sent w capacity) .place ≤ 6)
-sent-place w capacity h l =
-    let p : placeAfter senders (w .place - 4) (sent w capacity) < 3 = place-below senders (w .place - 4) (omega arith) (sent-below w capacity h l) in
-    (omega arith, omega arith)
-
 -- ---- as what bytes
 
 -- index and (defined bits, level) of each
