@@ -5,7 +5,7 @@ use mathlib.Core.List.{List}
 use mathlib.Core.Logic.{_⊎_, inl, inr}
 use mathlib.Core.Path.{_≡_, refl, sym, ap, subst, _∙_}
 use native.Mathlib.Omega.{arith}
-use borrow.Author.Tests.{leb-true, eqb-true, eqb-false, eq-eqb, not-false}
+use borrow.Author.Tests.{leb-true, eqb-true, eqb-false, not-false}
 use lib.Dec.{T, eqb, ltb}
 use lib.ListN.{length, getD}
 use Rattle.base.specs.Pick.{pick, pick-ind, and-left}

@@ -1,17 +1,17 @@
 -- Laws by which the engine's functions meet their contracts: a stage's return from what its callees ensure, in the code's order.
 use Prim.Native.Nat.{ℕ, _+_, _*_, _≤_, _<_}
-use mathlib.Core.Bool.{Bool, true, false, _&&_, not}
+use mathlib.Core.Bool.{Bool, true, false, not}
 use mathlib.Core.List.{List, [], _∷_}
 use mathlib.Core.Path.{_≡_, refl, sym, ap, _∙_}
-use mathlib.Core.Logic.{_⊎_, inl, inr}
+use mathlib.Core.Logic.{inl, inr}
 use native.Mathlib.Omega.{arith}
 use borrow.Author.Tests.{not-true, not-false}
 use lib.Dec.{ltb, eqb}
 use lib.ListN.{length, getD, take, drop, length-take, List·getD-eq-default}
 use lib.Seq.{getD-take, getD-drop}
-use Rattle.base.specs.Pick.{pick, taken, passed, and-left}
+use Rattle.base.specs.Pick.{taken, passed}
 use Rattle.base.specs.Bytes.{joined4}
-use Rattle.registers.specs.Registers.{payloadSize, readSize, operatingCount, on0, on1, crcChecked, forbiddenAt, writeAt, reachable}
+use Rattle.registers.specs.Registers.{payloadSize, readSize, operatingCount, on1, crcChecked, forbiddenAt, writeAt}
 use Rattle.registers.specs.Laws.{payload-legal, read-legal, reachable-r010, reachable-r020, count-range}
 use Rattle.registers.specs.declared.Config.{Config}
 use Rattle.wires.specs.Groups.{putPairs, sent, anyPending, packetOf, afterSent, settable, setWire}
@@ -42,8 +42,8 @@ use Rattle.sound.specs.Facts.{legal-payload, legal-read, sound-config, sound-wi
 use Rattle.rules.specs.Plan.{silent, said, fatal, nonFatal, accept, defer, acceptThen, quietly}
 use Rattle.rules.specs.Decide.{withPeripheral, withWires, withRequest, holding, post, requestOf, sizeFor, asking, ask, bytesOf, handing, getPc, putVwire, getVwire, reconfigured, setConfiguration, channelsOf, byDecoded, decide, exchange}
 use Rattle.rules.specs.Decide as D
-use Rattle.rules.specs.Board.{answerLength, bytesFor, answered, answeringWaiting, setWireCall}
-use Rattle.rules.specs.declared.Response.the-variants.{Accept, Defer}
+use Rattle.rules.specs.Board.{bytesFor, answered, answeringWaiting, setWireCall}
+use Rattle.rules.specs.declared.Response.the-variants.{Accept}
 use Rattle.rules.specs.declared.Body.the-variants as B
 use Rattle.rules.specs.declared.Kept.the-variants as K
 use Rattle.rules.specs.declared.Plan.{Plan}

@@ -2,16 +2,15 @@
 use Prim.Native.Nat.{ℕ, _+_, _*_, _≤_}
 use mathlib.Core.Bool.{Bool, true, false, not}
 use mathlib.Core.List.{List}
-use mathlib.Core.Path.{_≡_, refl, sym, ap, subst, _∙_}
+use mathlib.Core.Path.{_≡_, sym, ap, subst, _∙_}
 use native.Mathlib.Nat.{zero-add}
 use native.Mathlib.Omega.{arith}
 use lib.ListN.{length}
 use borrow.Author.Tests.{not-false}
-use Rattle.base.specs.Pick.{pick, taken, passed, and-left}
+use Rattle.base.specs.Pick.{pick, and-left}
 use Rattle.base.specs.Bytes.{over, agree}
 use Rattle.wires.specs.Groups.{definedBit, readWire}
 use Rattle.state.specs.declared.Np.{Np}
-use Rattle.state.specs.declared.Write.{Write}
 use Rattle.state.specs.declared.State.{State}
 use Rattle.sound.specs.Sound.{sound}
 use Rattle.layout.specs.Layout.{stateLength, packed, unpacked, holds, loaded}
@@ -19,9 +18,9 @@ use Rattle.layout.specs.declared.Loaded.{Loaded}
 use Rattle.rules.specs.Decide as D
 use Rattle.rules.specs.Board as B
 use Rattle.rules.specs.Reply.{replyBytes, keptBytes}
-use Rattle.rules.specs.Fits.{AnswerFits, KeptFits, PlanFits}
+use Rattle.rules.specs.Fits.{KeptFits, PlanFits}
 use Rattle.rules.specs.KeptFits as F
-use Rattle.rules.specs.Calls.{Done, Exchanged, Stored, Looked, done, exchanged, stored, looked, kept, word, exchangePlanned}
+use Rattle.rules.specs.Calls.{Exchanged, done, exchanged, stored, looked, kept, word, exchangePlanned}
 use Rattle.rules.specs.declared.Kept.{Kept}
 use Rattle.rules.specs.declared.Kept.the-variants as K
 use Rattle.rules.specs.declared.Plan.{Plan}

@@ -6,7 +6,7 @@ use state::Np;
 use state::State;
 use state::Write;
 ghost use mathlib.Core.Path.{_≡_};
-ghost use Prim.Native.Nat.{ℕ, _≤_};
+ghost use Prim.Native.Nat.{_≤_};
 ghost use lib.ListN.{length};
 ghost use Rattle.rules.specs.Fits.{AnswerFits, KeptFits};
 ghost use Rattle.rules.specs.Calls.{done, exchanged, stored, looked, startCall, espiResetCall, platformResetCall, exchangePlanned, exchangeCall, lookCall, answerCall, takeWriteCall, setWireCall, readWireCall};

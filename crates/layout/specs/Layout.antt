@@ -1,10 +1,9 @@
 -- A state's bytes, as docs/STATE.md lays them out; the bytes that pack a sound state.
 use Prim.Native.Nat.{ℕ, zero, suc, _+_}
-use mathlib.Core.Bool.{Bool, true, false, _&&_}
+use mathlib.Core.Bool.{Bool, _&&_}
 use mathlib.Core.List.{List, [], _∷_, _++_}
 use lib.Dec.{eqb}
 use lib.ListN.{getD}
-use Rattle.base.specs.Pick.{pick}
 use Rattle.base.specs.Bytes.{low4, low8, number4, number8, agree}
 use Rattle.registers.specs.declared.Config.{Config}
 use Rattle.wires.specs.Groups.{levelAt, markAt}

@@ -1,13 +1,13 @@
 -- P3, packing: sound states and their 77 bytes, there and back; nothing past them matters.
 use Prim.Native.Nat.{ℕ, zero, suc, _+_, _<_, _≤_}
 use mathlib.Core.Bool.{true}
-use mathlib.Core.List.{List, _++_}
+use mathlib.Core.List.{List}
 use mathlib.Core.Logic.{_↔_}
 use mathlib.Core.Path.{_≡_, refl, sym, ap, subst, _∙_}
 use native.Mathlib.Nat.{le-of-eq}
 use native.Mathlib.Omega.{arith}
 use lib.ListN.{length, getD, take}
-use lib.Seq.{getD-take, take-all, take-at}
+use lib.Seq.{getD-take, take-all}
 use borrow.Author.Tests.{eq-eqb}
 use Rattle.base.specs.Pick.{and-left, and-right, and-true}
 use Rattle.base.specs.Bytes.{number4, number8, over, over-take, take-over, agree, agree-take}

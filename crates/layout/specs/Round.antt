@@ -22,7 +22,7 @@ use Rattle.state.specs.declared.Np.the-variants.{Free, Waiting, Ready, Failed}
 use Rattle.state.specs.declared.Write.{Write}
 use Rattle.state.specs.declared.Write.the-variants.{Empty, Held}
 use Rattle.state.specs.declared.State.{State}
-use Rattle.sound.specs.Sound.{soundRequest, soundWrite, sound, fitsRequest, fitsWrite, Sound}
+use Rattle.sound.specs.Sound.{soundRequest, soundWrite, fitsRequest, fitsWrite, Sound}
 use Rattle.sound.specs.Facts.{MadeRequest, waiting-request, failed-request, ready-request, held-write, sound-parts, fit-parts}
 use Rattle.layout.specs.Layout.{stateLength, configBytes, writeBytes, kindByte, requestBytes, npBytes, wiresBytes, packed, writeOf, kindOf, npOf, wiresIn, postedIn, requestIn, configIn, unpacked}
 

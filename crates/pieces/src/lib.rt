@@ -1,7 +1,6 @@
 // The cutting of an answer into pieces at blocks of the payload size, and the pieces' marks.
 ghost use mathlib.Core.Path.{_≡_};
-ghost use mathlib.Core.Bool.{Bool};
-ghost use Prim.Native.Nat.{ℕ, _+_, _-_, _*_, _≤_, _<_};
+ghost use Prim.Native.Nat.{_+_, _-_, _≤_, _<_};
 ghost use Rattle.pieces.specs.Marks.{markOf, markType};
 ghost use Rattle.pieces.specs.Pieces.{nextSize, nextMark};
 

@@ -5,13 +5,13 @@ use mathlib.Core.Bool.{Bool, true, false, _&&_, not}
 use mathlib.Core.Path.{_≡_, refl, ap, sym, subst}
 use native.Mathlib.Omega.{arith}
 use lib.Dec.{eqb, lit<}
-use borrow.Author.Tests.{eq-eqb, ne-eqb}
+use borrow.Author.Tests.{eq-eqb}
 use Rattle.base.specs.Pick.{pick, and-left, and-right, and-true}
 use Rattle.registers.specs.declared.Reg008.{Reg008}
 use Rattle.registers.specs.declared.Reg010.{Reg010}
 use Rattle.registers.specs.declared.Reg020.{Reg020}
 use Rattle.registers.specs.declared.Config.{Config}
-use Rattle.registers.specs.Registers.{masked, readied, writable008, writable010, writable020, forbidden008, forbidden010, forbidden020, write008, write010, write020, freshConfig, readAt, forbiddenAt, writeAt, fixed008, fixed010, fixed020, readyIsEnable, reachable008, reachable010, reachable020, reachable}
+use Rattle.registers.specs.Registers.{masked, readied, writable008, writable010, writable020, forbidden008, forbidden010, forbidden020, write008, write010, write020, freshConfig, forbiddenAt, writeAt, fixed008, fixed010, fixed020, readyIsEnable, reachable008, reachable010, reachable020, reachable}
 pub use Rattle.registers.specs.Fields.{field-kept, field-written, masked-fits, bit-zero, Written008, written008, Written010, written010, Written020, written020, crc-written, on0-written, payload-written, read-written, on1-written, count-written}
 pub use Rattle.registers.specs.Sizes.{at-equal, sizes, payload-legal, read-legal, payload-cases, read-cases, count-range}
 

@@ -24,13 +24,13 @@ sizes = (refl, refl, refl, refl, refl, refl, refl)
 from-on : (Q : ℕ → Type 0) (n k : ℕ) → Q k → (k < n → Q n) → k ≤ n → Q n
 from-on Q n k q above h = elim (eq-or-lt-of-le h) [ inl e ↦ subst Q e q | inr l ↦ above l ]
 
-payload-coded : (n : ℕ) → 1 ≤ n → n ≤ 3 → payloadLegal (sizeOf n) ≡ true
+pub payload-coded : (n : ℕ) → 1 ≤ n → n ≤ 3 → payloadLegal (sizeOf n) ≡ true
 unfolding sizeOf
 payload-coded n l u =
     let is = from-on (λ (x : ℕ). payloadLegal (sizeOf x) ≡ true) n in
     is 1 refl (is 2 refl (is 3 refl (λ h. absurd (omega (arith, h, u))))) l
 
-read-coded : (n : ℕ) → 1 ≤ n → n ≤ 7 → readLegal (sizeOf n) ≡ true
+pub read-coded : (n : ℕ) → 1 ≤ n → n ≤ 7 → readLegal (sizeOf n) ≡ true
 unfolding sizeOf
 read-coded n l u =
     let is = from-on (λ (x : ℕ). readLegal (sizeOf x) ≡ true) n in

@@ -11,7 +11,7 @@ use Rattle.crc.specs.Crc.{crc}
 use Rattle.wires.specs.Groups.{packetBytes}
 use Rattle.wires.specs.declared.Packet.{Packet}
 use Rattle.state.specs.declared.Completion.{Completion}
-use Rattle.rules.specs.Reply.{headerBytes, dataBytes, bodyBytes, closed, replyBytes, keptBytes}
+use Rattle.rules.specs.Reply.{headerBytes, bodyBytes, closed, replyBytes, keptBytes}
 use Rattle.rules.specs.KeptFits.{closed-length}
 use Rattle.rules.specs.declared.Body.{Body}
 use Rattle.rules.specs.declared.Body.the-variants as B

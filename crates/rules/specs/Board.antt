@@ -1,5 +1,5 @@
 -- The board's calls (01, What the engine covers; Requests, answers, pieces; Wires), each after 10 and 11.
-use Prim.Native.Nat.{ℕ, _/_, _%_, _+_}
+use Prim.Native.Nat.{ℕ, _+_}
 use mathlib.Core.Bool.{Bool, true, false, not}
 use mathlib.Core.List.{List, [], _∷_, _++_}
 use lib.Dec.{eqb}

@@ -8,7 +8,7 @@ use native.Mathlib.Nat.{zero-div}
 use native.Mathlib.Omega.{arith}
 use lib.Dec.{eqb}
 use borrow.Author.Tests.{eqb-true, eqb-false, ne-eqb}
-use Rattle.base.specs.Pick.{pick-ind, and-left, and-right}
+use Rattle.base.specs.Pick.{or-second, pick-ind, and-left, and-right}
 use Rattle.registers.specs.Registers.{field, masked, readied}
 use Rattle.registers.specs.Laws.{field-kept, field-written, written010, written020, bit-zero}
 use Rattle.registers.specs.declared.Config.{Config}
@@ -57,11 +57,7 @@ module _ (mask : ℕ) (h : allBelow 32 (split mask) ≡ true) (k : ℕ) (l : k <
 -- the ready bit's own write leaves every other bit
 module _ (k : ℕ) (l : k < 32) (ne : eqb k 1 ≡ false) where
   ready-mask : field 2 k 1 ≡ 0
-  ready-mask = eqb-true (field 2 k 1) 0 (pass (eqb k 1) (eqb (field 2 k 1) 0) ne (below 32 (λ (x : ℕ). eqb x 1 || eqb (field 2 x 1) 0) refl k l))
-    where
-      pass : (a b : Bool) → a ≡ false → a || b ≡ true → b ≡ true
-      pass true b e f = absurd (true≢false e)
-      pass false b e f = f
+  ready-mask = eqb-true (field 2 k 1) 0 (or-second (eqb k 1) (eqb (field 2 k 1) 0) ne (below 32 (λ (x : ℕ). eqb x 1 || eqb (field 2 x 1) 0) refl k l))
 
   readied-bit : (m : ℕ) → field (readied m) k 1 ≡ field m k 1
   readied-bit m = bit-kept 2 refl k l m (2 * (m % 2)) ready-mask

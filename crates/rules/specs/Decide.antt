@@ -1,7 +1,7 @@
 -- Every command's decision (01, Replies and refusals; Registers and status; Requests, answers, pieces; Wires), one pick a test, in
 -- document 01's order: credit (1), size (1), 2. The data bytes are read for PUT_VWIRE's pairs and an I/O write's bytes alone.
 use Prim.Native.Nat.{ℕ, _+_, _*_, _%_, _^_}
-use mathlib.Core.Bool.{Bool, true, false, _&&_, not}
+use mathlib.Core.Bool.{Bool, _&&_, not}
 use mathlib.Core.List.{List, [], _∷_}
 use lib.Dec.{ltb}
 use lib.ListN.{getD, take, drop}
@@ -29,9 +29,8 @@ use Rattle.state.specs.declared.Kind.{Kind}
 use Rattle.state.specs.declared.Kind.the-variants as R
 use Rattle.state.specs.declared.Request.{Request}
 use Rattle.state.specs.declared.Np.{Np}
-use Rattle.state.specs.declared.Np.the-variants.{Free, Waiting, Ready, Failed}
-use Rattle.state.specs.declared.Write.{Write}
-use Rattle.state.specs.declared.Write.the-variants.{Empty, Held}
+use Rattle.state.specs.declared.Np.the-variants.{Waiting}
+use Rattle.state.specs.declared.Write.the-variants.{Held}
 use Rattle.state.specs.declared.Peripheral.{Peripheral}
 use Rattle.state.specs.declared.Completion.{Completion}
 use Rattle.state.specs.declared.State.{State}

@@ -30,11 +30,10 @@ use Rattle.state.specs.declared.Kind.the-variants as R
 use Rattle.state.specs.declared.Request.{Request}
 use Rattle.state.specs.declared.Np.{Np}
 use Rattle.state.specs.declared.Np.the-variants.{Free, Waiting, Ready, Failed}
-use Rattle.state.specs.declared.Completion.{Completion}
 use Rattle.state.specs.declared.State.{State}
 use Rattle.sound.specs.Facts.{ReadyRequest, legal-payload, ready-request, waiting-request, sound-config, sound-request}
 use Rattle.sound.specs.Sound.{sound, within, soundRequest}
-use Rattle.rules.specs.Fits.{BodyFits, AnswerFits, DataFits, KeptFits, PlanFits, PieceFits}
+use Rattle.rules.specs.Fits.{BodyFits, AnswerFits, KeptFits, PlanFits, PieceFits}
 use Rattle.rules.specs.Plan.{responseByte}
 use Rattle.rules.specs.Decide as D
 use Rattle.rules.specs.Board as T
@@ -43,8 +42,6 @@ use Rattle.rules.specs.declared.Body.{Body}
 use Rattle.rules.specs.declared.Body.the-variants as B
 use Rattle.rules.specs.declared.Answer.{Answer}
 use Rattle.rules.specs.declared.Answer.the-variants.{Silent, Said}
-use Rattle.rules.specs.declared.Kept.{Kept}
-use Rattle.rules.specs.declared.Kept.the-variants as K
 use Rattle.rules.specs.declared.Plan.{Plan}
 
 -- ---- the reply's length

@@ -11,7 +11,6 @@ use Rattle.base.specs.Pick.{and-right, and-true}
 use Rattle.command.specs.Facts.{SizeFits}
 use Rattle.state.specs.Status.{pcFree, npFree}
 use Rattle.state.specs.Upward.{handed}
-use Rattle.state.specs.declared.Kind.{Kind}
 use Rattle.state.specs.declared.Kind.the-variants.{MemoryRead, IoRead, IoWrite}
 use Rattle.state.specs.declared.Request.{Request}
 use Rattle.state.specs.declared.Np.{Np}
@@ -19,8 +18,8 @@ use Rattle.state.specs.declared.Np.the-variants.{Waiting, Ready, Failed}
 use Rattle.state.specs.declared.Posted.{Posted}
 use Rattle.state.specs.declared.Write.the-variants.{Held}
 use Rattle.state.specs.declared.Peripheral.{Peripheral}
-use Rattle.sound.specs.Facts.{MadeMemoryRead, MadeIo, MadeIoRead, MadeIoWrite, waiting-request, handed-sound, handed-fits}
-use Rattle.sound.specs.Sound.{shortSize, ioMade, madeAs, requestMade, writeMade, sentRight, soundRequest, soundWrite}
+use Rattle.sound.specs.Facts.{sent-none, MadeMemoryRead, MadeIo, MadeIoRead, MadeIoWrite, waiting-request, handed-sound, handed-fits}
+use Rattle.sound.specs.Sound.{shortSize, ioMade, madeAs, requestMade, writeMade, soundRequest, soundWrite}
 use Rattle.rules.specs.Decide.{holding, asking, withRequest}
 use Rattle.rules.specs.Board.{emptied}
 use Rattle.rules.specs.KeptParts.{RequestOk, WriteOk, PeripheralOk, empty-ok, held-on}
@@ -55,11 +54,6 @@ io-write-test q m = and-true (io-test q (m .io)) (and-true (le-leb _ _ (m .inBlo
 -- ---- the queues
 
 -- nothing sent is short of the whole, since a request has a byte
-sent-none : (k : Kind) (q : Request) → 1 ≤ q .length → sentRight k q 0 ≡ true
-sent-none MemoryRead q h = and-true (lt-ltb _ _ h) refl
-sent-none IoRead q h = and-true (lt-ltb _ _ h) refl
-sent-none IoWrite q h = refl
-
 pub ready-ok : (q : Request) → RequestOk (Waiting q) → RequestOk (Ready q 0)
 unfolding soundRequest
 ready-ok q h = record { right = and-true (h .right) (sent-none (q .kind) q (waiting-request q (h .right) .least)); fit = h .fit }

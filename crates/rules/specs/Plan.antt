@@ -6,7 +6,6 @@ use Rattle.rules.specs.declared.Response.{Response}
 use Rattle.rules.specs.declared.Response.the-variants.{Accept, Defer, NonFatal, Fatal}
 use Rattle.rules.specs.declared.Body.{Body}
 use Rattle.rules.specs.declared.Body.the-variants as B
-use Rattle.rules.specs.declared.Answer.{Answer}
 use Rattle.rules.specs.declared.Answer.the-variants.{Silent, Said}
 use Rattle.rules.specs.declared.Kept.{Kept}
 use Rattle.rules.specs.declared.Kept.the-variants as K

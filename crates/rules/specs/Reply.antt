@@ -7,7 +7,6 @@ use Rattle.crc.specs.Crc.{crc}
 use Rattle.wires.specs.Groups.{packetBytes}
 use Rattle.state.specs.declared.Completion.{Completion}
 use Rattle.rules.specs.Plan.{responseByte}
-use Rattle.rules.specs.declared.Response.{Response}
 use Rattle.rules.specs.declared.Body.{Body}
 use Rattle.rules.specs.declared.Body.the-variants as B
 use Rattle.rules.specs.declared.Answer.{Answer}

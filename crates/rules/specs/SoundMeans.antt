@@ -1,14 +1,14 @@
 -- The Bool test `sound` says the clauses of "Sound state" (01, Wires, last paragraph), both ways.
 use Prim.Native.Nat.{ℕ, zero, suc, _+_, _-_, _/_, _%_, _^_, _≤_, _<_}
 use mathlib.Core.Bool.{Bool, true, false, _&&_, _||_, not, true≢false}
-use mathlib.Core.Logic.{inl, inr}
 use mathlib.Core.Path.{_≡_, refl, sym, ap, subst, _∙_}
-use native.Mathlib.Nat.{mul-mod-left, eq-or-lt-of-le}
+use native.Mathlib.Nat.{mul-mod-left}
 use native.Mathlib.Omega.{arith}
 use lib.Dec.{eqb, ltb}
 use borrow.Author.Tests.{ltb-true, eq-eqb, ne-eqb, lt-ltb, le-leb, not-false}
 use Rattle.base.specs.Pick.{and-left, and-right, and-true}
-use Rattle.registers.specs.Registers.{on0, on1, sizeOf, payloadLegal, readLegal}
+use Rattle.registers.specs.Sizes.{payload-coded, read-coded}
+use Rattle.registers.specs.Registers.{on0, on1, payloadLegal, readLegal}
 use Rattle.registers.specs.Laws.{sizes, payload-cases, read-cases}
 use Rattle.wires.specs.Table.{isGroup, rowAt}
 use Rattle.wires.specs.Rows.{isUp, row-right, in-table}
@@ -58,25 +58,11 @@ read-code =
     (6, omega arith, omega arith, sym (sizes .5))
     (7, omega arith, omega arith, sym (sizes .6))
 
--- a number from k on is k, or above it
-from-on : (Q : ℕ → Type 0) (n k : ℕ) → Q k → (k < n → Q n) → k ≤ n → Q n
-from-on Q n k q above h = elim (eq-or-lt-of-le h) [ inl e ↦ subst Q e q | inr l ↦ above l ]
-
 code-payload : (p : ℕ) → Coded 3 p → payloadLegal p ≡ true
-unfolding sizeOf
-code-payload p c =
-    let n = c .0 in
-    let at = from-on (λ (x : ℕ). payloadLegal (sizeOf x) ≡ true) n in
-    subst (λ (x : ℕ). payloadLegal x ≡ true) (sym (c .3))
-    (at 1 refl (at 2 refl (at 3 refl (λ h. absurd (omega (arith, h, c .2))))) (c .1))
+code-payload p c = subst (λ (x : ℕ). payloadLegal x ≡ true) (sym (c .3)) (payload-coded (c .0) (c .1) (c .2))
 
 code-read : (p : ℕ) → Coded 7 p → readLegal p ≡ true
-unfolding sizeOf
-code-read p c =
-    let n = c .0 in
-    let at = from-on (λ (x : ℕ). readLegal (sizeOf x) ≡ true) n in
-    subst (λ (x : ℕ). readLegal x ≡ true) (sym (c .3))
-    (at 1 refl (at 2 refl (at 3 refl (at 4 refl (at 5 refl (at 6 refl (at 7 refl (λ h. absurd (omega (arith, h, c .2))))))))) (c .1))
+code-read p c = subst (λ (x : ℕ). readLegal x ≡ true) (sym (c .3)) (read-coded (c .0) (c .1) (c .2))
 
 -- ---- requests and writes
 

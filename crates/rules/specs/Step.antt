@@ -1,18 +1,17 @@
 -- One call on a state and the stores, and a run of calls. The state is handed over whole from call to call; docs/STATE.md has its bytes.
-use Prim.Native.Nat.{ℕ, _+_}
-use mathlib.Core.Bool.{Bool, true, false, _&&_, _||_, not}
+use Prim.Native.Nat.{ℕ}
+use mathlib.Core.Bool.{Bool, true, _&&_, _||_, not}
 use mathlib.Core.List.{List, [], _∷_}
 use lib.Dec.{eqb, ltb}
 use lib.ListN.{length}
 use Rattle.base.specs.Pick.{pick}
 use Rattle.base.specs.Bytes.{over}
 use Rattle.state.specs.declared.State.{State}
-use Rattle.rules.specs.Plan.{silent}
 use Rattle.rules.specs.Decide as D
 use Rattle.rules.specs.Board as B
 use Rattle.rules.specs.Reply.{replyBytes, keptBytes}
 use Rattle.rules.specs.declared.Answer.{Answer}
-use Rattle.rules.specs.declared.Answer.the-variants.{Silent, Said}
+use Rattle.rules.specs.declared.Answer.the-variants.{Silent}
 use Rattle.rules.specs.declared.Plan.{Plan}
 
 -- "reply at least 263 bytes, write store at least 256, read store at least 4,096"; reports: 19 and 10

@@ -1,7 +1,6 @@
 -- Bench lines (01, Bench lines; outside vectors): one table, one statement. A row: the calls before it from a fresh world, the command, its
 -- number and its whole reply. The set-ups are real commands; replies were made by hand and a CRC program that shares nothing with this repository.
 use Prim.Native.Nat.{ℕ, zero, suc, _+_}
-use mathlib.Core.Bool.{Bool, true, false}
 use mathlib.Core.List.{List, [], _∷_, _++_}
 use mathlib.Core.Path.{_≡_, refl}
 use lib.ListN.{replicate}
@@ -19,7 +18,7 @@ use Rattle.state.specs.Status.{status}
 use Rattle.rules.specs.Decide as D
 use Rattle.rules.specs.Board as B
 use Rattle.rules.specs.Reply.{closed, replyBytes}
-use Rattle.rules.specs.Step.{World, Call, start, exchange, answer, setWire, exchanged, settled, step, run}
+use Rattle.rules.specs.Step.{World, Call, exchange, answer, setWire, exchanged, settled, step, run}
 
 -- n bytes that count up from a
 abbrev ramp : ℕ → ℕ → List ℕ

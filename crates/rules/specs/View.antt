@@ -1,7 +1,7 @@
 -- All that a call can do to the held request, the serial and the read store, and what its reply shows of them: one sweep over `step`.
 -- The theorems over runs go by cases on it and look at no command again.
 use Prim.Native.Nat.{ℕ, _+_, _-_, _*_, _/_, _%_, _^_, _<_, _≤_}
-use mathlib.Core.Bool.{Bool, true, false, _&&_, _||_, not, true≢false}
+use mathlib.Core.Bool.{Bool, true, false, _&&_, _||_, not}
 use mathlib.Core.List.{List, [], _∷_, _++_, append-assoc}
 use mathlib.Core.Path.{_≡_, refl, sym, ap, _∙_, subst}
 use native.Mathlib.Omega.{arith}
@@ -37,6 +37,7 @@ use Rattle.state.specs.declared.Write.{Write}
 use Rattle.state.specs.declared.Write.the-variants.{Empty, Held}
 use Rattle.state.specs.declared.State.{State}
 use Rattle.sound.specs.Sound.{within}
+use Rattle.sound.specs.Facts.{no-request}
 use Rattle.rules.specs.Plan.{silent, fatal, acceptThen}
 use Rattle.rules.specs.Decide as D
 use Rattle.rules.specs.Decide.{nextSerial, sizeFor, channelsOf, byDecoded}
@@ -127,12 +128,6 @@ status-below s =
 shown : (s : State) (m : List ℕ) → Shown (s .peripheral .request) (closed m (status s))
 shown s m = record { np = λ _. rw (status-in m (status s) (status-below s)) (status-np s); pc = λ _. rw (status-in m (status s) (status-below s)) (status-pc s) }
 
-is-free : (n : Np) → npFree n ≡ true → n ≡ Free
-is-free Free e = refl
-is-free (Waiting q) e = absurd (true≢false (sym e))
-is-free (Ready q s) e = absurd (true≢false (sym e))
-is-free (Failed q) e = absurd (true≢false (sym e))
-
 edge-serial : (was is : Bool) (p : Peripheral) → D.peripheralEdge was is p .serial ≡ p .serial
 edge-serial true true p = refl
 edge-serial true false p = refl
@@ -173,7 +168,7 @@ module _ (w : World) (b r : List ℕ) where
   ask-seen q e =
       pick-ind (Seen asks) (not (npFree (held w))) (λ _. refused-seen asks)
       (λ f. pick-ind (Seen asks) (not (within (q .address) (q .length) (sizeFor (q .kind) q))) (λ _. refused-seen asks)
-      (λ _. asked b r refl (is-free (held w) (not-false _ f)) (ap Waiting e) refl refl refl (shown _ _)))
+      (λ _. asked b r refl (no-request (held w) (not-false _ f)) (ap Waiting e) refl refl refl (shown _ _)))
 
   get-seen : (ks : List Completion) → upward (held w) ≡ ks → Seen gets (D.handing (w .state) ks)
   unfolding exchanged replyBytes

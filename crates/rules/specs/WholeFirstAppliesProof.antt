@@ -1,14 +1,13 @@
 -- P6 proved of the nine calls over lent bytes.
 use Prim.Native.Nat.{ℕ, zero, suc, _%_, _≤_}
-use mathlib.Core.Bool.{Bool, true, false, _&&_, _||_, not, and-false, true≢false}
-use mathlib.Core.List.{List, [], _∷_}
-use mathlib.Core.Logic.{_↔_}
+use mathlib.Core.Bool.{Bool, true, false, _&&_, _||_, not, and-false}
+use mathlib.Core.List.{List}
 use mathlib.Core.Path.{_≡_, refl, sym, ap, _∙_}
 use native.Mathlib.Omega.{arith}
 use lib.Dec.{eqb, ltb, leb}
 use lib.ListN.{length}
-use borrow.Author.Tests.{not-false, not-true, eqb-false, ltb-false, leb-true, leb-false, ne-eqb, lt-ltb, le-ltb, lt-leb}
-use Rattle.base.specs.Pick.{pick, and-left, and-right}
+use borrow.Author.Tests.{not-false, ltb-false, leb-true, leb-false, ne-eqb, lt-ltb, le-ltb, lt-leb}
+use Rattle.base.specs.Pick.{pick, and-right}
 use Rattle.registers.specs.Registers.{on1}
 use Rattle.wires.specs.Groups.{definedBit, settable, undefinedZero, marksRight, placeRight, readWire as readWireOf}
 use Rattle.state.specs.declared.Kind.{Kind}
@@ -30,7 +29,7 @@ use Rattle.rules.specs.Step.{replyLength, writeLength, readLength, lookL
 use Rattle.rules.specs.Calls.{word, Done, Exchanged, Stored, Looked, startCall, changeCall, espiResetCall, platformResetCall, exchangeCall, exchangePlanned, lookCall, answerCall, takeWriteCall, setWireCall, readWireCall}
 use Rattle.rules.specs.RefusalsProof.{exchange-planned}
 use Rattle.rules.specs.WholeRefusalsProof.{number-word, planned-small}
-use Rattle.rules.specs.FirstApplies.{Row, firstOf, noneApplies, exchangeRows, startRows, resetRows, lookRows, takeRows, answerRows, setRows, readRows, unanswered, writeHeld, bytesWanted, successBytes, wireDefined, wireOfBoard, First, FirstApplies}
+use Rattle.rules.specs.FirstApplies.{Row, firstOf, exchangeRows, startRows, resetRows, lookRows, takeRows, answerRows, setRows, readRows, unanswered, writeHeld, bytesWanted, successBytes, wireDefined, wireOfBoard, First, FirstApplies}
 use Rattle.rules.specs.Rows.{numbered, none-first}
 use Rattle.rules.specs.FirstAppliesProof.{read-off, command-number}
 

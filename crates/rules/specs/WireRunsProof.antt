@@ -1,6 +1,6 @@
 -- P19 and P20 of `step`, from the view and the laws of the wires.
 use Prim.Native.Nat.{ℕ, zero, suc, _+_, _-_, _*_, _/_, _%_, _^_, _<_, _≤_}
-use mathlib.Core.Bool.{Bool, true, false, _&&_, _||_, true≢false}
+use mathlib.Core.Bool.{Bool, true, false, _&&_}
 use mathlib.Core.List.{List, [], _∷_, _++_, List·Memᴰ, List·Memᴰ·head, List·Memᴰ·tail, List·Memᴰ·not-nil, List·Memᴰ·cases-cons}
 use mathlib.Core.Logic.{⊎-elim}
 use mathlib.Core.Path.{_≡_, refl, sym, ap, subst, _∙_}
@@ -9,8 +9,9 @@ use lib.Bits.{bitAnd}
 use lib.Dec.{eqb, ltb}
 use lib.ListN.{getD, length, take}
 use borrow.Author.Tests.{eqb-true, eqb-false, ltb-true, lt-ltb, not-true}
-use Rattle.base.specs.Pick.{pick, pick-ind, and-left, and-right}
+use Rattle.base.specs.Pick.{or-second, pick, pick-ind, and-left, and-right}
 use Rattle.registers.specs.Registers.{on1}
+use Rattle.wires.specs.Kept.{clash}
 use Rattle.wires.specs.Table.{rowAt, isGroup}
 use Rattle.wires.specs.Groups as G
 use Rattle.wires.specs.Groups.{levelAt, markAt, isDown, definedBit, settable, senders, wholeWires, noMarks, afterSent, differs}
@@ -31,9 +32,6 @@ use Rattle.rules.specs.Step.{World, Call, exchange, setWire, readWire, O
 use Rattle.rules.specs.Bound.{WireKind, nothing, puts, gets, sets, enables, disables, starts, resets, platformResets, edge, commandWire, wireKindOf, wireKind, wiresOf}
 use Rattle.rules.specs.BoundProof.{channelOn, countOf, WireMove, still, put, sent, set, enabled, disabled, started, reset, platformReset′, wire-view, wire-view-as, wires-sound, sent-body}
 use Rattle.rules.specs.WireRuns.{wireOf, pairsIn, Put, Set, nextUp, marked, pairsOf, SomeGot, Raised, byChange, byEnabling, WireSteps}
-
-clash : {X : Type 0} → false ≡ true → X
-clash e = absurd (true≢false (sym e))
 
 wires-whole : (w : World) → Sound (w .state) → wholeWires (wiresOf w) ≡ true
 unfolding fits
@@ -284,10 +282,6 @@ unfolding wireKindOf
 kind-enables w b r o =
     pick-ind (λ (k : WireKind). k ≡ enables → Enabling b) (eqb (o .number) 0) (λ _ e. enabling (w .state) b e) (λ _ e. let z : _≡_ {A = ℕ} 0 1 = cc in absurd (omega arith))
 
-or-on : (a b : Bool) → a ≡ false → a || b ≡ true → b ≡ true
-or-on true b e f = clash (sym e)
-or-on false b e f = f
-
 module _ (w : World) (s : Sound (w .state)) (i : ℕ) (from : 2 ≤ i) (upto : i ≤ 7) (off : markAt (wiresOf w) i ≡ false) where
   -- the marks after are those of these wires
   same-off : (o : Outcome) (x : Wires) → wiresOf (o .next) ≡ x → markAt x i ≡ false → markAt (wiresOf (o .next)) i ≡ true → false ≡ true
@@ -300,7 +294,7 @@ module _ (w : World) (s : Sound (w .state)) (i : ℕ) (from : 2 ≤ i) (upto : i
       go : (z : Bool) → eqb i j ≡ z → Raised w c i
       go true q =
           let e = eqb-true i j q in
-          let r = or-on (markAt (wiresOf w) j) _ (ap (markAt (wiresOf w)) (sym e) ∙ off) (sym (m .mark) ∙ ap (markAt (wiresOf (o .next))) (sym e) ∙ h) in
+          let r = or-second (markAt (wiresOf w) j) _ (ap (markAt (wiresOf w)) (sym e) ∙ off) (sym (m .mark) ∙ ap (markAt (wiresOf (o .next))) (sym e) ∙ h) in
           byChange bit value (x ∙ ap (λ (k : ℕ). setWire k bit value) (sym e)) (and-left (channelOn w) _ r)
           (λ y. eqb-false _ _ (not-true _ (and-right (channelOn w) _ r)) (ap (λ (k : ℕ). wireOf w k bit) (sym e) ∙ y))
       go false q = clash (sym off ∙ sym (m .otherMarks i from (eqb-false i j q)) ∙ h)

@@ -7,12 +7,12 @@ use native.Mathlib.Omega.{arith}
 use lib.Dec.{eqb, ltb, leb}
 use lib.ListN.{length}
 use borrow.Author.Tests.{eqb-true, eqb-false, ltb-true, leb-true, lt-ltb, eq-eqb}
-use Rattle.base.specs.Pick.{pick-ind, and-left, and-right, and-true}
+use Rattle.base.specs.Pick.{or-either, pick-ind, and-left, and-right, and-true}
 use Rattle.registers.specs.Registers.{on0, on1, payloadLegal, readLegal, reachable}
 use Rattle.wires.specs.Groups.{soundWires}
 use Rattle.pieces.specs.Pieces.{nextSize}
 use Rattle.pieces.specs.Edges.{next-le, next-pos, next-ok}
-use Rattle.state.specs.Fresh.{freshState, dropped}
+use Rattle.state.specs.Fresh.{freshState}
 use Rattle.state.specs.Upward.{nextOf, handed, afterPiece, afterSuccess}
 use Rattle.state.specs.Status.{pcFree, npFree}
 use Rattle.state.specs.declared.Kind.{Kind}
@@ -26,10 +26,6 @@ use Rattle.state.specs.declared.Write.the-variants.{Empty, Held}
 use Rattle.state.specs.declared.Peripheral.{Peripheral}
 use Rattle.state.specs.declared.State.{State}
 use Rattle.sound.specs.Sound.{within, shortSize, ioMade, madeAs, requestMade, sentRight, soundRequest, soundWrite, nothingHeld, soundPeripheral, sound, fitsRequest, fitsWrite, fitsConfig, fitsPeripheral, fits, Sound}
-
-or-either : (a b : Bool) → a || b ≡ true → (a ≡ true) ⊎ (b ≡ true)
-or-either true b e = inl refl
-or-either false b e = inr e
 
 -- ---- sizes
 
@@ -330,7 +326,7 @@ no-write : (w : Write) → pcFree w ≡ true → w ≡ Empty
 no-write Empty e = refl
 no-write (Held w) e = absurd (true≢false (sym e))
 
-no-request : (n : Np) → npFree n ≡ true → n ≡ Free
+pub no-request : (n : Np) → npFree n ≡ true → n ≡ Free
 no-request Free e = refl
 no-request (Waiting q) e = absurd (true≢false (sym e))
 no-request (Ready q sent) e = absurd (true≢false (sym e))
@@ -403,7 +399,7 @@ pub free-made : soundRequest Free ≡ true
 unfolding soundRequest
 free-made = refl
 
-sent-none : (k : Kind) (q : Request) → 1 ≤ q .length → sentRight k q 0 ≡ true
+pub sent-none : (k : Kind) (q : Request) → 1 ≤ q .length → sentRight k q 0 ≡ true
 sent-none MemoryRead q h = and-true (lt-ltb 0 (q .length) h) refl
 sent-none IoRead q h = and-true (lt-ltb 0 (q .length) h) refl
 sent-none IoWrite q h = refl

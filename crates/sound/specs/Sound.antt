@@ -1,7 +1,7 @@
 -- Sound state (01, Wires, last paragraph): one conjunct for each clause. "the request's serial the last given" holds by the state's shape:
 -- the one serial of the peripheral channel is the held request's.
 use Prim.Native.Nat.{ℕ, _+_, _*_, _%_, _^_}
-use mathlib.Core.Bool.{Bool, true, false, _&&_, _||_, not}
+use mathlib.Core.Bool.{Bool, true, _&&_, _||_}
 use mathlib.Core.Path.{_≡_}
 use lib.Dec.{eqb, ltb, leb}
 use lib.ListN.{length}

@@ -2,10 +2,8 @@
 use Prim.Native.Nat.{ℕ}
 use Rattle.registers.specs.Registers.{freshConfig}
 use Rattle.wires.specs.Groups.{freshWires}
-use Rattle.state.specs.declared.Np.{Np}
-use Rattle.state.specs.declared.Np.the-variants.{Free, Waiting, Ready, Failed}
-use Rattle.state.specs.declared.Write.{Write}
-use Rattle.state.specs.declared.Write.the-variants.{Empty, Held}
+use Rattle.state.specs.declared.Np.the-variants.{Free}
+use Rattle.state.specs.declared.Write.the-variants.{Empty}
 use Rattle.state.specs.declared.Peripheral.{Peripheral}
 use Rattle.state.specs.declared.State.{State}
 

@@ -1,6 +1,5 @@
 -- What GET_PC would hand over next (01, Requests, answers, pieces). PC_AVAIL, GET_PC's credit and the statements read this view.
 use Prim.Native.Nat.{ℕ, _+_}
-use mathlib.Core.Bool.{Bool, true, false}
 use mathlib.Core.List.{List, [], _∷_}
 use lib.Dec.{eqb}
 use Rattle.base.specs.Pick.{pick}

@@ -7,15 +7,15 @@ use native.Mathlib.Omega.{arith}
 use lib.Bits.{bitAnd, and-le-r}
 use lib.Pow.{pow-lt}
 use lib.Dec.{eqb}
-use lib.ListN.{getD, set, length, take, drop, length-take, drop-of-length-le}
+use lib.ListN.{getD, length, take, drop, length-take, drop-of-length-le}
 use lib.Seq.{drop-cons, getD-take, getD-set-same, getD-set-other, set-getD}
 use borrow.Author.Tests.{eqb-true, eqb-false, eq-eqb, ne-eqb}
 use Rattle.base.specs.Pick.{pick, pick-ind, and-left}
 use Rattle.wires.specs.Table.{rowAt, isGroup}
-use Rattle.wires.specs.Rows.{isUp, InTable, in-table, defined-bit, Settable, settable-bit, row-right}
+use Rattle.wires.specs.Rows.{InTable, in-table, defined-bit, Settable, settable-bit, row-right}
 use Rattle.wires.specs.Nibbles.{bitOf, binary, and-bit, and-one, nibble-bit, nibble-small, mask-inside, set-bit, same-bits}
-use Rattle.wires.specs.Kept.{clash, six, whole-with, whole-level, whole-marks, whole-pair}
-use Rattle.wires.specs.Groups.{levelAt, markAt, withGroup, nibble, isDown, putPair, putPairs, definedBit, settable, setLevel, setWire, readWire, differs, enabled, resetGroup, platformWires, wholeWires}
+use Rattle.wires.specs.Kept.{clash, whole-with, whole-level, whole-marks, whole-pair}
+use Rattle.wires.specs.Groups.{levelAt, markAt, withGroup, nibble, isDown, putPair, putPairs, definedBit, settable, setLevel, setWire, readWire, resetGroup, platformWires, wholeWires}
 use Rattle.wires.specs.declared.Wires.{Wires}
 
 -- ---- one group changed

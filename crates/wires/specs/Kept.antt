@@ -3,14 +3,14 @@ use Prim.Native.Nat.{ℕ, zero, suc, _+_, _-_, _*_, _/_, _%_, _^_, _≤_, _<_}
 use mathlib.Core.Bool.{Bool, true, false, _&&_, _||_, not, true≢false}
 use mathlib.Core.List.{List, [], _∷_}
 use mathlib.Core.Path.{_≡_, refl, sym, ap, subst, _∙_}
-use mathlib.Core.Logic.{_⊎_, inl, inr, ⊎-elim}
+use mathlib.Core.Logic.{_⊎_, ⊎-elim}
 use native.Mathlib.Omega.{arith}
 use lib.Bits.{bitAnd, and-le-r}
 use lib.Pow.{pow-lt}
 use lib.Dec.{eqb, leb}
 use lib.ListN.{getD, set, length, length-set}
 use borrow.Author.Tests.{leb-true, le-leb, eqb-true, ne-eqb, not-true, not-false}
-use Rattle.base.specs.Pick.{pick, pick-ind, and-left, and-right, and-true}
+use Rattle.base.specs.Pick.{or-either, pick, pick-ind, and-left, and-right, and-true}
 use Rattle.wires.specs.Table.{rowAt, isGroup}
 use Rattle.wires.specs.Rows.{isUp, row-right, in-table, DefinedBit, Settable, settable-bit}
 use Rattle.wires.specs.Turn.{placeAfter}
@@ -188,10 +188,6 @@ pairs-kept w [] s = s
 pairs-kept w (i ∷ []) s = s
 pairs-kept w (i ∷ b ∷ ps) s = pairs-kept (putPair w i b) ps (pair-kept w i b s)
 
-pub or-cases : (a b : Bool) → a || b ≡ true → (a ≡ true) ⊎ (b ≡ true)
-or-cases true b e = inl refl
-or-cases false b e = inr e
-
 -- the up rows by their index
 up-row : (i : ℕ) → 2 ≤ i → i ≤ 7 → rowAt (i - 2) .down ≡ false → isUp i ≡ true
 up-row i h l e =
@@ -204,7 +200,7 @@ wire-kept on w i bit value t s =
     let d = t .defined in
     sound-with i _ _ (d .from) (d .upto)
     (clean-nibble i (value * 2 ^ bit) (2 ^ bit) (d .from) (d .upto) (pow-lt (d .small)) (alone d) s)
-    (λ e. ⊎-elim (s .marks i (d .from) (d .upto)) (λ o. (up-row i (d .from) (d .upto) (t .up), and-left on _ o)) (or-cases (markAt w i) _ e))
+    (λ e. ⊎-elim (s .marks i (d .from) (d .upto)) (λ o. (up-row i (d .from) (d .upto) (t .up), and-left on _ o)) (or-either (markAt w i) _ e))
     s
   where
     alone : DefinedBit i bit → (k : ℕ) → k < 4 → bitOf (rowAt (i - 2) .defined) k ≡ 0 → bitOf (2 ^ bit) k ≡ 0

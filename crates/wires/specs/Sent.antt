@@ -11,8 +11,8 @@ use borrow.Author.Tests.{le-leb}
 use Rattle.base.specs.Pick.{pick}
 use Rattle.wires.specs.Table.{rowAt}
 use Rattle.wires.specs.Turn.{turn, after, placeAfter}
-use Rattle.wires.specs.Round.{none, place-below, steps, Next, takes, nears, turn-nears}
-use Rattle.wires.specs.Kept.{set-cases, sent-below}
+use Rattle.wires.specs.Round.{steps, Next, takes, nears, turn-nears}
+use Rattle.wires.specs.Kept.{set-cases}
 use Rattle.wires.specs.Changes.{mark-other}
 use Rattle.wires.specs.Groups.{levelAt, markAt, withGroup, senders, senderSize, waiting, sent, packetOf, unmarked, afterSent, packetBytes, anyPending}
 use Rattle.wires.specs.declared.Wires.{Wires}

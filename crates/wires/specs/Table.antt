@@ -1,5 +1,5 @@
 -- The wire table (01, Wires; reset values of 2 and 3: 004, tables 9 and 10): index, direction, defined bits, reset value.
-use Prim.Native.Nat.{ℕ, _-_}
+use Prim.Native.Nat.{ℕ}
 use mathlib.Core.Bool.{Bool, true, false, _&&_}
 use mathlib.Core.List.{List, [], _∷_, map}
 use lib.ListN.{getD}

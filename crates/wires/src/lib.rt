@@ -1,10 +1,8 @@
 // Virtual wires: the table of six rows, and the six groups by value.
 ghost use mathlib.Core.Path.{_≡_};
-ghost use mathlib.Core.Bool.{true, _&&_};
+ghost use mathlib.Core.Bool.{true};
 ghost use Prim.Native.Nat.{_+_, _-_, _*_, _≤_, _<_};
 ghost use lib.ListN.{length, take};
-ghost use lib.Bits.{bitAnd};
-ghost use lib.Dec.{eqb, ltb};
 ghost use Rattle.wires.specs.Turn.{after};
 ghost use Rattle.wires.specs.Sending.{packetAnd, leftBy, asked, sending, Sendable};
 ghost use Rattle.wires.specs.Groups.{senders, groupOf, freshWires, withGroup, levelAt, nibble, putPair, putPairs, definedBit, settable, setWire, readWire, anyPending, differs, enabled, disabled, placed, resetGroup, platformWires, onlyDefined, undefinedZero, marksRight, placeRight, soundWires};
