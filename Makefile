@@ -4,12 +4,15 @@ ARCHIVE = target/staticlib/libespi.a
 SOURCES = $(shell find crates -name '*.rt' -o -name '*.antt') crates.txt
 
 # The archive is x86-64 code: elsewhere a cross compiler and an emulator stand in (tests/tools.sh installs them).
+# QUICK: as many calls as take half a minute.
 ifeq ($(shell uname -m),x86_64)
 X86_CC = $(CC)
 X86_RUN =
+QUICK = 10000000
 else
 X86_CC = x86_64-linux-gnu-gcc -static
 X86_RUN = qemu-x86_64-static
+QUICK = 400000
 endif
 
 .PHONY: run archive boundary differential differential-quick bench clean
@@ -47,7 +50,7 @@ differential: $(ARCHIVE)
 
 differential-quick: $(ARCHIVE)
 	cd tests/differential && cargo build --release
-	$(DIFFERENTIAL) 400000
+	$(DIFFERENTIAL) $(QUICK)
 	$(DIFFERENTIAL) --faults
 
 clean:
