@@ -8,7 +8,7 @@ SOURCES = $(shell find crates -name '*.rt' -o -name '*.antt') crates.txt
 ifeq ($(shell uname -m),x86_64)
 X86_CC = $(CC)
 X86_RUN =
-QUICK = 10000000
+QUICK = 20000000
 else
 X86_CC = x86_64-linux-gnu-gcc -static
 X86_RUN = qemu-x86_64-static
