@@ -157,6 +157,13 @@ def contracts(page, crates):
     return listed
 
 
+def told(name, faults, right):
+    """Prints the faults, or what is right; the exit status."""
+    for text in faults or [right + ": ok"]:
+        print(f"{name}: {text}")
+    return 1 if faults else 0
+
+
 def main():
     crates = source()
     listed = contracts("docs/CONTRACTS.md", crates)
@@ -172,12 +179,7 @@ def main():
                 fault(f"{crate}::{name} is exported and has a requires")
     cited = citations("docs/PROMISES.md") | citations("docs/CONTRACTS.md")
     proofs("docs/PROMISES.md")
-    for text in faults:
-        print("listed: " + text)
-    if faults:
-        return 1
-    print(f"listed: {len(listed)} public functions, {len(cited)} statements: ok")
-    return 0
+    return told("listed", faults, f"{len(listed)} public functions, {len(cited)} statements")
 
 
 if __name__ == "__main__":

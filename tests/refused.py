@@ -74,12 +74,8 @@ def main():
     for crate, name in public:
         if left.get((crate, name), 0) < 2:
             faults.append(f"{crate}::{name}: left unproved by {left.get((crate, name), 0)} edits")
-    for text in faults:
-        print("refused: " + text)
-    if faults:
-        return 1
-    print(f"refused: {edits} edits, {wrong} wrong bodies and definitions, each refused where it says; {len(public)} public functions: ok")
-    return 0
+    right = f"{edits} edits, {wrong} wrong bodies and definitions, each refused where it says; {len(public)} public functions"
+    return listed.told("refused", faults, right)
 
 
 if __name__ == "__main__":

@@ -16,7 +16,6 @@ pub mod Bound
 pub mod BoundProof
 pub mod WireRunsProof
 pub mod Demand3Owed
-pub mod Demand3Read
 pub mod Demand3Before
 pub mod Demand3Deliver
 pub mod Demand3Proof
