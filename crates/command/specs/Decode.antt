@@ -15,6 +15,8 @@ use Rattle.command.specs.declared.Opcode.{Opcode}
 use Rattle.command.specs.declared.Opcode.the-variants as O
 use Rattle.command.specs.declared.Channels.{Channels}
 use Rattle.command.specs.declared.Head.{Head}
+use Rattle.command.specs.declared.PeripheralCommand.the-variants as P
+use Rattle.command.specs.declared.WiresCommand.the-variants as W
 use Rattle.command.specs.declared.Command.{Command}
 use Rattle.command.specs.declared.Command.the-variants as C
 use Rattle.command.specs.declared.Decoded.{Decoded}
@@ -57,16 +59,16 @@ shortAddress MemoryWrite b = address4 b 1
 
 -- the command that bytes of the right length are
 abbrev pub commandOf : Opcode → List ℕ → Command
-commandOf O.PutPc b = C.PutPc (headOf b)
-commandOf O.GetPc b = C.GetPc
-commandOf O.PutNp b = C.PutNp (headOf b)
-commandOf O.PutVwire b = C.PutVwire (groupCount (getD b 1 0))
-commandOf O.GetVwire b = C.GetVwire
+commandOf O.PutPc b = C.Peripheral (P.PutPc (headOf b))
+commandOf O.GetPc b = C.Peripheral P.GetPc
+commandOf O.PutNp b = C.Peripheral (P.PutNp (headOf b))
+commandOf O.PutVwire b = C.Wires (W.PutVwire (groupCount (getD b 1 0)))
+commandOf O.GetVwire b = C.Wires W.GetVwire
 commandOf O.GetConfiguration b = C.GetConfiguration (registerAddress b)
 commandOf O.SetConfiguration b = C.SetConfiguration (registerAddress b) (registerData b)
 commandOf O.GetStatus b = C.GetStatus
 commandOf O.Reset b = C.Reset
-commandOf (O.Short a n) b = C.Short a (record { address = shortAddress a b; size = n })
+commandOf (O.Short a n) b = C.Peripheral (P.Short a (record { address = shortAddress a b; size = n }))
 commandOf O.Unknown b = C.Reset
 
 -- ---- the decoder
@@ -105,16 +107,12 @@ decode on b = pick (eqb (length b) 0) (Refused 12) (decodeAs on b (opcodeOf (get
 -- ---- the CRC check: "checked only while register 008h bit 31 is 1"; RESET has none
 
 abbrev pub hasCrc : Command → Bool
-hasCrc (C.PutPc h) = true
-hasCrc C.GetPc = true
-hasCrc (C.PutNp h) = true
-hasCrc (C.PutVwire n) = true
-hasCrc C.GetVwire = true
+hasCrc (C.Peripheral c) = true
+hasCrc (C.Wires c) = true
 hasCrc (C.GetConfiguration a) = true
 hasCrc (C.SetConfiguration a v) = true
 hasCrc C.GetStatus = true
 hasCrc C.Reset = false
-hasCrc (C.Short a p) = true
 
 -- the last byte is the CRC of all before it
 abbrev pub crcGood : List ℕ → Bool

@@ -20,7 +20,11 @@ use Rattle.command.specs.declared.Opcode.{Opcode}
 use Rattle.command.specs.declared.Opcode.the-variants as O
 use Rattle.command.specs.declared.Channels.{Channels}
 use Rattle.command.specs.declared.Head.{Head}
-use Rattle.command.specs.declared.Place.{Place}
+use Rattle.command.specs.declared.Span.{Span}
+use Rattle.command.specs.declared.PeripheralCommand.{PeripheralCommand}
+use Rattle.command.specs.declared.PeripheralCommand.the-variants as P
+use Rattle.command.specs.declared.WiresCommand.{WiresCommand}
+use Rattle.command.specs.declared.WiresCommand.the-variants as W
 use Rattle.command.specs.declared.Command.{Command}
 use Rattle.command.specs.declared.Command.the-variants as C
 use Rattle.command.specs.declared.Decoded.{Decoded}
@@ -29,17 +33,23 @@ use Rattle.command.specs.declared.Decoded.the-variants.{Known, Refused}
 -- ---- how many bytes
 
 -- so many bytes a command has; the data of a write and the pairs of PUT_VWIRE are among them
+abbrev pub PeripheralLength : PeripheralCommand → ℕ → Type 0
+PeripheralLength (P.PutPc h) m = m ≡ 4 + pick (h .wide) 8 4 + h .length + 1
+PeripheralLength P.GetPc m = m ≡ 2
+PeripheralLength (P.PutNp h) m = m ≡ 4 + pick (h .wide) 8 4 + 1
+PeripheralLength (P.Short a s) m = m ≡ shortNeed a (s .size)
+
+abbrev pub WiresLength : WiresCommand → ℕ → Type 0
+WiresLength (W.PutVwire n) m = m ≡ 2 + n * 2 + 1
+WiresLength W.GetVwire m = m ≡ 2
+
 abbrev pub CommandLength : Command → ℕ → Type 0
-CommandLength (C.PutPc h) m = m ≡ 4 + pick (h .wide) 8 4 + h .length + 1
-CommandLength C.GetPc m = m ≡ 2
-CommandLength (C.PutNp h) m = m ≡ 4 + pick (h .wide) 8 4 + 1
-CommandLength (C.PutVwire n) m = m ≡ 2 + n * 2 + 1
-CommandLength C.GetVwire m = m ≡ 2
+CommandLength (C.Peripheral c) m = PeripheralLength c m
+CommandLength (C.Wires c) m = WiresLength c m
 CommandLength (C.GetConfiguration a) m = m ≡ 4
 CommandLength (C.SetConfiguration a v) m = m ≡ 8
 CommandLength C.GetStatus m = m ≡ 2
 CommandLength C.Reset m = 2 ≤ m
-CommandLength (C.Short a p) m = m ≡ shortNeed a (p .size)
 
 not-both : {t : Bool} → t ≡ true → t ≡ false → ⊥
 not-both e f = subst T (sym e ∙ f) tt
@@ -80,22 +90,35 @@ addressLimit IoWrite = 65536
 addressLimit MemoryRead = 4294967296
 addressLimit MemoryWrite = 4294967296
 
-pub record PlaceFits (a : Access) (p : Place) : Type 0 where
-  pub size : SizeFits (p .size)
-  pub address : p .address < addressLimit a
+pub record SpanFits (a : Access) (s : Span) : Type 0 where
+  pub size : SizeFits (s .size)
+  pub address : s .address < addressLimit a
+
+abbrev pub PeripheralNumbers : PeripheralCommand → Type 0
+PeripheralNumbers (P.PutPc h) = HeadFits h
+PeripheralNumbers P.GetPc = Unit {0}
+PeripheralNumbers (P.PutNp h) = HeadFits h
+PeripheralNumbers (P.Short a s) = SpanFits a s
+
+abbrev pub WiresNumbers : WiresCommand → Type 0
+WiresNumbers (W.PutVwire n) = (1 ≤ n) × (n ≤ 64)
+WiresNumbers W.GetVwire = Unit {0}
 
 abbrev pub NumbersFit : Command → Type 0
-NumbersFit (C.PutPc h) = HeadFits h
-NumbersFit C.GetPc = Unit {0}
-NumbersFit (C.PutNp h) = HeadFits h
-NumbersFit (C.PutVwire n) = (1 ≤ n) × (n ≤ 64)
-NumbersFit C.GetVwire = Unit {0}
+NumbersFit (C.Peripheral c) = PeripheralNumbers c
+NumbersFit (C.Wires c) = WiresNumbers c
 NumbersFit (C.GetConfiguration a) = a < 4096
 NumbersFit (C.SetConfiguration a v) = (a < 4096) × (v < 4294967296)
 NumbersFit C.GetStatus = Unit {0}
 NumbersFit C.Reset = Unit {0}
-NumbersFit (C.Short a p) = PlaceFits a p
 
+abbrev pub PeripheralFits : PeripheralCommand → List ℕ → Type 0
+PeripheralFits c b = PeripheralLength c (length b) × PeripheralNumbers c
+
+abbrev pub WiresFits : WiresCommand → List ℕ → Type 0
+WiresFits c b = WiresLength c (length b) × WiresNumbers c
+
+-- at a channel's command this computes to the channel's own
 abbrev pub CommandFits : Command → List ℕ → Type 0
 CommandFits c b = CommandLength c (length b) × NumbersFit c
 
@@ -180,17 +203,23 @@ numbers-as O.Unknown b h s = tt
 
 -- ---- what let it in
 
+abbrev pub peripheralOpcode : PeripheralCommand → Opcode
+peripheralOpcode (P.PutPc h) = O.PutPc
+peripheralOpcode P.GetPc = O.GetPc
+peripheralOpcode (P.PutNp h) = O.PutNp
+peripheralOpcode (P.Short a s) = O.Short a (s .size)
+
+abbrev pub wiresOpcode : WiresCommand → Opcode
+wiresOpcode (W.PutVwire n) = O.PutVwire
+wiresOpcode W.GetVwire = O.GetVwire
+
 abbrev pub opcodeFor : Command → Opcode
-opcodeFor (C.PutPc h) = O.PutPc
-opcodeFor C.GetPc = O.GetPc
-opcodeFor (C.PutNp h) = O.PutNp
-opcodeFor (C.PutVwire n) = O.PutVwire
-opcodeFor C.GetVwire = O.GetVwire
+opcodeFor (C.Peripheral c) = peripheralOpcode c
+opcodeFor (C.Wires c) = wiresOpcode c
 opcodeFor (C.GetConfiguration a) = O.GetConfiguration
 opcodeFor (C.SetConfiguration a v) = O.SetConfiguration
 opcodeFor C.GetStatus = O.GetStatus
 opcodeFor C.Reset = O.Reset
-opcodeFor (C.Short a p) = O.Short a (p .size)
 
 opcode-as : (op : Opcode) (b : List ℕ) → opcodeKnown op b ≡ true → op ≡ opcodeFor (commandOf op b)
 opcode-as O.PutPc b k = refl

@@ -53,24 +53,34 @@ pub struct Head {
 }
 
 // Where a short access goes, and its size in bytes.
-pub struct Place {
+pub struct Span {
     pub address: u64,
     pub size: u8,
 }
 
-// A decoded command; the data of a write and the pairs of PUT_VWIRE stay in the command's bytes.
-pub enum Command {
+// A command for the peripheral channel; the data of a write stay in the command's bytes.
+pub enum PeripheralCommand {
     PutPc(Head),
     GetPc,
     PutNp(Head),
+    Short(Access, Span),
+}
+
+// A command for the wires; the pairs of PUT_VWIRE stay in the command's bytes.
+pub enum WiresCommand {
     // The group count.
     PutVwire(u32),
     GetVwire,
+}
+
+// A decoded command, under the channel that it is for; the last four are for none.
+pub enum Command {
+    Peripheral(PeripheralCommand),
+    Wires(WiresCommand),
     GetConfiguration(u32),
     SetConfiguration(u32, u32),
     GetStatus,
     Reset,
-    Short(Access, Place),
 }
 
 // The command, or the number of the refusal.
@@ -351,11 +361,11 @@ fn command_of(op: Opcode, b: &[u8]) -> Command
     ensures { λ r. ⌜ r ≡ commandOf op (now (b .entry)) ⌝ }
 {
     match op {
-        Opcode::PutPc => Command::PutPc(head_of(b)),
-        Opcode::GetPc => Command::GetPc,
-        Opcode::PutNp => Command::PutNp(head_of(b)),
-        Opcode::PutVwire => Command::PutVwire(group_count(b[1])),
-        Opcode::GetVwire => Command::GetVwire,
+        Opcode::PutPc => Command::Peripheral(PeripheralCommand::PutPc(head_of(b))),
+        Opcode::GetPc => Command::Peripheral(PeripheralCommand::GetPc),
+        Opcode::PutNp => Command::Peripheral(PeripheralCommand::PutNp(head_of(b))),
+        Opcode::PutVwire => Command::Wires(WiresCommand::PutVwire(group_count(b[1]))),
+        Opcode::GetVwire => Command::Wires(WiresCommand::GetVwire),
         Opcode::GetConfiguration => Command::GetConfiguration(register_address(b)),
         Opcode::SetConfiguration => Command::SetConfiguration(
             register_address(b),
@@ -363,13 +373,13 @@ fn command_of(op: Opcode, b: &[u8]) -> Command
         ),
         Opcode::GetStatus => Command::GetStatus,
         Opcode::Reset => Command::Reset,
-        Opcode::Short(a, n) => Command::Short(
+        Opcode::Short(a, n) => Command::Peripheral(PeripheralCommand::Short(
             a,
-            Place {
+            Span {
                 address: short_address(a, b),
                 size: n,
             },
-        ),
+        )),
         Opcode::Unknown => Command::Reset,
     }
 }
@@ -449,16 +459,12 @@ fn has_crc(c: Command) -> bool
     ensures { λ r. ⌜ r ≡ hasCrc c ⌝ }
 {
     match c {
-        Command::PutPc(_) => true,
-        Command::GetPc => true,
-        Command::PutNp(_) => true,
-        Command::PutVwire(_) => true,
-        Command::GetVwire => true,
+        Command::Peripheral(_) => true,
+        Command::Wires(_) => true,
         Command::GetConfiguration(_) => true,
         Command::SetConfiguration(_, _) => true,
         Command::GetStatus => true,
         Command::Reset => false,
-        Command::Short(_, _) => true,
     }
 }
 

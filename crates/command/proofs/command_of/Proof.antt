@@ -79,7 +79,7 @@ returns : tie.Need-returns
 returns c = simp (c .before .enum-told .given .1, c .head-of .ensures)
 
 returns-2 : tie.Need-returns-2
-returns-2 c = search needs
+returns-2 c = simp (c .enum-told2 .given .1)
 
 returns-3 : tie.Need-returns-3
 returns-3 c = simp (c .before .enum-told3 .given .1, c .head-of2 .ensures)
@@ -88,7 +88,7 @@ returns-4 : tie.Need-returns-4
 returns-4 c = simp (c .before .before .enum-told4 .given .1, c .group-count .ensures .0)
 
 returns-5 : tie.Need-returns-5
-returns-5 c = search needs
+returns-5 c = simp (c .enum-told5 .given .1)
 
 returns-6 : tie.Need-returns-6
 returns-6 c = simp (c .before .enum-told6 .given .1, c .register-address .ensures)
