@@ -1,7 +1,9 @@
-// What an exchange or a board call does, as data: a plan names bytes by place and count only.
+// What an exchange or a board call does, as data: it names bytes by place and count only.
 use state::Completion;
+use state::Peripheral;
 use state::State;
 use wires::Packet;
+use wires::Wires;
 
 // The response byte.
 pub enum Response {
@@ -19,10 +21,10 @@ pub enum Body {
     Groups(Packet),
 }
 
-// The reply: none, or response, body and status.
-pub enum Answer {
+// What a channel says: nothing, or response and body. The status, which is all channels', is added above them.
+pub enum Say {
     Silent,
-    Said(Response, Body, u32),
+    Said(Response, Body),
 }
 
 // Data of the call that goes to the start of a store: from where, and how many bytes.
@@ -31,9 +33,32 @@ pub enum Kept {
     Data(u32, u32),
 }
 
+pub struct Out {
+    pub number: u8,
+    pub say: Say,
+    pub kept: Kept,
+}
+
+// A channel's change: its own next part, and what goes out.
+pub struct PeripheralChange {
+    pub next: Peripheral,
+    pub out: Out,
+}
+
+pub struct WiresChange {
+    pub next: Wires,
+    pub out: Out,
+}
+
+// The reply: none, or response, body and status.
+pub enum Reply {
+    Silent,
+    Said(Response, Body, u32),
+}
+
 pub struct Plan {
     pub number: u8,
-    pub answer: Answer,
+    pub reply: Reply,
     pub next: State,
     pub kept: Kept,
 }

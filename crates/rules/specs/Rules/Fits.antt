@@ -3,8 +3,8 @@ use Prim.Native.Nat.{ℕ, _+_, _≤_}
 use Rattle.state.specs.declared.Completion.{Completion}
 use Rattle.rules.specs.declared.Body.{Body}
 use Rattle.rules.specs.declared.Body.the-variants as B
-use Rattle.rules.specs.declared.Answer.{Answer}
-use Rattle.rules.specs.declared.Answer.the-variants.{Silent, Said}
+use Rattle.rules.specs.declared.Reply.{Reply}
+use Rattle.rules.specs.declared.Reply.the-variants.{Silent, Said}
 use Rattle.rules.specs.declared.Kept.{Kept}
 use Rattle.rules.specs.declared.Kept.the-variants as K
 use Rattle.rules.specs.declared.Plan.{Plan}
@@ -20,9 +20,9 @@ BodyFits (B.Word v) = Unit {0}
 BodyFits (B.Piece c) = PieceFits c
 BodyFits (B.Groups p) = Unit {0}
 
-abbrev pub AnswerFits : Answer → Type 0
-AnswerFits Silent = Unit {0}
-AnswerFits (Said response body status) = BodyFits body
+abbrev pub ReplyFits : Reply → Type 0
+ReplyFits Silent = Unit {0}
+ReplyFits (Said response body status) = BodyFits body
 
 -- n bytes from a place on, out of m bytes, into a store of at least `room`
 pub record DataFits (at n m room : ℕ) : Type 0 where
@@ -35,5 +35,5 @@ KeptFits (K.Data at n) m room = DataFits at n m room
 
 -- the data of an exchange goes to the write store
 pub record PlanFits (m : ℕ) (p : Plan) : Type 0 where
-  pub answer : AnswerFits (p .answer)
+  pub reply : ReplyFits (p .reply)
   pub kept : KeptFits (p .kept) m 256

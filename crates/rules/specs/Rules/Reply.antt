@@ -6,11 +6,11 @@ use Rattle.base.specs.Bytes.{low2, low4}
 use Rattle.crc.specs.Crc.{crc}
 use Rattle.wires.specs.Groups.{packetBytes}
 use Rattle.state.specs.declared.Completion.{Completion}
-use Rattle.rules.specs.Plan.{responseByte}
+use Rattle.rules.specs.Rules.Out.{responseByte}
 use Rattle.rules.specs.declared.Body.{Body}
 use Rattle.rules.specs.declared.Body.the-variants as B
-use Rattle.rules.specs.declared.Answer.{Answer}
-use Rattle.rules.specs.declared.Answer.the-variants.{Silent, Said}
+use Rattle.rules.specs.declared.Reply.{Reply}
+use Rattle.rules.specs.declared.Reply.the-variants.{Silent, Said}
 use Rattle.rules.specs.declared.Kept.{Kept}
 use Rattle.rules.specs.declared.Kept.the-variants as K
 
@@ -32,7 +32,7 @@ bodyBytes (B.Groups p) reads = packetBytes p
 unfoldable pub closed : List ℕ → ℕ → List ℕ
 closed m status = (m ++ low2 status) ++ (crc (m ++ low2 status) ∷ [])
 
-unfoldable pub replyBytes : Answer → List ℕ → List ℕ
+unfoldable pub replyBytes : Reply → List ℕ → List ℕ
 replyBytes Silent reads = []
 replyBytes (Said response body status) reads = closed (responseByte response ∷ bodyBytes body reads) status
 

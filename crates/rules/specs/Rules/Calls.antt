@@ -6,12 +6,17 @@ use lib.Dec.{ltb}
 use lib.ListN.{length}
 use Rattle.base.specs.Pick.{pick}
 use Rattle.base.specs.Bytes.{over}
+use Rattle.state.specs.Fresh.{freshState}
 use Rattle.state.specs.declared.State.{State}
 use Rattle.layout.specs.Layout.{stateLength, packed, unpacked, holds}
-use Rattle.rules.specs.Decide as D
-use Rattle.rules.specs.Board as B
-use Rattle.rules.specs.Reply.{replyBytes, keptBytes}
-use Rattle.rules.specs.Step.{replyLength, writeLength, readLength, lookLength, takeLength, succeeded}
+use Rattle.rules.specs.Rules.Reset.{Reset, espiReset, platformReset}
+use Rattle.rules.specs.Rules.Peripheral as P
+use Rattle.rules.specs.Rules.Wires as W
+use Rattle.rules.specs.Rules.Channel.{peripheral, wires}
+use Rattle.rules.specs.Rules.Lift as L
+use Rattle.rules.specs.Rules.Exchange as E
+use Rattle.rules.specs.Rules.Reply.{replyBytes, keptBytes}
+use Rattle.rules.specs.Rules.Step.{replyLength, writeLength, readLength, lookLength, takeLength}
 use Rattle.rules.specs.declared.Plan.{Plan}
 
 -- number in bits 7:0, value in bits 31:8
@@ -57,25 +62,25 @@ kept s st = over (packed s) st
 -- ---- start and resets
 
 unfoldable pub startCall : List ℕ → Done
-startCall st = pick (ltb (length st) stateLength) (done 10 st) (done 0 (kept B.started st))
+startCall st = pick (ltb (length st) stateLength) (done 10 st) (done 0 (kept freshState st))
 
-unfoldable pub changeCall : (State → State) → List ℕ → Done
-changeCall f st =
+unfoldable pub resetCall : Reset → List ℕ → Done
+resetCall r st =
     pick (ltb (length st) stateLength) (done 10 st)
     (pick (not (holds st)) (done 11 st)
-    (done 0 (kept (f (unpacked st)) st)))
+    (done 0 (kept (E.wasReset r (unpacked st)) st)))
 
 unfoldable pub espiResetCall : List ℕ → Done
-espiResetCall st = changeCall B.espiReset st
+espiResetCall st = resetCall espiReset st
 
 unfoldable pub platformResetCall : List ℕ → Done
-platformResetCall st = changeCall B.platformReset st
+platformResetCall st = resetCall platformReset st
 
 -- ---- the exchange
 
 unfoldable pub exchangePlanned : Plan → (st command reply write read : List ℕ) → Exchanged
 exchangePlanned p st command reply write read =
-    exchanged (word (p .number) (length (replyBytes (p .answer) read))) (kept (p .next) st) (over (replyBytes (p .answer) read) reply)
+    exchanged (word (p .number) (length (replyBytes (p .reply) read))) (kept (p .next) st) (over (replyBytes (p .reply) read) reply)
     (over (keptBytes (p .kept) command) write)
 
 unfoldable pub exchangeCall : (st command reply write read : List ℕ) → Exchanged
@@ -85,7 +90,7 @@ exchangeCall st command reply write read =
     (pick (ltb (length write) writeLength) (exchanged 10 st reply write)
     (pick (ltb (length read) readLength) (exchanged 10 st reply write)
     (pick (not (holds st)) (exchanged 11 st reply write)
-    (exchangePlanned (D.exchange (unpacked st) command) st command reply write read)))))
+    (exchangePlanned (E.exchange (unpacked st) command) st command reply write read)))))
 
 -- ---- the board's calls
 
@@ -94,15 +99,15 @@ lookCall st report =
     pick (ltb (length st) stateLength) (looked 10 report)
     (pick (ltb (length report) lookLength) (looked 10 report)
     (pick (not (holds st)) (looked 11 report)
-    (looked (B.lookNumber (unpacked st .peripheral .request))
-    (over (B.lookReport (unpacked st .peripheral .request) (unpacked st .peripheral .serial)) report))))
+    (looked (P.lookNumber (unpacked st .peripheral .request))
+    (over (P.lookReport (unpacked st .peripheral .request) (unpacked st .peripheral .serial)) report))))
 
 unfoldable pub answerCall : (st read : List ℕ) (serial success : ℕ) (bytes : List ℕ) → Stored
 answerCall st read serial success bytes =
     pick (ltb (length st) stateLength) (stored 10 st read)
     (pick (ltb (length read) readLength) (stored 10 st read)
     (pick (not (holds st)) (stored 11 st read)
-    (let p = B.answer (unpacked st) serial (succeeded success) (length bytes) in
+    (let p = L.settled peripheral (unpacked st) (P.answer serial success bytes) in
     stored (p .number) (kept (p .next) st) (over (keptBytes (p .kept) bytes) read))))
 
 unfoldable pub takeWriteCall : (st write report : List ℕ) → Stored
@@ -111,18 +116,18 @@ takeWriteCall st write report =
     (pick (ltb (length write) writeLength) (stored 10 st report)
     (pick (ltb (length report) takeLength) (stored 10 st report)
     (pick (not (holds st)) (stored 11 st report)
-    (let p = B.takeWrite (unpacked st) in
-    stored (p .number) (kept (p .next) st) (over (B.takeReport (unpacked st .peripheral .write)) report)))))
+    (let p = L.settled peripheral (unpacked st) (P.takeWrite report) in
+    stored (p .number) (kept (p .next) st) (over (P.takeReport (unpacked st .peripheral .write)) report)))))
 
 unfoldable pub setWireCall : (st : List ℕ) (index bit value : ℕ) → Done
 setWireCall st index bit value =
     pick (ltb (length st) stateLength) (done 10 st)
     (pick (not (holds st)) (done 11 st)
-    (let p = B.setWireCall (unpacked st) index bit value in
+    (let p = L.settled wires (unpacked st) (W.setWire index bit value) in
     done (p .number) (kept (p .next) st)))
 
 unfoldable pub readWireCall : (st : List ℕ) (index bit : ℕ) → ℕ
 readWireCall st index bit =
     pick (ltb (length st) stateLength) 10
     (pick (not (holds st)) 11
-    (word (B.readNumber index bit) (B.readValue (unpacked st) index bit)))
+    (word (W.readNumber index bit) (W.readValue (unpacked st .wires) index bit)))

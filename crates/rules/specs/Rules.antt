@@ -1,0 +1,11 @@
+pub mod Reset
+pub mod Out
+pub mod Peripheral
+pub mod Wires
+pub mod Channel
+pub mod Lift
+pub mod Exchange
+pub mod Reply
+pub mod Step
+pub mod Calls
+pub mod Fits

@@ -1,0 +1,55 @@
+-- A channel's change put back into the whole: the one place where a part meets the others. And the plans above all channels.
+use Prim.Native.Nat.{ℕ}
+use Rattle.state.specs.Status.{status}
+use Rattle.state.specs.declared.State.{State}
+use Rattle.rules.specs.Rules.Channel.{Channel, Part, Board, Change, nextOf, outOf, part, put, settle}
+use Rattle.rules.specs.declared.Response.the-variants.{Accept, NonFatal}
+use Rattle.rules.specs.declared.Body.{Body}
+use Rattle.rules.specs.declared.Body.the-variants as B
+use Rattle.rules.specs.declared.Say.{Say}
+use Rattle.rules.specs.declared.Say.the-variants as S
+use Rattle.rules.specs.declared.Kept.the-variants as K
+use Rattle.rules.specs.declared.Reply.{Reply}
+use Rattle.rules.specs.declared.Reply.the-variants.{Silent, Said}
+use Rattle.rules.specs.declared.Plan.{Plan}
+
+-- what a channel says, with a status word
+abbrev pub withStatus : Say → ℕ → Reply
+withStatus S.Silent word = Silent
+withStatus (S.Said response body) word = Said response body word
+
+-- "All other replies show the status after the command"
+unfoldable pub lift : (k : Channel) → State → Change k → Plan
+lift k s x =
+    record {
+      number = outOf k x .number;
+      reply = withStatus (outOf k x .say) (status (put k (nextOf k x) s));
+      next = put k (nextOf k x) s;
+      kept = outOf k x .kept;
+    }
+
+-- a board call's plan
+abbrev pub settled : (k : Channel) → State → Board k → Plan
+settled k s o = lift k s (settle k (s .config) (part k s) o)
+
+-- ---- above all channels
+
+-- a refusal without a reply: "none; unchanged"
+abbrev pub silent : ℕ → State → Plan
+silent number s = record { number = number; reply = Silent; next = s; kept = K.Nothing }
+
+-- accepted, and nothing changes
+abbrev pub show : Body → State → Plan
+show body s = record { number = 0; reply = Said Accept body (status s); next = s; kept = K.Nothing }
+
+-- number 2: "NON_FATAL, 4 bytes; otherwise unchanged"
+abbrev pub nonFatal : State → Plan
+nonFatal s = record { number = 2; reply = Said NonFatal B.Nothing (status s); next = s; kept = K.Nothing }
+
+-- "A write takes effect after its own reply, whose CRC rule and status are the old ones"
+abbrev pub acceptThen : State → State → Plan
+acceptThen old new = record { number = 0; reply = Said Accept B.Nothing (status old); next = new; kept = K.Nothing }
+
+-- accepted without a reply
+abbrev pub quietly : State → Plan
+quietly s = record { number = 0; reply = Silent; next = s; kept = K.Nothing }

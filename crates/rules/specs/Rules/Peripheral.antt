@@ -1,0 +1,250 @@
+-- Channel 0: what its commands and the board's calls make of its own part, under the configuration (01, Replies and refusals; Requests,
+-- answers, pieces). One pick a test, in document 01's order: credit (1), then size (1).
+use Prim.Native.Nat.{ℕ, _+_, _%_, _^_}
+use mathlib.Core.Bool.{Bool, true, false, _&&_, not}
+use mathlib.Core.List.{List, [], _∷_, _++_}
+use lib.Dec.{eqb}
+use lib.ListN.{length, getD, take, drop}
+use Rattle.base.specs.Pick.{pick}
+use Rattle.base.specs.Bytes.{joined4, low2, low4, low8}
+use Rattle.registers.specs.Registers.{payloadSize, readSize}
+use Rattle.registers.specs.declared.Config.{Config}
+use Rattle.command.specs.declared.Access.{Access}
+use Rattle.command.specs.declared.Access.the-variants.{IoRead, IoWrite, MemoryRead, MemoryWrite}
+use Rattle.command.specs.declared.Head.{Head}
+use Rattle.command.specs.declared.Span.{Span}
+use Rattle.command.specs.declared.PeripheralCommand.{PeripheralCommand}
+use Rattle.command.specs.declared.PeripheralCommand.the-variants.{PutPc, GetPc, PutNp, Short}
+use Rattle.state.specs.Fresh.{idle, dropped}
+use Rattle.state.specs.Upward.{upward, handed}
+use Rattle.state.specs.Status.{pcFree, npFree}
+use Rattle.state.specs.declared.Kind.{Kind}
+use Rattle.state.specs.declared.Kind.the-variants as R
+use Rattle.state.specs.declared.Request.{Request}
+use Rattle.state.specs.declared.Np.{Np}
+use Rattle.state.specs.declared.Np.the-variants.{Free, Waiting, Ready, Failed}
+use Rattle.state.specs.declared.Posted.{Posted}
+use Rattle.state.specs.declared.Write.{Write}
+use Rattle.state.specs.declared.Write.the-variants.{Empty, Held}
+use Rattle.state.specs.declared.Peripheral.{Peripheral}
+use Rattle.state.specs.declared.Completion.{Completion}
+use Rattle.sound.specs.Sound.{within}
+use Rattle.rules.specs.Rules.Reset.{Reset, start, espiReset, platformReset}
+use Rattle.rules.specs.Rules.Out.{fatal, accept, defer, number, keep}
+use Rattle.rules.specs.declared.Body.the-variants as B
+use Rattle.rules.specs.declared.Kept.the-variants as K
+use Rattle.rules.specs.declared.Out.{Out}
+use Rattle.rules.specs.declared.PeripheralChange.{PeripheralChange}
+
+abbrev pub change : Peripheral → Out → PeripheralChange
+change p out = record { next = p; out = out }
+
+abbrev pub withRequest : Peripheral → Np → Peripheral
+withRequest p n = record { write = p .write; request = n; serial = p .serial }
+
+-- ---- what a command of the channel is: a posted write, whose data stands from a byte of the command on; a non-posted request; GET_PC
+
+pub data Act : Type 0 where
+  posts : (address length from : ℕ) → Act
+  asks : Request → Act
+  gets : Act
+
+-- "One non-posted request is held, with its tag, payload and read sizes then in force"
+abbrev pub requestOf : Config → Kind → (address length tag bytes : ℕ) → Request
+requestOf c kind address length tag bytes =
+    record {
+      kind = kind;
+      address = address;
+      length = length;
+      tag = tag;
+      payload = payloadSize (c .r010);
+      readsize = readSize (c .r010);
+      bytes = bytes;
+    }
+
+-- an I/O write's bytes as a number, in bus order, 0 past its size
+abbrev pub bytesOf : ℕ → List ℕ → ℕ
+bytesOf n b = let d = take n (drop 3 b) in joined4 (getD d 0 0) (getD d 1 0) (getD d 2 0) (getD d 3 0)
+
+-- "Short: .. data follows for a write. Tag 0. An I/O write is non-posted"
+abbrev pub shortAct : Config → Access → Span → List ℕ → Act
+shortAct c IoRead at b = asks (requestOf c R.IoRead (at .address) (at .size) 0 0)
+shortAct c IoWrite at b = asks (requestOf c R.IoWrite (at .address) (at .size) 0 (bytesOf (at .size) b))
+shortAct c MemoryRead at b = asks (requestOf c R.MemoryRead (at .address) (at .size) 0 0)
+shortAct c MemoryWrite at b = posts (at .address) (at .size) 5
+
+-- where the data of a PUT_PC begins in the command
+abbrev pub dataAt : Head → ℕ
+dataAt h = pick (h .wide) 12 8
+
+abbrev pub actOf : Config → PeripheralCommand → List ℕ → Act
+actOf c (PutPc h) b = posts (h .address) (h .length) (dataAt h)
+actOf c GetPc b = gets
+actOf c (PutNp h) b = asks (requestOf c R.MemoryRead (h .address) (h .length) (h .tag) 0)
+actOf c (Short a at) b = shortAct c a at b
+
+-- ---- posted writes
+
+-- "One posted write is held with its payload size"
+abbrev pub holding : Peripheral → ℕ → ℕ → ℕ → Peripheral
+holding p address length payload =
+    record { write = Held (record { address = address; length = length; payload = payload }); request = p .request; serial = p .serial }
+
+-- "no credit (posted write while one is held ..)", then the size rules; its data is kept
+unfoldable pub post : Config → Peripheral → (address length from : ℕ) → PeripheralChange
+post c p address length from =
+    pick (not (pcFree (p .write))) (change p fatal)
+    (pick (not (within address length (payloadSize (c .r010)))) (change p fatal)
+    (change (holding p address length (payloadSize (c .r010))) (accept B.Nothing (K.Data from length))))
+
+-- ---- non-posted requests
+
+-- "Short accesses obey the same (an I/O write as a write)"
+abbrev pub sizeFor : Kind → Request → ℕ
+sizeFor R.MemoryRead q = q .readsize
+sizeFor R.IoRead q = q .readsize
+sizeFor R.IoWrite q = q .payload
+
+-- "The serial goes up by one modulo 2^32 at each accepted request"
+abbrev pub nextSerial : ℕ → ℕ
+nextSerial n = (n + 1) % 2 ^ 32
+
+abbrev pub asking : Peripheral → Request → Peripheral
+asking p q = record { write = p .write; request = Waiting q; serial = nextSerial (p .serial) }
+
+-- "non-posted while one is held", then the size rules
+unfoldable pub ask : Peripheral → Request → PeripheralChange
+ask p q =
+    pick (not (npFree (p .request))) (change p fatal)
+    (pick (not (within (q .address) (q .length) (sizeFor (q .kind) q))) (change p fatal)
+    (change (asking p q) defer))
+
+-- ---- GET_PC: "with no completion ready" is number 1
+
+abbrev pub handing : Peripheral → List Completion → PeripheralChange
+handing p [] = change p fatal
+handing p (c ∷ cs) = change (withRequest p (handed (p .request))) (accept (B.Piece c) K.Nothing)
+
+unfoldable pub getPc : Peripheral → PeripheralChange
+getPc p = handing p (upward (p .request))
+
+abbrev pub acting : Config → Peripheral → Act → PeripheralChange
+acting c p (posts address length from) = post c p address length from
+acting c p (asks q) = ask p q
+acting c p gets = getPc p
+
+unfoldable pub decide : Config → Peripheral → PeripheralCommand → List ℕ → PeripheralChange
+decide c p o b = acting c p (actOf c o b)
+
+-- ---- the board's calls, with what each is lent besides
+
+pub data Board : Type 0 where
+  look : (report : List ℕ) → Board
+  answer : (serial success : ℕ) (bytes : List ℕ) → Board
+  takeWrite : (report : List ℕ) → Board
+
+-- ---- answer: 20 "no unanswered request with this serial", 21 "byte count wrong"
+
+-- `success` 0 is a failure answer, any other value a success
+abbrev pub succeeded : ℕ → Bool
+succeeded n = not (eqb n 0)
+
+-- "Success copies exactly L bytes .. (0 for an I/O write); failure has 0"
+abbrev pub answerLength : Kind → Request → ℕ
+answerLength R.MemoryRead q = q .length
+answerLength R.IoRead q = q .length
+answerLength R.IoWrite q = 0
+
+abbrev pub bytesFor : Request → Bool → ℕ
+bytesFor q success = pick success (answerLength (q .kind) q) 0
+
+abbrev pub answered : Peripheral → Request → Bool → PeripheralChange
+answered p q true = change (withRequest p (Ready q 0)) (keep (K.Data 0 (answerLength (q .kind) q)))
+answered p q false = change (withRequest p (Failed q)) (keep K.Nothing)
+
+abbrev pub answeringWaiting : Peripheral → Request → ℕ → Bool → ℕ → PeripheralChange
+answeringWaiting p q serial success n =
+    pick (not (eqb serial (p .serial))) (change p (number 20))
+    (pick (not (eqb n (bytesFor q success))) (change p (number 21))
+    (answered p q success))
+
+abbrev pub answering : Peripheral → ℕ → Bool → ℕ → Np → PeripheralChange
+answering p serial success n Free = change p (number 20)
+answering p serial success n (Waiting q) = answeringWaiting p q serial success n
+answering p serial success n (Ready q sent) = change p (number 20)
+answering p serial success n (Failed q) = change p (number 20)
+
+unfoldable pub answerTo : Peripheral → (serial : ℕ) (success : Bool) (n : ℕ) → PeripheralChange
+answerTo p serial success n = answering p serial success n (p .request)
+
+-- ---- take a write: 23 "no write to take"; "the take yields its address and length, frees the place and leaves the store"
+
+abbrev pub emptied : Peripheral → Peripheral
+emptied p = record { write = Empty; request = p .request; serial = p .serial }
+
+abbrev pub taking : Peripheral → Write → PeripheralChange
+taking p Empty = change p (number 23)
+taking p (Held w) = change (emptied p) (keep K.Nothing)
+
+unfoldable pub taken : Peripheral → PeripheralChange
+taken p = taking p (p .write)
+
+abbrev pub postedReport : Posted → List ℕ
+postedReport w = low8 (w .address) ++ low2 (w .length)
+
+abbrev pub takeReport : Write → List ℕ
+takeReport Empty = []
+takeReport (Held w) = postedReport w
+
+-- ---- look at the request: 23 "no unanswered request to look at"; "changes nothing"
+
+-- the report's kind: 0 memory read, 1 I/O read, 2 I/O write
+abbrev pub kindNumber : Kind → ℕ
+kindNumber R.MemoryRead = 0
+kindNumber R.IoRead = 1
+kindNumber R.IoWrite = 2
+
+abbrev pub requestReport : Request → ℕ → List ℕ
+requestReport q serial = kindNumber (q .kind) ∷ (low8 (q .address) ++ (low2 (q .length) ++ (low4 serial ++ low4 (q .bytes))))
+
+abbrev pub lookNumber : Np → ℕ
+lookNumber Free = 23
+lookNumber (Waiting q) = 0
+lookNumber (Ready q sent) = 23
+lookNumber (Failed q) = 23
+
+abbrev pub lookReport : Np → ℕ → List ℕ
+lookReport Free serial = []
+lookReport (Waiting q) serial = requestReport q serial
+lookReport (Ready q sent) serial = []
+lookReport (Failed q) serial = []
+
+-- ---- a call settled, and its report
+
+unfoldable pub settle : Config → Peripheral → Board → PeripheralChange
+settle c p (look report) = change p (number (lookNumber (p .request)))
+settle c p (answer serial success bytes) = answerTo p serial (succeeded success) (length bytes)
+settle c p (takeWrite report) = taken p
+
+abbrev pub reportOf : Peripheral → Board → List ℕ
+reportOf p (look report) = lookReport (p .request) (p .serial)
+reportOf p (answer serial success bytes) = []
+reportOf p (takeWrite report) = takeReport (p .write)
+
+-- the bytes that come with a call
+abbrev pub given : Board → List ℕ
+given (look report) = []
+given (answer serial success bytes) = bytes
+given (takeWrite report) = []
+
+-- ---- configuration and resets
+
+-- "Disabling channel 0 .. drop[s] held write, request and completions"
+abbrev pub edge : Bool → Bool → Peripheral → Peripheral
+edge was is p = pick (was && not is) (dropped p) p
+
+-- "platform reset and eSPI reset drop held write, request and completions"; "only start sets [the serial], to 0"
+abbrev pub reset : Reset → Peripheral → Peripheral
+reset start p = idle 0
+reset espiReset p = dropped p
+reset platformReset p = dropped p

@@ -1,0 +1,135 @@
+-- One call on a state and the stores, and a run of calls. The state is handed over whole from call to call; docs/STATE.md has its bytes.
+use Prim.Native.Nat.{ℕ}
+use mathlib.Core.Bool.{Bool, true, false, _&&_, _||_}
+use mathlib.Core.List.{List, [], _∷_}
+use lib.Dec.{ltb}
+use lib.ListN.{length}
+use Rattle.base.specs.Pick.{pick}
+use Rattle.base.specs.Bytes.{over}
+use Rattle.state.specs.declared.State.{State}
+use Rattle.layout.specs.Layout.{stateLength}
+use Rattle.rules.specs.Rules.Reset.{Reset}
+use Rattle.rules.specs.Rules.Peripheral as P
+use Rattle.rules.specs.Rules.Channel.{Channel, peripheral, wires, Board, Part, part, reportOf, valueOf, given}
+use Rattle.rules.specs.Rules.Lift as L
+use Rattle.rules.specs.Rules.Exchange as E
+use Rattle.rules.specs.Rules.Reply.{replyBytes, keptBytes}
+use Rattle.rules.specs.declared.Plan.{Plan}
+
+-- "reply at least 263 bytes, write store at least 256, read store at least 4,096"; reports: 19 and 10
+abbrev pub replyLength : ℕ
+replyLength = 263
+
+abbrev pub writeLength : ℕ
+writeLength = 256
+
+abbrev pub readLength : ℕ
+readLength = 4096
+
+abbrev pub lookLength : ℕ
+lookLength = 19
+
+abbrev pub takeLength : ℕ
+takeLength = 10
+
+-- the state, and the write and read store as the last call left them
+pub record World : Type 0 where
+  pub state : State
+  pub write : List ℕ
+  pub read : List ℕ
+
+-- a call with what it is lent besides; `short`: this call was lent too short a state slice; `lend` is no call of the engine: from here on
+-- these are the write and read store
+pub data Call : Type 0 where
+  reset : Reset → Call
+  exchange : (command reply : List ℕ) → Call
+  board : (k : Channel) → Board k → Call
+  short : (state : List ℕ) → Call → Call
+  lend : (write read : List ℕ) → Call
+
+-- what a call gives: its number, its value (a reply's length, a wire's value), the reply's bytes, the report's bytes, the world after
+pub record Outcome : Type 0 where
+  pub number : ℕ
+  pub value : ℕ
+  pub reply : List ℕ
+  pub report : List ℕ
+  pub next : World
+
+abbrev pub withState : World → State → World
+withState w s = record { state = s; write = w .write; read = w .read }
+
+-- "a refused one yields only its number"; the world of a call that is not refused may be another
+abbrev pub only : ℕ → World → Outcome
+only number w = record { number = number; value = 0; reply = []; report = []; next = w }
+
+-- an exchange's plan carried out: its data is kept in the write store
+unfoldable pub exchanged : World → List ℕ → Plan → Outcome
+exchanged w command p =
+    record {
+      number = p .number;
+      value = length (replyBytes (p .reply) (w .read));
+      reply = replyBytes (p .reply) (w .read);
+      report = [];
+      next = record { state = p .next; write = over (keptBytes (p .kept) command) (w .write); read = w .read };
+    }
+
+-- a board call's plan carried out: its data is kept in the read store
+unfoldable pub settled : (k : Channel) → World → Board k → Plan → Outcome
+settled k w o p =
+    record {
+      number = p .number;
+      value = valueOf k (part k (w .state)) o;
+      reply = [];
+      report = reportOf k (part k (w .state)) o;
+      next = record { state = p .next; write = w .write; read = over (keptBytes (p .kept) (given k o)) (w .read) };
+    }
+
+-- number 10: an exchange uses all three stores ..
+abbrev pub shortStores : List ℕ → World → Bool
+shortStores reply w = ltb (length reply) replyLength || (ltb (length (w .write)) writeLength || ltb (length (w .read)) readLength)
+
+-- .. "an answer the read store, a take the write store"; a report is lent too
+abbrev pub shortPeripheral : P.Board → World → Bool
+shortPeripheral (P.look report) w = ltb (length report) lookLength
+shortPeripheral (P.answer serial success bytes) w = ltb (length (w .read)) readLength
+shortPeripheral (P.takeWrite report) w = ltb (length (w .write)) writeLength || ltb (length report) takeLength
+
+abbrev pub shortFor : (k : Channel) → Board k → World → Bool
+shortFor peripheral o w = shortPeripheral o w
+shortFor wires o w = false
+
+unfoldable pub step : World → Call → Outcome
+step w (reset r) = only 0 (withState w (E.wasReset r (w .state)))
+step w (exchange command reply) = pick (shortStores reply w) (only 10 w) (exchanged w command (E.exchange (w .state) command))
+step w (board k o) = pick (shortFor k o w) (only 10 w) (settled k w o (L.settled k (w .state) o))
+step w (short state c) = only 10 w
+step w (lend write read) = only 0 (record { state = w .state; write = write; read = read })
+
+-- a run: each call gets what the last one left
+unfoldable pub run : World → List Call → World
+run w [] = w
+run w (c ∷ cs) = run (step w c .next) cs
+
+-- ---- what a caller in C can hand over: a slice's bytes are below 256; `short` means what it says
+
+unfoldable pub areBytes : List ℕ → Bool
+areBytes [] = true
+areBytes (x ∷ xs) = ltb x 256 && areBytes xs
+
+abbrev pub ofEngine : Call → Bool
+ofEngine (reset r) = true
+ofEngine (exchange command reply) = true
+ofEngine (board k o) = true
+ofEngine (short state c) = false
+ofEngine (lend write read) = false
+
+abbrev pub handedOver : Call → Bool
+handedOver (reset r) = true
+handedOver (exchange command reply) = areBytes command
+handedOver (board k o) = true
+handedOver (short state c) = ofEngine c && ltb (length state) stateLength
+handedOver (lend write read) = true
+
+unfoldable pub allHanded : List Call → Bool
+allHanded [] = true
+allHanded (c ∷ cs) = handedOver c && allHanded cs
