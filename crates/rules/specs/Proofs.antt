@@ -1,0 +1,4 @@
+pub mod Peripheral
+pub mod Wires
+pub mod Cases
+pub mod Channels

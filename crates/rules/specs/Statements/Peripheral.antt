@@ -1,0 +1,63 @@
+-- All that channel 0 does, each with the tests that led to it (01, Replies and refusals; Requests, answers, pieces). The statements read
+-- this law and unfold no decision.
+use Prim.Native.Nat.{ℕ}
+use mathlib.Core.Bool.{Bool, true, false, _&&_}
+use mathlib.Core.List.{List, [], _∷_}
+use mathlib.Core.Path.{_≡_}
+use lib.Dec.{eqb}
+use lib.ListN.{length}
+use Rattle.registers.specs.Registers.{payloadSize}
+use Rattle.registers.specs.declared.Config.{Config}
+use Rattle.state.specs.Upward.{upward, handed}
+use Rattle.state.specs.Status.{pcFree, npFree}
+use Rattle.state.specs.declared.Request.{Request}
+use Rattle.state.specs.declared.Np.{Np}
+use Rattle.state.specs.declared.Np.the-variants.{Free, Waiting, Ready, Failed}
+use Rattle.state.specs.declared.Posted.{Posted}
+use Rattle.state.specs.declared.Write.the-variants.{Empty, Held}
+use Rattle.state.specs.declared.Peripheral.{Peripheral}
+use Rattle.state.specs.declared.Completion.{Completion}
+use Rattle.sound.specs.Sound.{within}
+use Rattle.rules.specs.Rules.Out.{fatal, accept, defer, number, keep}
+use Rattle.rules.specs.Rules.Peripheral.{Act, posts, asks, gets, Board, look, answer, takeWrite, change, withRequest, holding, asking, emptied, sizeFor, succeeded, answerLength, bytesFor}
+use Rattle.rules.specs.declared.Body.the-variants as B
+use Rattle.rules.specs.declared.Kept.the-variants as K
+use Rattle.rules.specs.declared.PeripheralChange.{PeripheralChange}
+
+-- ---- commands
+
+pub data Did (c : Config) (p : Peripheral) : Act → PeripheralChange → Type 0 where
+  writeHeld : {A L from : ℕ} → pcFree (p .write) ≡ false → Did c p (posts A L from) (change p fatal)
+  writeLarge : {A L from : ℕ} → pcFree (p .write) ≡ true → within A L (payloadSize (c .r010)) ≡ false → Did c p (posts A L from) (change p fatal)
+  posted : {A L from : ℕ} → pcFree (p .write) ≡ true → within A L (payloadSize (c .r010)) ≡ true
+      → Did c p (posts A L from) (change (holding p A L (payloadSize (c .r010))) (accept B.Nothing (K.Data from L)))
+  requestHeld : {q : Request} → npFree (p .request) ≡ false → Did c p (asks q) (change p fatal)
+  requestLarge : {q : Request} → npFree (p .request) ≡ true → within (q .address) (q .length) (sizeFor (q .kind) q) ≡ false → Did c p (asks q) (change p fatal)
+  asked : {q : Request} → npFree (p .request) ≡ true → within (q .address) (q .length) (sizeFor (q .kind) q) ≡ true
+      → Did c p (asks q) (change (asking p q) defer)
+  noneReady : upward (p .request) ≡ [] → Did c p gets (change p fatal)
+  handedOver : {k : Completion} {ks : List Completion} → upward (p .request) ≡ k ∷ ks
+      → Did c p gets (change (withRequest p (handed (p .request))) (accept (B.Piece k) K.Nothing))
+
+-- ---- the board's calls
+
+abbrev pub unanswered : Np → Bool
+unanswered Free = false
+unanswered (Waiting q) = true
+unanswered (Ready q sent) = false
+unanswered (Failed q) = false
+
+pub data Settled (p : Peripheral) : Board → PeripheralChange → Type 0 where
+  looked : {report : List ℕ} {q : Request} → p .request ≡ Waiting q → Settled p (look report) (change p (number 0))
+  noLook : {report : List ℕ} → unanswered (p .request) ≡ false → Settled p (look report) (change p (number 23))
+  noSuch : {serial success : ℕ} {bytes : List ℕ} → unanswered (p .request) && eqb serial (p .serial) ≡ false
+      → Settled p (answer serial success bytes) (change p (number 20))
+  miscounted : {serial success : ℕ} {bytes : List ℕ} {q : Request} → p .request ≡ Waiting q → serial ≡ p .serial
+      → eqb (length bytes) (bytesFor q (succeeded success)) ≡ false → Settled p (answer serial success bytes) (change p (number 21))
+  succeeds : {serial success : ℕ} {bytes : List ℕ} {q : Request} → p .request ≡ Waiting q → serial ≡ p .serial → succeeded success ≡ true
+      → length bytes ≡ answerLength (q .kind) q
+      → Settled p (answer serial success bytes) (change (withRequest p (Ready q 0)) (keep (K.Data 0 (answerLength (q .kind) q))))
+  fails : {serial success : ℕ} {bytes : List ℕ} {q : Request} → p .request ≡ Waiting q → serial ≡ p .serial → succeeded success ≡ false
+      → length bytes ≡ 0 → Settled p (answer serial success bytes) (change (withRequest p (Failed q)) (keep K.Nothing))
+  noTake : {report : List ℕ} → p .write ≡ Empty → Settled p (takeWrite report) (change p (number 23))
+  took : {report : List ℕ} {x : Posted} → p .write ≡ Held x → Settled p (takeWrite report) (change (emptied p) (keep K.Nothing))

@@ -1,0 +1,34 @@
+-- All that channel 1 does, each with the tests that led to it (01, Wires). The statements read this law and unfold no decision.
+use Prim.Native.Nat.{ℕ}
+use mathlib.Core.Bool.{Bool, true, false}
+use mathlib.Core.List.{List, [], _∷_}
+use mathlib.Core.Path.{_≡_}
+use lib.Dec.{ltb}
+use Rattle.registers.specs.Registers.{on1, operatingCount}
+use Rattle.registers.specs.declared.Config.{Config}
+use Rattle.wires.specs.Groups as G
+use Rattle.wires.specs.Groups.{putPairs, sent, packetOf, afterSent, settable, definedBit}
+use Rattle.wires.specs.declared.Wires.{Wires}
+use Rattle.rules.specs.Rules.Out.{fatal, accept, number, keep}
+use Rattle.rules.specs.Rules.Wires.{Act, puts, gets, Board, setWire, readWire, change}
+use Rattle.rules.specs.declared.Body.the-variants as B
+use Rattle.rules.specs.declared.Kept.the-variants as K
+use Rattle.rules.specs.declared.WiresChange.{WiresChange}
+
+-- ---- commands
+
+pub data Did (c : Config) (w : Wires) : Act → WiresChange → Type 0 where
+  overCount : {n : ℕ} {pairs : List ℕ} → ltb (operatingCount (c .r020)) n ≡ true → Did c w (puts n pairs) (change w fatal)
+  put : {n : ℕ} {pairs : List ℕ} → ltb (operatingCount (c .r020)) n ≡ false → Did c w (puts n pairs) (change (putPairs w pairs) (accept B.Nothing K.Nothing))
+  nonePending : sent w (operatingCount (c .r020)) ≡ [] → Did c w gets (change w fatal)
+  sentOff : {k : ℕ} {ks : List ℕ} → sent w (operatingCount (c .r020)) ≡ k ∷ ks
+      → Did c w gets (change (afterSent w (k ∷ ks)) (accept (B.Groups (packetOf w (k ∷ ks))) K.Nothing))
+
+-- ---- the board's calls
+
+pub data Settled (c : Config) (w : Wires) : Board → WiresChange → Type 0 where
+  notBoards : {index bit value : ℕ} → settable index bit value ≡ false → Settled c w (setWire index bit value) (change w (number 22))
+  set : {index bit value : ℕ} → settable index bit value ≡ true
+      → Settled c w (setWire index bit value) (change (G.setWire (on1 (c .r020)) w index bit value) (keep K.Nothing))
+  noWire : {index bit : ℕ} → definedBit index bit ≡ false → Settled c w (readWire index bit) (change w (number 22))
+  read : {index bit : ℕ} → definedBit index bit ≡ true → Settled c w (readWire index bit) (change w (number 0))
