@@ -2,3 +2,5 @@ pub mod Peripheral
 pub mod Wires
 pub mod Cases
 pub mod Channels
+pub mod Fields
+pub mod Reads

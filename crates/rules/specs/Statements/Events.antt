@@ -1,0 +1,42 @@
+-- The words of runs, in document 01's: an event of a run is read off its number and its bytes.
+use Prim.Native.Nat.{ℕ, _%_}
+use mathlib.Core.Bool.{Bool, true, false, _&&_, not}
+use mathlib.Core.List.{List, [], _∷_}
+use lib.Dec.{eqb}
+use Rattle.state.specs.declared.State.{State}
+use Rattle.rules.specs.Rules.Channel.{Channel, peripheral, wires, on}
+use Rattle.rules.specs.Rules.Step.{World, Call, reset, exchange, board, short, lend, Outcome, step}
+use Rattle.rules.specs.Statements.Fields.{byte, registerAt, registerValue}
+
+-- number 0
+abbrev pub accepted : Outcome → Bool
+accepted o = eqb (o .number) 0
+
+-- the register whose bit 0 enables the channel
+abbrev pub registerOf : Channel → ℕ
+registerOf peripheral = 0x010
+registerOf wires = 0x020
+
+-- a disabling: SET_CONFIGURATION of that register, bit 0 of the value being 0 while the register's is 1
+abbrev pub disables : Channel → State → List ℕ → Bool
+disables k s b = eqb (byte b 0) 0x22 && (eqb (registerAt b) (registerOf k) && (on k (s .config) && eqb (registerValue b % 2) 0))
+
+-- "a start, an eSPI reset, a platform reset or a disabling of [the] channel"
+abbrev pub ending : Channel → State → Call → Bool
+ending k s (reset r) = true
+ending k s (exchange command reply) = disables k s command
+ending k s (board j o) = false
+ending k s (short state c) = false
+ending k s (lend write read) = false
+
+-- "refused ones apart"
+abbrev pub endsWith : Channel → State → Call → Outcome → Bool
+endsWith k s c o = accepted o && ending k s c
+
+abbrev pub ends : Channel → World → Call → Bool
+ends k w c = endsWith k (w .state) c (step w c)
+
+-- no such event in the run
+unfoldable pub unended : Channel → World → List Call → Bool
+unended k w [] = true
+unended k w (c ∷ cs) = not (ends k w c) && unended k (step w c .next) cs

@@ -1,0 +1,50 @@
+-- What an admitted command's bytes say, in document 01's words: the statements read the bytes by Fields, and the decoder is held against them.
+use Prim.Native.Nat.{ℕ, _+_, _≤_}
+use mathlib.Core.Bool.{true}
+use mathlib.Core.List.{List}
+use mathlib.Core.Path.{_≡_}
+use lib.ListN.{length}
+use Rattle.registers.specs.declared.Config.{Config}
+use Rattle.command.specs.declared.Command.{Command}
+use Rattle.command.specs.declared.Command.the-variants as C
+use Rattle.state.specs.declared.Request.{Request}
+use Rattle.state.specs.declared.State.{State}
+use Rattle.rules.specs.Rules.Peripheral as P
+use Rattle.rules.specs.Rules.Peripheral.{requestOf}
+use Rattle.rules.specs.Rules.Wires as W
+use Rattle.rules.specs.Statements.Cases.{Admits}
+use Rattle.rules.specs.Statements.Fields.{byte, isPosted, isNonPosted, accessAddress, accessLength, accessTag, dataFrom, requestKind, ioBytes, groups, pairs, registerAt, registerValue}
+
+-- the request that a command makes: what its bytes ask, "with its tag, payload and read sizes then in force"
+abbrev pub requestIn : Config → List ℕ → Request
+requestIn c b = requestOf c (requestKind (byte b 0)) (accessAddress b) (accessLength b) (accessTag b) (ioBytes b)
+
+-- a posted write has all its data
+pub data Peripheral (c : Config) (b : List ℕ) : P.Act → Type 0 where
+  posts : isPosted (byte b 0) ≡ true → dataFrom b + accessLength b ≤ length b → Peripheral c b (P.posts (accessAddress b) (accessLength b) (dataFrom b))
+  asks : isNonPosted (byte b 0) ≡ true → Peripheral c b (P.asks (requestIn c b))
+  gets : byte b 0 ≡ 0x01 → Peripheral c b P.gets
+
+pub data Wires (b : List ℕ) : W.Act → Type 0 where
+  puts : byte b 0 ≡ 0x04 → Wires b (W.puts (groups b) (pairs b))
+  gets : byte b 0 ≡ 0x05 → Wires b W.gets
+
+pub record Writes (b : List ℕ) (a v : ℕ) : Type 0 where
+  pub opcode : byte b 0 ≡ 0x22
+  pub address : a ≡ registerAt b
+  pub value : v ≡ registerValue b
+
+pub record Shows (b : List ℕ) (a : ℕ) : Type 0 where
+  pub opcode : byte b 0 ≡ 0x21
+  pub address : a ≡ registerAt b
+
+abbrev pub ReadAs : Config → List ℕ → Command → Type 0
+ReadAs c b (C.Peripheral o) = Peripheral c b (P.actOf c o b)
+ReadAs c b (C.Wires o) = Wires b (W.actOf o b)
+ReadAs c b (C.GetConfiguration a) = Shows b a
+ReadAs c b (C.SetConfiguration a v) = Writes b a v
+ReadAs c b C.GetStatus = byte b 0 ≡ 0x25
+ReadAs c b C.Reset = byte b 0 ≡ 0xFF
+
+abbrev pub Reads : Type 0
+Reads = (s : State) (b : List ℕ) (o : Command) → Admits s b o → ReadAs (s .config) b o
