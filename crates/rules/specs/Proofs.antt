@@ -8,3 +8,4 @@ pub mod Plans
 pub mod Lift
 pub mod Refusals
 pub mod WholeRefusals
+pub mod Shape

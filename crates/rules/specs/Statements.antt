@@ -7,3 +7,4 @@ pub mod Reads
 pub mod Events
 pub mod Plans
 pub mod Refusals
+pub mod Shape
