@@ -9,3 +9,10 @@ pub mod Lift
 pub mod Refusals
 pub mod WholeRefusals
 pub mod Shape
+pub mod SoundBytes
+pub mod SoundPeripheral
+pub mod SoundWires
+pub mod SoundParts
+pub mod Sound
+pub mod SoundRegisters
+pub mod SoundMeans

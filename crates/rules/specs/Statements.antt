@@ -8,3 +8,5 @@ pub mod Events
 pub mod Plans
 pub mod Refusals
 pub mod Shape
+pub mod Sound
+pub mod SoundMeans

@@ -28,3 +28,10 @@ lift-stays k s out = lift-change k s (part k s) out ∙ ap (λ (t : State). plan
 pub put-config : (k : Channel) (q : Part k) (s : State) → put k q s .config ≡ s .config
 put-config peripheral q s = refl
 put-config wires q s = refl
+
+-- the one lemma in which two channels meet: what holds of a new part and of every part before holds of every part after
+pub put-each : (Q : (j : Channel) → Part j → Type 0) (k : Channel) (q : Part k) (s : State) → Q k q → ((j : Channel) → Q j (part j s)) → (j : Channel) → Q j (part j (put k q s))
+put-each Q peripheral q s h e peripheral = h
+put-each Q peripheral q s h e wires = e wires
+put-each Q wires q s h e peripheral = e peripheral
+put-each Q wires q s h e wires = h
