@@ -19,15 +19,18 @@ use Rattle.state.specs.declared.State.{State}
 use Rattle.sound.specs.Sound.{Sound}
 use Rattle.rules.specs.Rules.Reset.{Reset, start}
 use Rattle.rules.specs.Rules.Channel.{Channel, peripheral, wires, Part, Command, Act, Board, Change, nextOf, part, put, each, on, actOf, edge, reset}
+use Rattle.rules.specs.Rules.Lift as L
 use Rattle.rules.specs.Rules.Lift.{lift}
-use Rattle.rules.specs.Rules.Exchange.{channelsOf, reconfigured, configReset, wasReset, reset008h}
+use Rattle.rules.specs.Rules.Exchange.{channelsOf, reconfigured, configReset, wasReset, reset008h, exchange}
 use Rattle.rules.specs.Rules.Step as S
 use Rattle.rules.specs.Rules.Step.{World, Call, Outcome, exchanged, settled}
 use Rattle.rules.specs.Statements.Plans as N
-use Rattle.rules.specs.Statements.Plans.{Did, Settled, Admits}
+use Rattle.rules.specs.Statements.Plans.{Did, Settled, Admits, Planned}
 use Rattle.rules.specs.Statements.Cases as C
 use Rattle.rules.specs.Statements.Cases.{Case}
 use Rattle.rules.specs.Statements.Sound.{SoundKept}
+use Rattle.rules.specs.Proofs.Plans as D
+use Rattle.rules.specs.Proofs.Plans.{plans}
 use Rattle.rules.specs.Proofs.Cases.{cases}
 use Rattle.rules.specs.Proofs.SoundBytes.{bytes-below}
 use Rattle.rules.specs.Proofs.SoundParts.{ConfigOk, PartOk, Parts, parts, whole, with-part, with-each, fresh008-ok, reset-config}
@@ -72,8 +75,8 @@ module _ {s : State} (h : Parts s) where
       (record { right = reachable-write (s .config) a v (h .config .right) e; fit = fits-write (s .config) a v (h .config .fit) l })
       (λ k. edge-ok k (on k (s .config)) (on k (writeAt (s .config) a v)) (part k s) (h .each k))
 
-  reset-sound : (r : Reset) → Sound (wasReset r s)
-  reset-sound r = with-each (λ k. reset k r) (configReset r (s .config)) (reset-config r (h .config)) (λ k. reset-ok k r (s .config) (part k s) (h .each k))
+  reset-parts : (r : Reset) → Sound (wasReset r s)
+  reset-parts r = with-each (λ k. reset k r) (configReset r (s .config)) (reset-config r (h .config)) (λ k. reset-ok k r (s .config) (part k s) (h .each k))
 
   -- 008h enables no channel
   cleared-part : (k : Channel) → PartOk k (on k (reset008h s .config)) (part k s)
@@ -87,20 +90,39 @@ lift-next : (k : Channel) (s : State) (x : Change k) → lift k s x .next ≡ pu
 unfolding lift
 lift-next k s x = refl
 
--- ---- a call, and a run
+-- ---- a plan, a call, and a run
+
+planned-sound : {s : State} {b : List ℕ} {p : Plan} → Sound s → IsBytes b → Planned s b p → Sound (p .next)
+planned-sound {s} {b} h bytes (N.turned n q) = h
+planned-sound {s} {b} h bytes (N.shows q) = h
+planned-sound {s} {b} h bytes (N.acts k o x e d) =
+    subst Sound (sym (lift-next k s x)) (with-part k (nextOf k x) (parts h) (acts-ok k s b o x (parts h) bytes e d))
+planned-sound {s} {b} h bytes (N.forbids a v e f) = h
+planned-sound {s} {b} h bytes (N.configures a v e f) = configured-sound (parts h) a v f (admit-numbers _ _ b (C₀.SetConfiguration a v) e bytes .1)
+planned-sound {s} {b} h bytes (N.clears e) = cleared-sound (parts h)
+
+pub exchange-sound : {s : State} → Sound s → (b : List ℕ) → S.areBytes b ≡ true → Sound (exchange s b .next)
+exchange-sound {s} h b bytes = planned-sound h (bytes-below b bytes) (plans s b)
+
+settled-sound : {s : State} → Sound s → (k : Channel) (o : Board k) (x : Change k) → Settled k (s .config) (part k s) o x → Sound (lift k s x .next)
+settled-sound {s} h k o x d = subst Sound (sym (lift-next k s x)) (with-part k (nextOf k x) (parts h) (settled-ok k s o x (parts h) d))
+
+pub board-sound : {s : State} → Sound s → (k : Channel) (o : Board k) → Sound (L.settled k s o .next)
+board-sound {s} h k o = settled-sound h k o _ (D.settled k (s .config) (part k s) o)
+
+pub reset-sound : {s : State} → Sound s → (r : Reset) → Sound (wasReset r s)
+reset-sound h r = reset-parts (parts h) r
 
 sound-case : {w : World} {c : Call} {o : Outcome} → Sound (w .state) → S.handedOver c ≡ true → Case w c o → Sound (o .next .state)
 unfolding exchanged settled
 sound-case {w} h b (C.idle n q) = h
 sound-case {w} h b (C.shown q) = h
-sound-case {w} h b (C.acted {b = l} k o x e d) =
-    subst Sound (sym (lift-next k (w .state) x)) (with-part k (nextOf k x) (parts h) (acts-ok k (w .state) l o x (parts h) (bytes-below l b) e d))
-sound-case {w} h b (C.settles k o x e d) =
-    subst Sound (sym (lift-next k (w .state) x)) (with-part k (nextOf k x) (parts h) (settled-ok k (w .state) o x (parts h) d))
+sound-case {w} h b (C.acted {b = l} k o x e d) = planned-sound h (bytes-below l b) (N.acts k o x e d)
+sound-case {w} h b (C.settles k o x e d) = settled-sound h k o x d
 sound-case {w} h b (C.forbidden a v e f) = h
-sound-case {w} h b (C.configured {b = l} a v e f) = configured-sound (parts h) a v f (admit-numbers _ _ l (C₀.SetConfiguration a v) e (bytes-below l b) .1)
+sound-case {w} h b (C.configured {b = l} a v e f) = planned-sound h (bytes-below l b) (N.configures a v e f)
 sound-case {w} h b (C.cleared e) = cleared-sound (parts h)
-sound-case {w} h b (C.wiped {r}) = reset-sound (parts h) r
+sound-case {w} h b (C.wiped {r}) = reset-sound h r
 sound-case {w} h b C.lent = h
 
 pub sound-step : (w : World) (c : Call) → Sound (w .state) → S.handedOver c ≡ true → Sound (S.step w c .next .state)
@@ -115,7 +137,7 @@ fresh-part : (k : Channel) → PartOk k (on k (freshState .config)) (part k fres
 fresh-part peripheral = P.idle-ok _ (lit< tt)
 fresh-part wires = W.fresh-ok _
 
-fresh-sound : Sound freshState
+pub fresh-sound : Sound freshState
 fresh-sound = whole (record { config = record { right = reachable-fresh; fit = fits-fresh }; each = fresh-part })
 
 pub sound-kept : SoundKept
