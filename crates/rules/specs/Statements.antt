@@ -11,3 +11,7 @@ pub mod Shape
 pub mod Sound
 pub mod SoundMeans
 pub mod Vectors
+pub mod Sizes
+pub mod PeripheralEffects
+pub mod WiresEffects
+pub mod Effects
