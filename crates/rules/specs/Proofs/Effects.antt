@@ -14,7 +14,7 @@ use Rattle.registers.specs.declared.Config.{Config}
 use Rattle.command.specs.declared.Command.the-variants as C
 use Rattle.state.specs.declared.State.{State}
 use Rattle.rules.specs.Rules.Reset.{Reset, start, espiReset, platformReset}
-use Rattle.rules.specs.Rules.Channel.{Channel, peripheral, wires, Part, Command, Board, Change, outOf, actOf, given, edge, part, put, each, on, channelNumber, same}
+use Rattle.rules.specs.Rules.Channel.{Channel, peripheral, wires, Part, Command, Board, Change, nextOf, outOf, actOf, given, edge, part, put, each, on, channelNumber, same}
 use Rattle.rules.specs.Rules.Lift.{lift}
 use Rattle.rules.specs.Rules.Exchange.{reconfigured, wasReset}
 use Rattle.rules.specs.Rules.Reply.{keptBytes}
@@ -180,3 +180,58 @@ module _ (w : World) where
 
 pub effects : Effects
 effects w c = becomes w (cases w c)
+
+-- ---- the parts
+
+put-other : (k j : Channel) (q : Part k) (s : State) → same k j ≡ false → part j (put k q s) ≡ part j s
+put-other peripheral peripheral q s e = absurd (true≢false e)
+put-other peripheral wires q s e = refl
+put-other wires peripheral q s e = refl
+put-other wires wires q s e = absurd (true≢false e)
+
+one-channel : (k j : Channel) (op : ℕ) → isFor k op ≡ true → isFor j op ≡ true → same k j ≡ true
+one-channel peripheral peripheral op e f = refl
+one-channel peripheral wires op e f = absurd (true≢false (sym e ∙ wires-alone op f))
+one-channel wires peripheral op e f = absurd (true≢false (sym f ∙ wires-alone op e))
+one-channel wires wires op e f = refl
+
+-- opcodes that are of no channel
+pub record Above (k : Channel) : Type 0 where
+  pub at21 : isFor k 0x21 ≡ false
+  pub at22 : isFor k 0x22 ≡ false
+  pub at25 : isFor k 0x25 ≡ false
+  pub atFF : isFor k 0xFF ≡ false
+
+pub above : (k : Channel) → Above k
+above peripheral = record { at21 = refl; at22 = refl; at25 = refl; atFF = refl }
+above wires = record { at21 = refl; at22 = refl; at25 = refl; atFF = refl }
+
+module _ (w : World) (k : Channel) where
+  stays : (v : World) → v .state ≡ w .state → Frames k w v
+  stays v e = record { config = ap (λ (t : State). t .config) e; others = λ j n. ap (part j) e }
+
+  -- the channel itself, its part put back
+  frame : (j : Channel) (q : Part j) (v : World) → same k j ≡ true → v .state ≡ put j q (w .state) → Frames k w v
+  frame j q v h e =
+      record {
+        config = ap (λ (t : State). t .config) e ∙ put-config j q (w .state);
+        others = λ i n. ap (part i) e ∙ put-other j i q (w .state) (subst (λ (m : ℕ). eqb m (channelNumber i) ≡ false) (eqb-true _ _ h) n);
+      }
+
+  not-ours : (b : List ℕ) {op : ℕ} → byte b 0 ≡ op → isFor k op ≡ false → isFor k (byte b 0) ≡ true → ⊥
+  not-ours b e f h = true≢false (sym h ∙ ap (isFor k) e ∙ f)
+
+  framed : {c : Call} {o : Outcome} → Case w c o → trafficOf k c ≡ true → Frames k w (o .next)
+  unfolding exchanged settled lift
+  framed (idle n q) h = stays _ refl
+  framed (shown q) h = stays _ refl
+  framed (acted {b} j o x e d) h = frame j (nextOf j x) _ (one-channel k j (byte b 0) h (command-own j (w .state) b o e)) refl
+  framed (settles j o x n d) h = frame j (nextOf j x) _ h refl
+  framed (forbidden a v e f) h = stays _ refl
+  framed (configured {b} a v e f) h = absurd (not-ours b (reads (w .state) b (C.SetConfiguration a v) e .opcode) (above k .at22) h)
+  framed (cleared {b} e) h = absurd (not-ours b (reads (w .state) b C.Reset e) (above k .atFF) h)
+  framed wiped h = absurd (true≢false (sym h))
+  framed lent h = absurd (true≢false (sym h))
+
+pub parts-kept : PartsKept
+parts-kept w c k h = framed w k (cases w c) h
