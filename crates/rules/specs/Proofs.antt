@@ -17,7 +17,5 @@ pub mod Sound
 pub mod SoundRegisters
 pub mod SoundMeans
 pub mod Vectors
-pub mod Rows
-pub mod PeripheralEffects
-pub mod WiresEffects
+pub mod Becomes
 pub mod Effects

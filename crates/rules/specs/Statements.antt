@@ -12,6 +12,4 @@ pub mod Sound
 pub mod SoundMeans
 pub mod Vectors
 pub mod Sizes
-pub mod PeripheralEffects
-pub mod WiresEffects
 pub mod Effects

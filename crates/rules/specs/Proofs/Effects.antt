@@ -5,7 +5,7 @@ use mathlib.Core.List.{List, []}
 use mathlib.Core.Path.{_≡_, refl, sym, ap, _∙_, subst}
 use native.Mathlib.Omega.{arith}
 use lib.Dec.{eqb}
-use borrow.Author.Tests.{eqb-true}
+use borrow.Author.Tests.{eq-eqb, eqb-true}
 use Rattle.base.specs.Pick.{pick}
 use Rattle.base.specs.Bytes.{over, over-none}
 use Rattle.registers.specs.Registers.{writeAt}
@@ -21,24 +21,24 @@ use Rattle.rules.specs.Rules.Reply.{keptBytes}
 use Rattle.rules.specs.Rules.Step.{World, Call, reset, exchange, board, short, lend, Outcome, withState, exchanged, settled}
 use Rattle.rules.specs.Statements.Cases.{Did, Settled, commandOf, Admits, status, register, Case, idle, shown, acted, settles, forbidden, configured, cleared, wiped, lent}
 use Rattle.rules.specs.Statements.Fields.{byte, registerAt, registerValue, isChannel0, isChannel1}
-use Rattle.rules.specs.Statements.Sizes.{enabled}
+use Rattle.rules.specs.Statements.Sizes.{isOf, isEnabled}
 use Rattle.rules.specs.Statements.Events.{registerOf}
-use Rattle.rules.specs.Statements.Effects.{commandPart, commandWrite, boardPart, boardRead, switched, commandEffect, boardEffect, withRegisters, resetEffect, afterRegister, valueEnables, switchedState, writtenState, clearedState, isFor, exchangeEffect, effect, Effects, trafficOf, Frames, PartsKept}
+use Rattle.rules.specs.Statements.Effects.{commandPart, commandWrite, boardPart, boardRead, switched, commandEffect, boardEffect, withRegisters, resetEffect, afterRegister, valueEnables, switchedState, writtenState, exchangeEffect, effect, Effects, trafficOf, Frames, PartsKept}
 use Rattle.rules.specs.Proofs.Cases.{cases}
 use Rattle.rules.specs.Proofs.Reads.{reads, one-of}
-use Rattle.rules.specs.Proofs.Lift.{put-config}
-use Rattle.rules.specs.Proofs.Rows.{IsRow}
-use Rattle.rules.specs.Proofs.PeripheralEffects as P
-use Rattle.rules.specs.Proofs.WiresEffects as W
+use Rattle.rules.specs.Proofs.Lift.{put-config, put-each}
+use Rattle.rules.specs.Proofs.Becomes.{Becomes}
+use Rattle.rules.specs.Proofs.Peripheral.Effects as P
+use Rattle.rules.specs.Proofs.Wires.Effects as W
 
 -- ---- the channels' rows
 
 command-row : (k : Channel) (s : State) (b : List ℕ) (o : Command k) (x : Change k) → Admits s b (commandOf k o)
-    → Did k (s .config) (part k s) (actOf k (s .config) o b) x → IsRow k (commandPart k (s .config) (part k s) b) (commandWrite k b) b x
+    → Did k (s .config) (part k s) (actOf k (s .config) o b) x → Becomes k (commandPart k (s .config) (part k s) b) (commandWrite k b) b x
 command-row peripheral s b o x e d = P.command-row (s .config) (s .peripheral) b d (reads s b (C.Peripheral o) e)
 command-row wires s b o x e d = W.command-row d (reads s b (C.Wires o) e)
 
-board-row : (k : Channel) (c : Config) (p : Part k) (o : Board k) (x : Change k) → Settled k c p o x → IsRow k (boardPart k c p o) (boardRead k o) (given k o) x
+board-row : (k : Channel) (c : Config) (p : Part k) (o : Board k) (x : Change k) → Settled k c p o x → Becomes k (boardPart k c p o) (boardRead k o) (given k o) x
 board-row peripheral c p o x d = P.board-row d
 board-row wires c p o x d = W.board-row d
 
@@ -47,7 +47,7 @@ edge-row peripheral = P.edge-row
 edge-row wires = W.edge-row
 
 -- a command is of the channel that its opcode names
-pub command-own : (k : Channel) (s : State) (b : List ℕ) (o : Command k) → Admits s b (commandOf k o) → isFor k (byte b 0) ≡ true
+pub command-own : (k : Channel) (s : State) (b : List ℕ) (o : Command k) → Admits s b (commandOf k o) → isOf k (byte b 0) ≡ true
 command-own peripheral s b o e = P.command-own (reads s b (C.Peripheral o) e)
 command-own wires s b o e = W.command-own (reads s b (C.Wires o) e)
 
@@ -55,7 +55,7 @@ command-own wires s b o e = W.command-own (reads s b (C.Wires o) e)
 wires-alone : (op : ℕ) → isChannel1 op ≡ true → isChannel0 op ≡ false
 wires-alone op h = one-of (λ (x : ℕ). isChannel0 x ≡ false) op 0x04 0x05 refl refl h
 
-row-of : (k : Channel) (w : World) (op : ℕ) (b : List ℕ) → isFor k op ≡ true → exchangeEffect w op b ≡ commandEffect k w b
+row-of : (k : Channel) (w : World) (op : ℕ) (b : List ℕ) → isOf k op ≡ true → exchangeEffect w op b ≡ commandEffect k w b
 row-of peripheral w op b h = rw h
 row-of wires w op b h = rw (wires-alone op h, h)
 
@@ -83,7 +83,7 @@ no-edge k {was} {is} p e = edge-row k was is p ∙ ap (λ (t : Bool). switched k
 enables : (v : ℕ) → eqb (v % 2) 1 ≡ valueEnables v
 enables v = ap (λ (x : ℕ). eqb x 1) (sym (bit-zero v))
 
-on-as : (k : Channel) (c : Config) → on k c ≡ enabled k c
+on-as : (k : Channel) (c : Config) → on k c ≡ isEnabled k c
 on-as peripheral c = enables (c .r010 .value)
 on-as wires c = enables (c .r020 .value)
 
@@ -117,8 +117,8 @@ register-row k s v =
     each-one k (edges s new) new s (λ j n. no-edge j (part j s) (on-other k j c v n))
     ∙ ap (λ (p : Part k). put k p (withRegisters s new)) (edge-row k (on k c) (on k new) (part k s))
     ∙ ap (λ (t : Bool). put k (switched k t (on k new) (part k s)) (withRegisters s new)) (on-as k c)
-    ∙ ap (λ (t : Bool). put k (switched k (enabled k c) t (part k s)) (withRegisters s new)) (on-written k c v)
-    ∙ ap (λ (d : Config). put k (switched k (enabled k c) (valueEnables v) (part k s)) (withRegisters s d)) (register-as k c v)
+    ∙ ap (λ (t : Bool). put k (switched k (isEnabled k c) t (part k s)) (withRegisters s new)) (on-written k c v)
+    ∙ ap (λ (d : Config). put k (switched k (isEnabled k c) (valueEnables v) (part k s)) (withRegisters s d)) (register-as k c v)
 
 written-row : (s : State) (v a : ℕ) → reconfigured s (writeAt (s .config) a v) ≡ writtenState s a v
 written-row s v =
@@ -144,7 +144,7 @@ module _ (w : World) where
   plainly t = rw over-none
 
   command-case : (k : Channel) (b : List ℕ) (o : Command k) (x : Change k) → Admits s b (commandOf k o)
-      → IsRow k (commandPart k (s .config) (part k s) b) (commandWrite k b) b x
+      → Becomes k (commandPart k (s .config) (part k s) b) (commandWrite k b) b x
       → exchanged w b (lift k s x) .number ≡ 0 → exchanged w b (lift k s x) .next ≡ exchangeEffect w (byte b 0) b
   unfolding exchanged lift
   command-case k b o x e row z =
@@ -152,7 +152,7 @@ module _ (w : World) where
       ∙ ap (λ (l : List ℕ). record { state = put k (commandPart k (s .config) (part k s) b) s; write = l; read = w .read }) (row z .1 (w .write))
       ∙ sym (row-of k w (byte b 0) b (command-own k s b o e))
 
-  board-case : (k : Channel) (o : Board k) (x : Change k) → IsRow k (boardPart k (s .config) (part k s) o) (boardRead k o) (given k o) x
+  board-case : (k : Channel) (o : Board k) (x : Change k) → Becomes k (boardPart k (s .config) (part k s) o) (boardRead k o) (given k o) x
       → settled k w o (lift k s x) .number ≡ 0 → settled k w o (lift k s x) .next ≡ boardEffect k w o
   unfolding settled lift
   board-case k o x row z =
@@ -184,12 +184,10 @@ effects w c = becomes w (cases w c)
 -- ---- the parts
 
 put-other : (k j : Channel) (q : Part k) (s : State) → same k j ≡ false → part j (put k q s) ≡ part j s
-put-other peripheral peripheral q s e = absurd (true≢false e)
-put-other peripheral wires q s e = refl
-put-other wires peripheral q s e = refl
-put-other wires wires q s e = absurd (true≢false e)
+put-other k j q s =
+    put-each (λ j p. same k j ≡ false → p ≡ part j s) k q s (λ e. absurd (true≢false (sym (eq-eqb (channelNumber k) _ refl) ∙ e))) (λ j e. refl) j
 
-one-channel : (k j : Channel) (op : ℕ) → isFor k op ≡ true → isFor j op ≡ true → same k j ≡ true
+one-channel : (k j : Channel) (op : ℕ) → isOf k op ≡ true → isOf j op ≡ true → same k j ≡ true
 one-channel peripheral peripheral op e f = refl
 one-channel peripheral wires op e f = absurd (true≢false (sym e ∙ wires-alone op f))
 one-channel wires peripheral op e f = absurd (true≢false (sym f ∙ wires-alone op e))
@@ -197,10 +195,10 @@ one-channel wires wires op e f = refl
 
 -- opcodes that are of no channel
 pub record Above (k : Channel) : Type 0 where
-  pub at21 : isFor k 0x21 ≡ false
-  pub at22 : isFor k 0x22 ≡ false
-  pub at25 : isFor k 0x25 ≡ false
-  pub atFF : isFor k 0xFF ≡ false
+  pub at21 : isOf k 0x21 ≡ false
+  pub at22 : isOf k 0x22 ≡ false
+  pub at25 : isOf k 0x25 ≡ false
+  pub atFF : isOf k 0xFF ≡ false
 
 pub above : (k : Channel) → Above k
 above peripheral = record { at21 = refl; at22 = refl; at25 = refl; atFF = refl }
@@ -218,8 +216,8 @@ module _ (w : World) (k : Channel) where
         others = λ i n. ap (part i) e ∙ put-other j i q (w .state) (subst (λ (m : ℕ). eqb m (channelNumber i) ≡ false) (eqb-true _ _ h) n);
       }
 
-  not-ours : (b : List ℕ) {op : ℕ} → byte b 0 ≡ op → isFor k op ≡ false → isFor k (byte b 0) ≡ true → ⊥
-  not-ours b e f h = true≢false (sym h ∙ ap (isFor k) e ∙ f)
+  not-ours : (b : List ℕ) {op : ℕ} → byte b 0 ≡ op → isOf k op ≡ false → isOf k (byte b 0) ≡ true → ⊥
+  not-ours b e f h = true≢false (sym h ∙ ap (isOf k) e ∙ f)
 
   framed : {c : Call} {o : Outcome} → Case w c o → trafficOf k c ≡ true → Frames k w (o .next)
   unfolding exchanged settled lift

@@ -13,11 +13,11 @@ use Rattle.state.specs.declared.State.{State}
 use Rattle.rules.specs.Rules.Reset.{Reset, start, espiReset, platformReset}
 use Rattle.rules.specs.Rules.Channel.{Channel, peripheral, wires, Part, Board, part, put, each, same}
 use Rattle.rules.specs.Rules.Step.{World, Call, reset, exchange, board, short, lend, withState, step}
-use Rattle.rules.specs.Statements.Fields.{byte, isChannel0, isChannel1, registerAt, registerValue}
-use Rattle.rules.specs.Statements.Sizes.{enabled}
+use Rattle.rules.specs.Statements.Fields.{byte, registerAt, registerValue}
+use Rattle.rules.specs.Statements.Sizes.{isOf, isEnabled}
 use Rattle.rules.specs.Statements.Events.{registerOf}
-use Rattle.rules.specs.Statements.PeripheralEffects as P
-use Rattle.rules.specs.Statements.WiresEffects as W
+use Rattle.rules.specs.Statements.Peripheral.Effects as P
+use Rattle.rules.specs.Statements.Wires.Effects as W
 
 -- ---- the channels' rows
 
@@ -103,7 +103,7 @@ valueEnables v = eqb (bits 0 0 v) 1
 
 -- a write of a channel's register: an edge for its part, the others stay
 abbrev pub switchedState : Channel → State → ℕ → State
-switchedState k s v = put k (switched k (enabled k (s .config)) (valueEnables v) (part k s)) (withRegisters s (afterRegister k (s .config) v))
+switchedState k s v = put k (switched k (isEnabled k (s .config)) (valueEnables v) (part k s)) (withRegisters s (afterRegister k (s .config) v))
 
 -- "Other addresses .. take writes without effect", 004h too
 abbrev pub writtenState : State → ℕ → ℕ → State
@@ -119,16 +119,11 @@ clearedState s = withRegisters s (registers 0x030C0003 (s .config .r010 .value) 
 
 -- ---- the table
 
--- whose command an opcode is
-abbrev pub isFor : Channel → ℕ → Bool
-isFor peripheral op = isChannel0 op
-isFor wires op = isChannel1 op
-
 -- by the opcode; GET_CONFIGURATION and GET_STATUS change nothing
 abbrev pub exchangeEffect : World → ℕ → List ℕ → World
 exchangeEffect w op b =
-    pick (isFor peripheral op) (commandEffect peripheral w b)
-    (pick (isFor wires op) (commandEffect wires w b)
+    pick (isOf peripheral op) (commandEffect peripheral w b)
+    (pick (isOf wires op) (commandEffect wires w b)
     (pick (eqb op 0x22) (withState w (writtenState (w .state) (registerAt b) (registerValue b)))
     (pick (eqb op 0xFF) (withState w (clearedState (w .state)))
     w)))
@@ -150,7 +145,7 @@ Effects = (w : World) (c : Call) → step w c .number ≡ 0 → step w c .next �
 -- whose traffic a call is
 abbrev pub trafficOf : Channel → Call → Bool
 trafficOf k (reset r) = false
-trafficOf k (exchange command reply) = isFor k (byte command 0)
+trafficOf k (exchange command reply) = isOf k (byte command 0)
 trafficOf k (board j o) = same k j
 trafficOf k (short state c) = trafficOf k c
 trafficOf k (lend write read) = false

@@ -7,5 +7,5 @@ use Rattle.rules.specs.Rules.Channel.{Channel, Part, Change, nextOf, out
 use Rattle.rules.specs.Rules.Reply.{keptBytes}
 
 -- the store after, from the bytes that came with the call and the store before
-abbrev pub IsRow : (k : Channel) → Part k → (List ℕ → List ℕ) → List ℕ → Change k → Type 0
-IsRow k q store from x = outOf k x .number ≡ 0 → (nextOf k x ≡ q) × ((l : List ℕ) → over (keptBytes (outOf k x .kept) from) l ≡ store l)
+abbrev pub Becomes : (k : Channel) → Part k → (List ℕ → List ℕ) → List ℕ → Change k → Type 0
+Becomes k q store from x = outOf k x .number ≡ 0 → (nextOf k x ≡ q) × ((l : List ℕ) → over (keptBytes (outOf k x .kept) from) l ≡ store l)

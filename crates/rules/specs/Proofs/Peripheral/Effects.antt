@@ -25,9 +25,9 @@ use Rattle.rules.specs.Rules.Channel.{peripheral}
 use Rattle.rules.specs.Statements.Fields.{byte, isPosted, isNonPosted, isChannel0, accessLength, dataFrom, writtenData}
 use Rattle.rules.specs.Statements.Reads as S
 use Rattle.rules.specs.Statements.Peripheral as L
-use Rattle.rules.specs.Statements.PeripheralEffects.{afterCompletion, completed, commandPart, commandWrite, answeredWith, requestNow, boardPart, boardRead, switched}
+use Rattle.rules.specs.Statements.Peripheral.Effects.{afterCompletion, completed, commandPart, commandWrite, answeredWith, requestNow, boardPart, boardRead, switched}
 use Rattle.rules.specs.Proofs.Fields.{asked-not-posted}
-use Rattle.rules.specs.Proofs.Rows.{IsRow}
+use Rattle.rules.specs.Proofs.Becomes.{Becomes}
 use Rattle.rules.specs.declared.PeripheralChange.{PeripheralChange}
 
 -- ---- commands
@@ -50,7 +50,7 @@ handed-as (Failed q) = refl
 
 module _ (c : Config) (p : Peripheral) (b : List ℕ) where
   abbrev Row : PeripheralChange → Type 0
-  Row = IsRow peripheral (commandPart c p b) (commandWrite b) b
+  Row = Becomes peripheral (commandPart c p b) (commandWrite b) b
 
   pub command-row : {a : P.Act} {x : PeripheralChange} → L.Did c p a x → S.Peripheral c b a → Row x
   unfolding sizeOf over
@@ -79,7 +79,7 @@ answered-as : (p : Peripheral) {q : Request} (failed t : Bool) → p .request �
     → P.withRequest p (pick t (Failed q) (Ready q 0)) ≡ requestNow p (answeredWith failed (p .request))
 answered-as p {q} failed t e f = ap (requestNow p) (sym (ap (answeredWith failed) e ∙ ap (λ (u : Bool). answeredWith u (Waiting q)) f))
 
-pub board-row : {p : Peripheral} {o : P.Board} {x : PeripheralChange} → L.Settled p o x → IsRow peripheral (boardPart p o) (boardRead o) (P.given o) x
+pub board-row : {p : Peripheral} {o : P.Board} {x : PeripheralChange} → L.Settled p o x → Becomes peripheral (boardPart p o) (boardRead o) (P.given o) x
 unfolding over
 board-row (L.looked e) z = (refl, λ l. refl)
 board-row (L.noLook e) z = absurd (omega arith)

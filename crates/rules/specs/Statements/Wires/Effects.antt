@@ -15,7 +15,7 @@ use Rattle.rules.specs.Rules.Reset.{Reset, start, espiReset, platformRes
 use Rattle.rules.specs.Rules.Wires.{Board, setWire, readWire}
 use Rattle.rules.specs.Rules.Channel.{wires}
 use Rattle.rules.specs.Statements.Fields.{byte, pairs}
-use Rattle.rules.specs.Statements.Sizes.{enabled}
+use Rattle.rules.specs.Statements.Sizes.{isEnabled}
 
 -- ---- commands
 
@@ -38,7 +38,7 @@ commandPart c v b =
 
 -- "a real change while channel 1 is enabled makes it pending"; reading a wire changes nothing
 abbrev pub boardPart : Config → Wires → Board → Wires
-boardPart c v (setWire index bit value) = withWire (enabled wires c) v index bit value
+boardPart c v (setWire index bit value) = withWire (isEnabled wires c) v index bit value
 boardPart c v (readWire index bit) = v
 
 -- ---- resets and configuration

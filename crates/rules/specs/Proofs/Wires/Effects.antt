@@ -15,14 +15,14 @@ use Rattle.rules.specs.Rules.Channel.{wires}
 use Rattle.rules.specs.Statements.Fields.{byte, isChannel1}
 use Rattle.rules.specs.Statements.Reads as S
 use Rattle.rules.specs.Statements.Wires as L
-use Rattle.rules.specs.Statements.WiresEffects.{afterGet, commandPart, boardPart, switched}
-use Rattle.rules.specs.Proofs.Rows.{IsRow}
+use Rattle.rules.specs.Statements.Wires.Effects.{afterGet, commandPart, boardPart, switched}
+use Rattle.rules.specs.Proofs.Becomes.{Becomes}
 use Rattle.rules.specs.declared.WiresChange.{WiresChange}
 
 -- ---- commands; no store is written
 
 pub command-row : {c : Config} {v : Wires} {b : List ℕ} {a : W.Act} {x : WiresChange} → L.Did c v a x → S.Wires b a
-    → IsRow wires (commandPart c v b) (λ l. l) b x
+    → Becomes wires (commandPart c v b) (λ l. l) b x
 command-row (L.overCount e) r z = absurd (omega arith)
 command-row (L.put e) (S.Wires.puts h) z = (rw h, over-none)
 command-row (L.nonePending e) r z = absurd (omega arith)
@@ -34,7 +34,7 @@ command-own (S.Wires.gets h) = rw h
 
 -- ---- the board's calls
 
-pub board-row : {c : Config} {v : Wires} {o : W.Board} {x : WiresChange} → L.Settled c v o x → IsRow wires (boardPart c v o) (λ l. l) [] x
+pub board-row : {c : Config} {v : Wires} {o : W.Board} {x : WiresChange} → L.Settled c v o x → Becomes wires (boardPart c v o) (λ l. l) [] x
 board-row (L.notBoards e) z = absurd (omega arith)
 board-row {c} (L.set e) z = (rw (bit-zero (c .r020 .value)), over-none)
 board-row (L.noWire e) z = absurd (omega arith)
