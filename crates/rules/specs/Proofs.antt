@@ -19,3 +19,4 @@ pub mod SoundMeans
 pub mod Vectors
 pub mod Becomes
 pub mod Effects
+pub mod ConfigWrites

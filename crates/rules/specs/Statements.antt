@@ -13,3 +13,4 @@ pub mod SoundMeans
 pub mod Vectors
 pub mod Sizes
 pub mod Effects
+pub mod ConfigWrites

@@ -140,7 +140,7 @@ module _ (w : World) where
   s = w .state
 
   -- nothing kept
-  plainly : (t : State) → _≡_ {A = World} (record { state = t; write = over [] (w .write); read = w .read }) (withState w t)
+  pub plainly : (t : State) → _≡_ {A = World} (record { state = t; write = over [] (w .write); read = w .read }) (withState w t)
   plainly t = rw over-none
 
   command-case : (k : Channel) (b : List ℕ) (o : Command k) (x : Change k) → Admits s b (commandOf k o)
@@ -216,7 +216,7 @@ module _ (w : World) (k : Channel) where
         others = λ i n. ap (part i) e ∙ put-other j i q (w .state) (subst (λ (m : ℕ). eqb m (channelNumber i) ≡ false) (eqb-true _ _ h) n);
       }
 
-  not-ours : (b : List ℕ) {op : ℕ} → byte b 0 ≡ op → isOf k op ≡ false → isOf k (byte b 0) ≡ true → ⊥
+  pub not-ours : (b : List ℕ) {op : ℕ} → byte b 0 ≡ op → isOf k op ≡ false → isOf k (byte b 0) ≡ true → ⊥
   not-ours b e f h = true≢false (sym h ∙ ap (isOf k) e ∙ f)
 
   framed : {c : Call} {o : Outcome} → Case w c o → trafficOf k c ≡ true → Frames k w (o .next)
