@@ -9,37 +9,31 @@ use native.Mathlib.Omega.{arith}
 use lib.Dec.{eqb}
 use borrow.Author.Tests.{eq-eqb, eqb-true, eqb-false, ne-eqb}
 use Rattle.base.specs.Pick.{or-second, and-left, and-right}
-use Rattle.base.specs.Bytes.{over, over-none}
 use Rattle.registers.specs.Registers.{field, masked, readied}
 use Rattle.registers.specs.Laws.{field-kept, field-written, written010, written020, bit-zero, by-address}
 use Rattle.registers.specs.declared.Config.{Config}
 use Rattle.command.specs.declared.Command.the-variants as C
 use Rattle.state.specs.Status.{status}
 use Rattle.state.specs.declared.State.{State}
-use Rattle.rules.specs.Rules.Channel.{Channel, peripheral, wires, Part, Board, Change, nextOf, outOf, given, part, put}
-use Rattle.rules.specs.Rules.Lift.{lift}
-use Rattle.rules.specs.Rules.Reply.{replyBytes, closed, keptBytes}
-use Rattle.rules.specs.Rules.Step.{World, Call, reset, exchange, board, short, lend, Outcome, step, withState, exchanged, settled}
-use Rattle.rules.specs.Statements.Peripheral as P
-use Rattle.rules.specs.Statements.Wires as W
+use Rattle.rules.specs.Rules.Peripheral as P
+use Rattle.rules.specs.Rules.Wires as W
+use Rattle.rules.specs.Rules.Channel.{Channel, peripheral, wires, Part, Board, part}
+use Rattle.rules.specs.Rules.Reply.{replyBytes, closed}
+use Rattle.rules.specs.Rules.Step.{World, Call, reset, exchange, board, short, lend, Outcome, step, exchanged}
 use Rattle.rules.specs.Statements.Plans as N
-use Rattle.rules.specs.Statements.Cases.{Settled, Case, idle, shown, acted, settles, forbidden, configured, cleared, wiped, lent}
+use Rattle.rules.specs.Statements.Cases.{Case, idle, shown, acted, settles, forbidden, configured, cleared, wiped, lent}
 use Rattle.rules.specs.Statements.Fields.{byte, registerAt, registerValue}
-use Rattle.rules.specs.Statements.Sizes.{isOf, isEnabled}
+use Rattle.rules.specs.Statements.Sizes.{isEnabled}
 use Rattle.rules.specs.Statements.Events.{registerOf}
 use Rattle.rules.specs.Statements.Shape.{replyOf}
-use Rattle.rules.specs.Statements.Effects.{switched, withRegisters, afterRegister, valueEnables, switchedState, writtenState, exchangeEffect}
+use Rattle.rules.specs.Statements.Effects.{switched, withRegisters, afterRegister, valueEnables, switchedState, writtenState, boardEffect, exchangeEffect, effect}
 use Rattle.rules.specs.Statements.ConfigWrites.{bitOf, writableBits, valueAt, BitsWritten, turns, Configured, boardOnlyReads, onlyReads, registerBytes, ConfigWrites}
 use Rattle.rules.specs.Proofs.Fields.{one}
 use Rattle.rules.specs.Proofs.Reads as R
 use Rattle.rules.specs.Proofs.Reads.{one-of}
 use Rattle.rules.specs.Proofs.Cases.{cases}
-use Rattle.rules.specs.Proofs.Lift.{put-same, put-each}
-use Rattle.rules.specs.Proofs.Effects.{effects, command-own, above, plainly, not-ours}
-use Rattle.rules.specs.declared.PeripheralChange.{PeripheralChange}
-use Rattle.rules.specs.declared.WiresChange.{WiresChange}
-use Rattle.rules.specs.declared.Kept.{Kept}
-use Rattle.rules.specs.declared.Kept.the-variants as K
+use Rattle.rules.specs.Proofs.Lift.{put-each}
+use Rattle.rules.specs.Proofs.Effects.{effects, after-call, command-own, above, not-ours}
 
 -- ---- a mask and its complement, bit by bit: one computed test
 
@@ -206,53 +200,19 @@ reads w b reply = read-case w (cases w (exchange b reply))
 
 -- ---- the calls that change nothing
 
-abbrev Nothing : (k : Channel) → Part k → Change k → Type 0
-Nothing k p x = (nextOf k x ≡ p) × (outOf k x .kept ≡ K.Nothing)
+board-row : (w : World) (k : Channel) (o : Board k) → boardOnlyReads k o ≡ true → boardEffect k w o ≡ w
+board-row w peripheral (P.look report) h = refl
+board-row w peripheral (P.answer serial success bytes) h = absurd (true≢false (sym h))
+board-row w peripheral (P.takeWrite report) h = absurd (true≢false (sym h))
+board-row w wires (W.setWire index bit value) h = absurd (true≢false (sym h))
+board-row w wires (W.readWire index bit) h = refl
 
-peripheral-reads : {p : Part peripheral} {o : Board peripheral} {x : PeripheralChange} → P.Settled p o x → boardOnlyReads peripheral o ≡ true → Nothing peripheral p x
-peripheral-reads (P.looked e) h = (refl, refl)
-peripheral-reads (P.noLook e) h = (refl, refl)
-peripheral-reads (P.noSuch e) h = (refl, refl)
-peripheral-reads (P.miscounted e f g) h = (refl, refl)
-peripheral-reads (P.succeeds e f g i) h = absurd (true≢false (sym h))
-peripheral-reads (P.fails e f g i) h = absurd (true≢false (sym h))
-peripheral-reads (P.noTake e) h = (refl, refl)
-peripheral-reads (P.took e) h = absurd (true≢false (sym h))
-
-wires-reads : {c : Config} {p : Part wires} {o : Board wires} {x : WiresChange} → W.Settled c p o x → boardOnlyReads wires o ≡ true → Nothing wires p x
-wires-reads (W.notBoards e) h = (refl, refl)
-wires-reads (W.set e) h = absurd (true≢false (sym h))
-wires-reads (W.noWire e) h = (refl, refl)
-wires-reads (W.read e) h = (refl, refl)
-
-board-reads : (k : Channel) (c : Config) (p : Part k) (o : Board k) (x : Change k) → Settled k c p o x → boardOnlyReads k o ≡ true → Nothing k p x
-board-reads peripheral c p o x d = peripheral-reads d
-board-reads wires c p o x d = wires-reads d
-
-module _ (w : World) where
-  board-same : (k : Channel) (o : Board k) (x : Change k) → Nothing k (part k (w .state)) x → settled k w o (lift k (w .state) x) .next ≡ w
-  unfolding settled lift over
-  board-same k o x n =
-      ap (λ (p : Part k). record { state = put k p (w .state); write = w .write; read = over (keptBytes (outOf k x .kept) (given k o)) (w .read) }) (n .0)
-      ∙ ap (λ (t : State). record { state = t; write = w .write; read = over (keptBytes (outOf k x .kept) (given k o)) (w .read) }) (put-same k (w .state))
-      ∙ ap (λ (d : Kept). record { state = w .state; write = w .write; read = over (keptBytes d (given k o)) (w .read) }) (n .1)
-
-  -- GET_CONFIGURATION and GET_STATUS have no other opcode
-  not-reading : (b : List ℕ) (op : ℕ) → byte b 0 ≡ op → (eqb op 0x21 || eqb op 0x25) ≡ false → (eqb (byte b 0) 0x21 || eqb (byte b 0) 0x25) ≡ true → ⊥
-  not-reading b op e f h = true≢false (sym h ∙ ap (λ (x : ℕ). eqb x 0x21 || eqb x 0x25) e ∙ f)
-
-  same-case : {c : Call} {o : Outcome} → Case w c o → onlyReads c ≡ true → o .next ≡ w
-  unfolding exchanged
-  same-case (idle n q) h = refl
-  same-case (shown q) h = plainly w (w .state)
-  same-case (acted {b} k o x e d) h =
-      absurd (true≢false (sym (command-own k (w .state) b o e) ∙ one-of (λ (op : ℕ). isOf k op ≡ false) (byte b 0) 0x21 0x25 (above k .at21) (above k .at25) h))
-  same-case (settles k o x n d) h = board-same k o x (board-reads k (w .state .config) (part k (w .state)) o x d h)
-  same-case (forbidden a v e f) h = plainly w (w .state)
-  same-case (configured {b} a v e f) h = absurd (not-reading b 0x22 (R.reads (w .state) b (C.SetConfiguration a v) e .opcode) refl h)
-  same-case (cleared {b} e) h = absurd (not-reading b 0xFF (R.reads (w .state) b C.Reset e) refl h)
-  same-case wiped h = absurd (true≢false (sym h))
-  same-case lent h = absurd (true≢false (sym h))
+same-row : (w : World) (c : Call) → onlyReads c ≡ true → effect w c ≡ w
+same-row w (reset r) h = absurd (true≢false (sym h))
+same-row w (exchange b reply) h = one-of (λ (op : ℕ). exchangeEffect w op b ≡ w) (byte b 0) 0x21 0x25 refl refl h
+same-row w (board k o) h = board-row w k o h
+same-row w (short state c) h = refl
+same-row w (lend write read) h = absurd (true≢false (sym h))
 
 pub config-writes : ConfigWrites
-config-writes = record { writes = writes; reads = reads; changesNothing = λ w c. same-case w (cases w c) }
+config-writes = record { writes = writes; reads = reads; changesNothing = λ w c h. after-call (λ (v : World). v ≡ w) w c refl (λ _. same-row w c h) }

@@ -1,12 +1,11 @@
 -- Proof of P11: every case of a call is its row. A channel's rows are proved in its own file.
-use Prim.Native.Nat.{ℕ, _%_}
+use Prim.Native.Nat.{ℕ, zero, suc, _%_}
 use mathlib.Core.Bool.{Bool, true, false, true≢false}
 use mathlib.Core.List.{List, []}
 use mathlib.Core.Path.{_≡_, refl, sym, ap, _∙_, subst}
 use native.Mathlib.Omega.{arith}
 use lib.Dec.{eqb}
 use borrow.Author.Tests.{eq-eqb, eqb-true}
-use Rattle.base.specs.Pick.{pick}
 use Rattle.base.specs.Bytes.{over, over-none}
 use Rattle.registers.specs.Registers.{writeAt}
 use Rattle.registers.specs.Laws.{bit-zero, on0-written, on1-written, by-address, write-other}
@@ -18,13 +17,15 @@ use Rattle.rules.specs.Rules.Channel.{Channel, peripheral, wires, Part, 
 use Rattle.rules.specs.Rules.Lift.{lift}
 use Rattle.rules.specs.Rules.Exchange.{reconfigured, wasReset}
 use Rattle.rules.specs.Rules.Reply.{keptBytes}
-use Rattle.rules.specs.Rules.Step.{World, Call, reset, exchange, board, short, lend, Outcome, withState, exchanged, settled}
+use Rattle.rules.specs.Rules.Step.{World, Call, Outcome, step, withState, exchanged, settled}
 use Rattle.rules.specs.Statements.Cases.{Did, Settled, commandOf, Admits, status, register, Case, idle, shown, acted, settles, forbidden, configured, cleared, wiped, lent}
-use Rattle.rules.specs.Statements.Fields.{byte, registerAt, registerValue, isChannel0, isChannel1}
+use Rattle.rules.specs.Statements.Fields.{byte, isChannel0, isChannel1}
 use Rattle.rules.specs.Statements.Sizes.{isOf, isEnabled}
 use Rattle.rules.specs.Statements.Events.{registerOf}
 use Rattle.rules.specs.Statements.Effects.{commandPart, commandWrite, boardPart, boardRead, switched, commandEffect, boardEffect, withRegisters, resetEffect, afterRegister, valueEnables, switchedState, writtenState, exchangeEffect, effect, Effects, trafficOf, Frames, PartsKept}
+use Rattle.rules.specs.Statements.Refusals.{Refusal}
 use Rattle.rules.specs.Proofs.Cases.{cases}
+use Rattle.rules.specs.Proofs.Refusals.{refusals-change-nothing}
 use Rattle.rules.specs.Proofs.Reads.{reads, one-of}
 use Rattle.rules.specs.Proofs.Lift.{put-config, put-each}
 use Rattle.rules.specs.Proofs.Becomes.{Becomes}
@@ -140,7 +141,7 @@ module _ (w : World) where
   s = w .state
 
   -- nothing kept
-  pub plainly : (t : State) → _≡_ {A = World} (record { state = t; write = over [] (w .write); read = w .read }) (withState w t)
+  plainly : (t : State) → _≡_ {A = World} (record { state = t; write = over [] (w .write); read = w .read }) (withState w t)
   plainly t = rw over-none
 
   command-case : (k : Channel) (b : List ℕ) (o : Command k) (x : Change k) → Admits s b (commandOf k o)
@@ -181,6 +182,16 @@ module _ (w : World) where
 pub effects : Effects
 effects w c = becomes w (cases w c)
 
+-- what holds of the world as it was, and of the row's, holds of the world after
+pub after-call : (Q : World → Type 0) (w : World) (c : Call) → Q w → (step w c .number ≡ 0 → Q (effect w c)) → Q (step w c .next)
+after-call Q w c same row = go (step w c .number) refl (refusals-change-nothing w c)
+  where
+    go : (n : ℕ) → step w c .number ≡ n → Refusal n w c (step w c) → Q (step w c .next)
+    go zero e h = subst Q (sym (effects w c e)) (row e)
+    go (suc zero) e h = subst Q (sym (h .world)) same
+    go (suc (suc zero)) e h = subst Q (sym (h .world)) same
+    go (suc (suc (suc n))) e h = subst Q (sym (h .world)) same
+
 -- ---- the parts
 
 put-other : (k j : Channel) (q : Part k) (s : State) → same k j ≡ false → part j (put k q s) ≡ part j s
@@ -197,12 +208,11 @@ one-channel wires wires op e f = refl
 pub record Above (k : Channel) : Type 0 where
   pub at21 : isOf k 0x21 ≡ false
   pub at22 : isOf k 0x22 ≡ false
-  pub at25 : isOf k 0x25 ≡ false
   pub atFF : isOf k 0xFF ≡ false
 
 pub above : (k : Channel) → Above k
-above peripheral = record { at21 = refl; at22 = refl; at25 = refl; atFF = refl }
-above wires = record { at21 = refl; at22 = refl; at25 = refl; atFF = refl }
+above peripheral = record { at21 = refl; at22 = refl; atFF = refl }
+above wires = record { at21 = refl; at22 = refl; atFF = refl }
 
 module _ (w : World) (k : Channel) where
   stays : (v : World) → v .state ≡ w .state → Frames k w v

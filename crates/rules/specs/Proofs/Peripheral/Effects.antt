@@ -1,15 +1,15 @@
 -- Channel 0's rows of the table of effects, from its law.
 use Prim.Native.Nat.{ℕ, _+_, _≤_}
-use mathlib.Core.Bool.{Bool, true, false, _||_, not, true≢false}
-use mathlib.Core.List.{List, [], _∷_, _++_}
+use mathlib.Core.Bool.{Bool, true, false}
+use mathlib.Core.List.{List, [], _∷_}
 use mathlib.Core.Path.{_≡_, refl, sym, ap, _∙_}
 use native.Mathlib.Omega.{arith}
 use lib.Dec.{eqb}
-use lib.ListN.{length, take, drop, length-take, length-drop}
+use lib.ListN.{length, length-take, length-drop}
 use lib.Seq.{take-length}
 use borrow.Author.Tests.{not-false, not-true}
 use Rattle.base.specs.Pick.{pick}
-use Rattle.base.specs.Bytes.{over, over-none}
+use Rattle.base.specs.Bytes.{over}
 use Rattle.registers.specs.Registers.{sizeOf}
 use Rattle.registers.specs.declared.Config.{Config}
 use Rattle.state.specs.Upward.{handed, afterSuccess}
@@ -22,7 +22,7 @@ use Rattle.state.specs.declared.Np.the-variants.{Free, Waiting, Ready, Failed}
 use Rattle.state.specs.declared.Peripheral.{Peripheral}
 use Rattle.rules.specs.Rules.Peripheral as P
 use Rattle.rules.specs.Rules.Channel.{peripheral}
-use Rattle.rules.specs.Statements.Fields.{byte, isPosted, isNonPosted, isChannel0, accessLength, dataFrom, writtenData}
+use Rattle.rules.specs.Statements.Fields.{byte, isChannel0, accessLength, dataFrom, writtenData}
 use Rattle.rules.specs.Statements.Reads as S
 use Rattle.rules.specs.Statements.Peripheral as L
 use Rattle.rules.specs.Statements.Peripheral.Effects.{afterCompletion, completed, commandPart, commandWrite, answeredWith, requestNow, boardPart, boardRead, switched}

@@ -8,7 +8,6 @@ use lib.Seq.{set-getD}
 use Rattle.base.specs.Bytes.{over-none}
 use Rattle.registers.specs.Laws.{bit-zero}
 use Rattle.registers.specs.declared.Config.{Config}
-use Rattle.wires.specs.Groups as G
 use Rattle.wires.specs.declared.Wires.{Wires}
 use Rattle.rules.specs.Rules.Wires as W
 use Rattle.rules.specs.Rules.Channel.{wires}
