@@ -49,10 +49,7 @@ handed-as (Ready q sent) = by-kind (q .kind)
 handed-as (Failed q) = refl
 
 module _ (c : Config) (p : Peripheral) (b : List ℕ) where
-  abbrev Row : PeripheralChange → Type 0
-  Row = Becomes peripheral (commandPart c p b) (commandWrite b) b
-
-  pub command-row : {a : P.Act} {x : PeripheralChange} → L.Did c p a x → S.Peripheral c b a → Row x
+  pub command-row : {a : P.Act} {x : PeripheralChange} → L.Did c p a x → S.Peripheral c b a → Becomes peripheral (commandPart c p b) (commandWrite b) b x
   unfolding sizeOf over
   command-row (L.writeHeld e) r z = absurd (omega arith)
   command-row (L.writeLarge e f) r z = absurd (omega arith)
