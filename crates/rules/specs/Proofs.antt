@@ -10,8 +10,6 @@ pub mod Refusals
 pub mod WholeRefusals
 pub mod Shape
 pub mod SoundBytes
-pub mod SoundPeripheral
-pub mod SoundWires
 pub mod SoundParts
 pub mod Sound
 pub mod SoundRegisters
