@@ -18,3 +18,4 @@ pub mod Vectors
 pub mod Becomes
 pub mod Effects
 pub mod ConfigWrites
+pub mod Replies

@@ -1,6 +1,7 @@
 -- Channel 1's law: the one file that unfolds its decisions.
 pub mod Effects
 pub mod Lawful
+pub mod Shape
 pub mod Sound
 use Prim.Native.Nat.{ℕ}
 use mathlib.Core.Bool.{Bool, true, false, not}
