@@ -1,6 +1,6 @@
 use borrow.Author.Needs.{needs}
-use Rattle.layout.proofs.config_in.Statement.{statement}
-use Rattle.layout.proofs.config_in.Tie as tie
+use Rattle.registers.proofs.Config.unpack.Statement.{statement}
+use Rattle.registers.proofs.Config.unpack.Tie as tie
 
 get4-requires : tie.Need-get4-requires
 get4-requires c κs = search needs
@@ -14,5 +14,5 @@ get4-requires-3 c κs = search needs
 returns : tie.Need-returns
 returns c = cc
 
-pub config-in-spec : {M : Type 1} → statement M
-config-in-spec = tie.close (tie.spec get4-requires get4-requires-2 get4-requires-3 returns)
+pub unpack-spec : {M : Type 1} → statement M
+unpack-spec = tie.close (tie.spec get4-requires get4-requires-2 get4-requires-3 returns)
