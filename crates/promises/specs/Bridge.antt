@@ -3,7 +3,7 @@ use mathlib.Core.Bool.{Bool, true}
 use mathlib.Core.List.{List, [], _∷_}
 use mathlib.Core.Path.{_≡_, refl, ap, _∙_, subst}
 use Rattle.base.specs.Pick.{and-left, and-right}
-use Rattle.layout.specs.Layout.{unpacked}
+use Rattle.state.specs.Layout.{unpacked}
 use Rattle.rules.specs.Step.{World, Call, step, run, handedOver, allHanded}
 use Rattle.rules.specs.Kinds.{Kind, kind, kindOf, without, got, gotBy, sameRead, readHandedOn}
 use Rattle.rules.specs.Answers.{askedTimes}

@@ -6,7 +6,7 @@ use mathlib.Core.Path.{_≡_}
 use lib.ListN.{length, take}
 use Rattle.base.specs.Bytes.{over}
 use Rattle.state.specs.Fresh.{freshState}
-use Rattle.layout.specs.Layout.{stateLength, unpacked, holds}
+use Rattle.state.specs.Layout.{stateLength, unpacked, holds}
 use Rattle.rules.specs.Step.{World, Call, start, espiReset, platformReset, exchange, look, answer, takeWrite, setWire, readWire, lend, Outcome, step, run, handedOver, allHanded}
 use Rattle.rules.specs.Calls.{word}
 use Rattle.rules.specs.Refusals.{numberOf}

@@ -10,14 +10,14 @@ use borrow.Author.Tests.{le-ltb, ltb-true}
 use Rattle.base.specs.Pick.{pick, and-left, and-right}
 use Rattle.base.specs.Bytes.{over, over-none, take-over, length-over}
 use Rattle.wires.specs.Groups.{definedBit}
-use Rattle.state.specs.declared.Np.{Np}
-use Rattle.state.specs.declared.Np.the-variants.{Free, Waiting, Ready, Failed}
-use Rattle.state.specs.declared.Write.{Write}
-use Rattle.state.specs.declared.Write.the-variants.{Empty, Held}
+use Rattle.peripheral.specs.declared.Np.{Np}
+use Rattle.peripheral.specs.declared.Np.the-variants.{Free, Waiting, Ready, Failed}
+use Rattle.peripheral.specs.declared.Write.{Write}
+use Rattle.peripheral.specs.declared.Write.the-variants.{Empty, Held}
 use Rattle.state.specs.declared.State.{State}
-use Rattle.sound.specs.Sound.{Sound}
-use Rattle.layout.specs.Layout.{stateLength, packed, unpacked, holds}
-use Rattle.layout.specs.Packing.{packed-length, unpacked-over, holds-packed, holds-sound}
+use Rattle.state.specs.Sound.{Sound}
+use Rattle.state.specs.Layout.{stateLength, packed, unpacked, holds}
+use Rattle.state.specs.Packing.{packed-length, unpacked-over, holds-packed, holds-sound}
 use Rattle.rules.specs.Decide as D
 use Rattle.rules.specs.Board as B
 use Rattle.rules.specs.declared.Answer.the-variants.{Silent}

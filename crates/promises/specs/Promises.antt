@@ -8,13 +8,13 @@ use mathlib.Core.Path.{_≡_}
 use lib.ListN.{length}
 use Rattle.base.specs.Bytes.{over}
 use Rattle.registers.specs.Registers.{payloadSize}
-use Rattle.pieces.specs.Pieces.{blocks}
 use Rattle.wires.specs.Groups.{markAt}
+use Rattle.pieces.specs.Pieces.{blocks}
+use Rattle.peripheral.specs.declared.Kind.the-variants as R
+use Rattle.peripheral.specs.declared.Np.the-variants.{Free, Waiting}
 use Rattle.state.specs.Status.{status}
-use Rattle.state.specs.declared.Kind.the-variants as R
-use Rattle.state.specs.declared.Np.the-variants.{Free, Waiting}
 use Rattle.state.specs.declared.State.{State}
-use Rattle.layout.specs.Layout.{unpacked}
+use Rattle.state.specs.Layout.{unpacked}
 use Rattle.rules.specs.Step.{Call, step, run, handedOver, allHanded, readLength, replyLength, writeLength, lookLength, succeeded, exchange, look, answer}
 use Rattle.rules.specs.Reply.{closed}
 use Rattle.rules.specs.Kinds.{Kind, asks, tells, gets, ends, kind, askIn, isRead, isEnd, isTell, isAsk, shows, raises, without, got, held, requestFor}

@@ -11,7 +11,7 @@ use Rattle.base.specs.Pick.{pick, pick-ind, and-left, and-right, and-true}
 use Rattle.base.specs.Bytes.{over}
 use Rattle.state.specs.Status.{status}
 use Rattle.state.specs.declared.State.{State}
-use Rattle.layout.specs.Packing.{holds-sound}
+use Rattle.state.specs.Packing.{holds-sound}
 use Rattle.rules.specs.Step as S
 use Rattle.rules.specs.Step.{World, Call, Outcome, step, run, handedOver, allHanded, areBytes, shortStores, exchange, look, answer}
 use Rattle.rules.specs.Calls.{word}

@@ -5,7 +5,7 @@ use mathlib.Core.List.{List, [], _∷_, _++_}
 use lib.Dec.{eqb}
 use lib.ListN.{drop}
 use Rattle.base.specs.Pick.{pick}
-use Rattle.layout.specs.Layout.{unpacked}
+use Rattle.state.specs.Layout.{unpacked}
 use Rattle.rules.specs.Step.{Call}
 use Rattle.rules.specs.Kinds.{Kind, idle, acceptedKind, isAsk, replyOf, sameRead}
 use Rattle.rules.specs.Bound.{WireKind, nothing, acceptedWire, endsWires, oneIfGets}

@@ -9,15 +9,16 @@ use lib.Dec.{ltb}
 use lib.ListN.{length}
 use borrow.Author.Tests.{eqb-true, ltb-true}
 use Rattle.base.specs.Pick.{and-left, and-right}
+use Rattle.base.specs.Bytes.{bit}
 use Rattle.registers.specs.declared.Config.{Config}
-use Rattle.state.specs.Fresh.{dropped as droppedOf}
-use Rattle.state.specs.Status.{bit, pcAvail, some}
-use Rattle.state.specs.Upward.{upward}
 use Rattle.registers.specs.Registers.{on0}
-use Rattle.state.specs.declared.Np.{Np}
-use Rattle.state.specs.declared.Np.the-variants.{Free, Waiting}
-use Rattle.state.specs.declared.Peripheral.{Peripheral}
-use Rattle.state.specs.declared.Request.{Request}
+use Rattle.peripheral.specs.Queues.{dropped as droppedOf}
+use Rattle.peripheral.specs.Status.{pcAvail, some}
+use Rattle.peripheral.specs.Upward.{upward}
+use Rattle.peripheral.specs.declared.Np.{Np}
+use Rattle.peripheral.specs.declared.Np.the-variants.{Free, Waiting}
+use Rattle.peripheral.specs.declared.Peripheral.{Peripheral}
+use Rattle.peripheral.specs.declared.Request.{Request}
 use Rattle.state.specs.declared.State.{State}
 use Rattle.rules.specs.Decide.{reconfigured}
 use Rattle.rules.specs.Step.{World, Call, Outcome, step, run, answer}

@@ -5,8 +5,8 @@ use mathlib.Core.List.{List, [], _∷_, _++_}
 use mathlib.Core.Path.{_≡_}
 use lib.ListN.{length}
 use Rattle.base.specs.Pick.{pick}
-use Rattle.state.specs.declared.Np.the-variants.{Waiting}
-use Rattle.state.specs.declared.Request.{Request}
+use Rattle.peripheral.specs.declared.Np.the-variants.{Waiting}
+use Rattle.peripheral.specs.declared.Request.{Request}
 use Rattle.rules.specs.Step.{World, Call, step, run, readLength, answer}
 use Rattle.rules.specs.Kinds.{asks, tells, ends, kind, isStart, isAsk, isEnd, isTell, without, held}
 

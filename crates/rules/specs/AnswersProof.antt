@@ -9,13 +9,13 @@ use lib.Dec.{eqb}
 use lib.ListN.{length}
 use borrow.Author.Tests.{eqb-true, eqb-false, not-true, not-false, le-ltb}
 use Rattle.base.specs.Pick.{pick, pick-ind, and-left, and-right, and-true}
-use Rattle.state.specs.Status.{bit}
-use Rattle.state.specs.Upward.{handed, nextOf, afterSuccess}
-use Rattle.state.specs.declared.Kind.{Kind as Sort}
-use Rattle.state.specs.declared.Kind.the-variants as R
-use Rattle.state.specs.declared.Np.{Np}
-use Rattle.state.specs.declared.Np.the-variants.{Free, Waiting, Ready, Failed}
-use Rattle.state.specs.declared.Request.{Request}
+use Rattle.base.specs.Bytes.{bit}
+use Rattle.peripheral.specs.Upward.{handed, nextOf, afterSuccess}
+use Rattle.peripheral.specs.declared.Kind.{Kind as Sort}
+use Rattle.peripheral.specs.declared.Kind.the-variants as R
+use Rattle.peripheral.specs.declared.Np.{Np}
+use Rattle.peripheral.specs.declared.Np.the-variants.{Free, Waiting, Ready, Failed}
+use Rattle.peripheral.specs.declared.Request.{Request}
 use Rattle.rules.specs.Board as B
 use Rattle.rules.specs.Step.{World, Call, Outcome, step, run, settled, succeeded, readLength, answer}
 use Rattle.rules.specs.Step.{start, espiReset, platformReset, exchange, look, takeWrite, setWire, readWire, lend}

@@ -9,7 +9,7 @@ use lib.ListN.{getD, length, take, length-append}
 use lib.Seq.{take-at, getD-at, getD-append-add}
 use borrow.Author.Tests.{ne-eqb}
 use Rattle.base.specs.Pick.{pick, pick-ind}
-use Rattle.base.specs.Bytes.{low2, over}
+use Rattle.base.specs.Bytes.{low2, over, bit-below}
 use Rattle.crc.specs.Crc.{crc}
 use Rattle.registers.specs.Registers.{payloadSize, crcChecked, operatingCount, forbiddenAt}
 use Rattle.registers.specs.declared.Config.{Config}
@@ -26,17 +26,18 @@ use Rattle.command.specs.declared.Command.{Command}
 use Rattle.command.specs.declared.Command.the-variants as C
 use Rattle.command.specs.declared.Decoded.{Decoded}
 use Rattle.command.specs.declared.Decoded.the-variants.{Known, Refused}
-use Rattle.state.specs.Status.{status, bit, pcFree, npFree, pcAvail, peripheralStatus}
-use Rattle.state.specs.Upward.{upward, handed}
-use Rattle.state.specs.declared.Completion.{Completion}
-use Rattle.state.specs.declared.Np.{Np}
-use Rattle.state.specs.declared.Np.the-variants.{Free, Waiting, Ready, Failed}
-use Rattle.state.specs.declared.Peripheral.{Peripheral}
-use Rattle.state.specs.declared.Request.{Request}
+use Rattle.peripheral.specs.Status.{pcFree, npFree, pcAvail, peripheralStatus}
+use Rattle.peripheral.specs.Upward.{upward, handed}
+use Rattle.peripheral.specs.declared.Completion.{Completion}
+use Rattle.peripheral.specs.declared.Np.{Np}
+use Rattle.peripheral.specs.declared.Np.the-variants.{Free, Waiting, Ready, Failed}
+use Rattle.peripheral.specs.declared.Peripheral.{Peripheral}
+use Rattle.peripheral.specs.declared.Request.{Request}
+use Rattle.peripheral.specs.declared.Write.{Write}
+use Rattle.peripheral.specs.declared.Write.the-variants.{Empty, Held}
+use Rattle.peripheral.specs.Sound.{within}
+use Rattle.state.specs.Status.{status}
 use Rattle.state.specs.declared.State.{State}
-use Rattle.state.specs.declared.Write.{Write}
-use Rattle.state.specs.declared.Write.the-variants.{Empty, Held}
-use Rattle.sound.specs.Sound.{within}
 use Rattle.rules.specs.Plan.{fatal}
 use Rattle.rules.specs.Decide as D
 use Rattle.rules.specs.Board as B
@@ -54,10 +55,6 @@ use Rattle.rules.specs.declared.Plan.{Plan}
 use Rattle.rules.specs.declared.Response.{Response}
 
 -- ---- a reply but for status bit 6 and the CRC byte
-
-bit-below : (b : Bool) → bit b ≤ 1
-bit-below true = omega arith
-bit-below false = omega arith
 
 low-but : (s : State) → withoutBit6 (status s % 256) ≡ peripheralStatus (s .peripheral) + 4
 unfolding status

@@ -7,16 +7,18 @@ use Rattle.base.specs.Pick.{pick}
 use Rattle.base.specs.Bytes.{low2, low4, low8}
 use Rattle.registers.specs.Registers.{on1, fresh010, freshConfig}
 use Rattle.wires.specs.Groups.{freshWires, settable, definedBit, setWire, readWire, platformWires}
-use Rattle.state.specs.Fresh.{freshState, dropped}
-use Rattle.state.specs.declared.Kind.{Kind}
-use Rattle.state.specs.declared.Kind.the-variants.{MemoryRead, IoRead, IoWrite}
-use Rattle.state.specs.declared.Request.{Request}
-use Rattle.state.specs.declared.Np.{Np}
-use Rattle.state.specs.declared.Np.the-variants.{Free, Waiting, Ready, Failed}
-use Rattle.state.specs.declared.Posted.{Posted}
-use Rattle.state.specs.declared.Write.{Write}
-use Rattle.state.specs.declared.Write.the-variants.{Empty, Held}
-use Rattle.state.specs.declared.Peripheral.{Peripheral}
+use Rattle.peripheral.specs.Layout.{kindNumber}
+use Rattle.peripheral.specs.Queues.{dropped}
+use Rattle.peripheral.specs.declared.Kind.{Kind}
+use Rattle.peripheral.specs.declared.Kind.the-variants.{MemoryRead, IoRead, IoWrite}
+use Rattle.peripheral.specs.declared.Request.{Request}
+use Rattle.peripheral.specs.declared.Np.{Np}
+use Rattle.peripheral.specs.declared.Np.the-variants.{Free, Waiting, Ready, Failed}
+use Rattle.peripheral.specs.declared.Posted.{Posted}
+use Rattle.peripheral.specs.declared.Write.{Write}
+use Rattle.peripheral.specs.declared.Write.the-variants.{Empty, Held}
+use Rattle.peripheral.specs.declared.Peripheral.{Peripheral}
+use Rattle.state.specs.Fresh.{freshState}
 use Rattle.state.specs.declared.State.{State}
 use Rattle.rules.specs.Plan.{silent, quietly}
 use Rattle.rules.specs.Decide.{withPeripheral, withRequest, withWires}
@@ -92,12 +94,6 @@ takeReport Empty = []
 takeReport (Held w) = postedReport w
 
 -- ---- look at the request: 23 "no unanswered request to look at"; "changes nothing"
-
--- the report's kind: 0 memory read, 1 I/O read, 2 I/O write
-abbrev pub kindNumber : Kind → ℕ
-kindNumber MemoryRead = 0
-kindNumber IoRead = 1
-kindNumber IoWrite = 2
 
 abbrev pub requestReport : Request → ℕ → List ℕ
 requestReport q serial = kindNumber (q .kind) ∷ (low8 (q .address) ++ (low2 (q .length) ++ (low4 serial ++ low4 (q .bytes))))

@@ -13,7 +13,7 @@ use Rattle.wires.specs.Groups.{levelAt, markAt}
 use Rattle.wires.specs.declared.Wires.{Wires}
 use Rattle.command.specs.Decode.{registerAddress, registerData}
 use Rattle.state.specs.declared.State.{State}
-use Rattle.sound.specs.Sound.{Sound}
+use Rattle.state.specs.Sound.{Sound}
 use Rattle.rules.specs.Step.{World, Call, start, espiReset, platformReset, exchange, look, answer, takeWrite, setWire, readWire, lend, Outcome, step, run, allHanded}
 
 -- ---- what a call was for the wires: refused calls are nothing, what an accepted exchange was its bytes say

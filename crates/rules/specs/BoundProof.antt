@@ -35,16 +35,18 @@ use Rattle.command.specs.declared.Opcode.the-variants as O
 use Rattle.command.specs.declared.Command.{Command}
 use Rattle.command.specs.declared.Decoded.{Decoded}
 use Rattle.command.specs.declared.Decoded.the-variants.{Known, Refused}
-use Rattle.state.specs.Status.{status, npFree, pcFree}
-use Rattle.state.specs.Upward.{upward}
-use Rattle.state.specs.declared.Completion.{Completion}
-use Rattle.state.specs.declared.Np.{Np}
-use Rattle.state.specs.declared.Np.the-variants.{Free, Waiting, Ready, Failed}
-use Rattle.state.specs.declared.Request.{Request}
-use Rattle.state.specs.declared.Write.{Write}
-use Rattle.state.specs.declared.Write.the-variants.{Empty, Held}
-use Rattle.sound.specs.Facts.{sound-wires}
-use Rattle.sound.specs.Sound.{Sound, within}
+use Rattle.peripheral.specs.Status.{npFree, pcFree}
+use Rattle.peripheral.specs.Upward.{upward}
+use Rattle.peripheral.specs.declared.Completion.{Completion}
+use Rattle.peripheral.specs.declared.Np.{Np}
+use Rattle.peripheral.specs.declared.Np.the-variants.{Free, Waiting, Ready, Failed}
+use Rattle.peripheral.specs.declared.Request.{Request}
+use Rattle.peripheral.specs.declared.Write.{Write}
+use Rattle.peripheral.specs.declared.Write.the-variants.{Empty, Held}
+use Rattle.peripheral.specs.Sound.{within}
+use Rattle.state.specs.Status.{status}
+use Rattle.state.specs.Facts.{sound-wires}
+use Rattle.state.specs.Sound.{Sound}
 use Rattle.rules.specs.Plan.{silent, fatal, acceptThen}
 use Rattle.rules.specs.Decide as D
 use Rattle.rules.specs.Board as B

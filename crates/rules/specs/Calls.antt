@@ -7,7 +7,7 @@ use lib.ListN.{length}
 use Rattle.base.specs.Pick.{pick}
 use Rattle.base.specs.Bytes.{over}
 use Rattle.state.specs.declared.State.{State}
-use Rattle.layout.specs.Layout.{stateLength, packed, unpacked, holds}
+use Rattle.state.specs.Layout.{stateLength, packed, unpacked, holds}
 use Rattle.rules.specs.Decide as D
 use Rattle.rules.specs.Board as B
 use Rattle.rules.specs.Reply.{replyBytes, keptBytes}

@@ -9,6 +9,7 @@ use Rattle.base.specs.Pick.{pick}
 use Rattle.base.specs.Bytes.{joined4}
 use Rattle.registers.specs.Registers.{on0, on1, payloadSize, readSize, operatingCount, fresh008, readAt, forbiddenAt, writeAt}
 use Rattle.registers.specs.declared.Config.{Config}
+use Rattle.registers.specs.Registers.{crcChecked}
 use Rattle.wires.specs.Groups.{putPairs, sent, packetOf, afterSent, enabled, disabled}
 use Rattle.wires.specs.declared.Wires.{Wires}
 use Rattle.command.specs.Decode.{admit}
@@ -21,20 +22,19 @@ use Rattle.command.specs.declared.Command.{Command}
 use Rattle.command.specs.declared.Command.the-variants as C
 use Rattle.command.specs.declared.Decoded.{Decoded}
 use Rattle.command.specs.declared.Decoded.the-variants.{Known, Refused}
-use Rattle.registers.specs.Registers.{crcChecked}
-use Rattle.state.specs.Fresh.{dropped}
-use Rattle.state.specs.Upward.{upward, handed}
-use Rattle.state.specs.Status.{pcFree, npFree}
-use Rattle.state.specs.declared.Kind.{Kind}
-use Rattle.state.specs.declared.Kind.the-variants as R
-use Rattle.state.specs.declared.Request.{Request}
-use Rattle.state.specs.declared.Np.{Np}
-use Rattle.state.specs.declared.Np.the-variants.{Waiting}
-use Rattle.state.specs.declared.Write.the-variants.{Held}
-use Rattle.state.specs.declared.Peripheral.{Peripheral}
-use Rattle.state.specs.declared.Completion.{Completion}
+use Rattle.peripheral.specs.Queues.{dropped}
+use Rattle.peripheral.specs.Upward.{upward, handed}
+use Rattle.peripheral.specs.Status.{pcFree, npFree}
+use Rattle.peripheral.specs.declared.Kind.{Kind}
+use Rattle.peripheral.specs.declared.Kind.the-variants as R
+use Rattle.peripheral.specs.declared.Request.{Request}
+use Rattle.peripheral.specs.declared.Np.{Np}
+use Rattle.peripheral.specs.declared.Np.the-variants.{Waiting}
+use Rattle.peripheral.specs.declared.Write.the-variants.{Held}
+use Rattle.peripheral.specs.declared.Peripheral.{Peripheral}
+use Rattle.peripheral.specs.declared.Completion.{Completion}
+use Rattle.peripheral.specs.Sound.{within}
 use Rattle.state.specs.declared.State.{State}
-use Rattle.sound.specs.Sound.{within}
 use Rattle.rules.specs.Plan.{silent, said, fatal, nonFatal, accept, defer, acceptThen, quietly}
 use Rattle.rules.specs.declared.Response.the-variants.{Accept}
 use Rattle.rules.specs.declared.Body.the-variants as B

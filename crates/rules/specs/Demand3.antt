@@ -10,13 +10,13 @@ use Rattle.registers.specs.Registers.{crcChecked, payloadSize}
 use Rattle.pieces.specs.Marks.{markType}
 use Rattle.pieces.specs.Pieces.{blocks, piece, part}
 use Rattle.command.specs.Decode.{crcGood}
+use Rattle.peripheral.specs.declared.Kind.{Kind as Sort}
+use Rattle.peripheral.specs.declared.Kind.the-variants as R
+use Rattle.peripheral.specs.declared.Np.the-variants.{Free, Waiting}
+use Rattle.peripheral.specs.Layout.{kindNumber}
 use Rattle.state.specs.Status.{status}
-use Rattle.state.specs.declared.Kind.{Kind as Sort}
-use Rattle.state.specs.declared.Kind.the-variants as R
-use Rattle.state.specs.declared.Np.the-variants.{Free, Waiting}
 use Rattle.state.specs.declared.State.{State}
-use Rattle.sound.specs.Sound.{Sound}
-use Rattle.rules.specs.Board.{kindNumber}
+use Rattle.state.specs.Sound.{Sound}
 use Rattle.rules.specs.Reply.{closed}
 use Rattle.rules.specs.Step.{World, Call, Outcome, step, run, shortStores, succeeded, lookLength, areBytes, allHanded, exchange, look, answer}
 use Rattle.rules.specs.Kinds.{asks, tells, gets, ends, kind, askIn, requestFor, isRead, isEnd, isTell, isAsk, without, got, gotBy, held, shows, raises, readHandedOn}

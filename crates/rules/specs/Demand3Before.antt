@@ -13,11 +13,13 @@ use Rattle.base.specs.Bytes.{low2, low4, low8, joined4}
 use Rattle.command.specs.declared.Access.the-variants.{IoRead, IoWrite, MemoryRead, MemoryWrite}
 use Rattle.command.specs.declared.Opcode.{Opcode}
 use Rattle.command.specs.declared.Opcode.the-variants as O
-use Rattle.state.specs.Status.{status, npFree, pcAvail}
-use Rattle.state.specs.Upward.{upward}
-use Rattle.state.specs.declared.Np.the-variants.{Waiting}
-use Rattle.state.specs.declared.Request.{Request}
-use Rattle.rules.specs.Board.{kindNumber, requestReport}
+use Rattle.peripheral.specs.Status.{npFree, pcAvail}
+use Rattle.peripheral.specs.Upward.{upward}
+use Rattle.peripheral.specs.declared.Np.the-variants.{Waiting}
+use Rattle.peripheral.specs.declared.Request.{Request}
+use Rattle.peripheral.specs.Layout.{kindNumber}
+use Rattle.state.specs.Status.{status}
+use Rattle.rules.specs.Board.{requestReport}
 use Rattle.rules.specs.Reply.{closed}
 use Rattle.rules.specs.Step.{World, Call, Outcome, step, run, lookLength, areBytes, exchange, look}
 use Rattle.rules.specs.Kinds.{Kind, asks, gets, opcode, kind, askOf, askIn, requestFor, isEnd, isTell, without, held, shows}

@@ -6,9 +6,9 @@ use mathlib.Core.Path.{_≡_, refl, ap, _∙_, subst}
 use native.Mathlib.Omega.{arith}
 use native.Mathlib.Nat.{zero-add}
 use lib.ListN.{length}
+use Rattle.peripheral.specs.declared.Completion.{Completion}
 use Rattle.state.specs.Status.{status}
-use Rattle.state.specs.declared.Completion.{Completion}
-use Rattle.sound.specs.Sound.{Sound}
+use Rattle.state.specs.Sound.{Sound}
 use Rattle.rules.specs.Reply.{closed}
 use Rattle.rules.specs.Step.{World, Call, step, run, allHanded}
 use Rattle.rules.specs.Kinds.{gets, kind, isEnd, without, got, gotBy, held, readHandedOn}

@@ -9,20 +9,21 @@ use lib.ListN.{length, take, length-append}
 use lib.Seq.{take-at}
 use borrow.Author.Tests.{not-true}
 use Rattle.base.specs.Pick.{and-left, and-right}
-use Rattle.base.specs.Bytes.{low2}
+use Rattle.base.specs.Bytes.{low2, bit}
 use Rattle.crc.specs.Crc.{crc}
 use Rattle.registers.specs.Registers.{on0, crcChecked}
 use Rattle.command.specs.Decode.{admit, decode, crcGood}
 use Rattle.command.specs.declared.Command.the-variants as C
 use Rattle.command.specs.declared.Decoded.the-variants.{Known}
-use Rattle.state.specs.Status.{status, bit, npFree, pcAvail, some}
-use Rattle.state.specs.Upward.{upward, handed}
-use Rattle.state.specs.declared.Completion.{Completion}
-use Rattle.state.specs.declared.Np.{Np}
-use Rattle.state.specs.declared.Np.the-variants.{Free, Waiting, Ready, Failed}
+use Rattle.peripheral.specs.Status.{npFree, pcAvail, some}
+use Rattle.peripheral.specs.Upward.{upward, handed}
+use Rattle.peripheral.specs.declared.Completion.{Completion}
+use Rattle.peripheral.specs.declared.Np.{Np}
+use Rattle.peripheral.specs.declared.Np.the-variants.{Free, Waiting, Ready, Failed}
+use Rattle.state.specs.Status.{status}
 use Rattle.state.specs.declared.State.{State}
-use Rattle.sound.specs.Facts.{sound-off}
-use Rattle.sound.specs.Sound.{Sound}
+use Rattle.state.specs.Facts.{sound-off}
+use Rattle.state.specs.Sound.{Sound}
 use Rattle.rules.specs.Decide as D
 use Rattle.rules.specs.Reply.{closed, headerBytes, dataBytes}
 use Rattle.rules.specs.Step.{World, Call, step, run, exchanged, shortStores, exchange}

@@ -16,14 +16,15 @@ use Rattle.pieces.specs.Pieces.{blocks, pieces, edge, piece, piecesFrom, part, 
 use Rattle.pieces.specs.Blocks.{blocks-suc}
 use Rattle.pieces.specs.Edges.{edge-zero, edge-le, edge-next, edge-all}
 use Rattle.pieces.specs.Marks.{markType}
-use Rattle.state.specs.Upward.{handed, bare, upward, pieceOf, successOf, afterPiece, afterSuccess}
-use Rattle.state.specs.declared.Np.the-variants.{Waiting, Free, Ready, Failed}
-use Rattle.state.specs.declared.Request.{Request}
-use Rattle.state.specs.declared.Completion.{Completion}
-use Rattle.state.specs.declared.Kind.{Kind}
-use Rattle.state.specs.declared.Kind.the-variants.{MemoryRead, IoRead, IoWrite}
-use Rattle.sound.specs.Facts.{MadeRequest, waiting-request, sound-request}
-use Rattle.sound.specs.Sound.{Sound}
+use Rattle.peripheral.specs.Upward.{handed, bare, upward, pieceOf, successOf, afterPiece, afterSuccess}
+use Rattle.peripheral.specs.declared.Np.the-variants.{Waiting, Free, Ready, Failed}
+use Rattle.peripheral.specs.declared.Request.{Request}
+use Rattle.peripheral.specs.declared.Completion.{Completion}
+use Rattle.peripheral.specs.declared.Kind.{Kind}
+use Rattle.peripheral.specs.declared.Kind.the-variants.{MemoryRead, IoRead, IoWrite}
+use Rattle.peripheral.specs.Facts.{MadeRequest, waiting-request}
+use Rattle.state.specs.Facts.{sound-request}
+use Rattle.state.specs.Sound.{Sound}
 use Rattle.rules.specs.Board.{bytesFor}
 use Rattle.rules.specs.Step.{World, Call, Outcome, step, succeeded, handedOver, allHanded, exchange, answer}
 use Rattle.rules.specs.Kinds.{tells, kind, askIn, requestFor, isRead, isEnd, without, held, readHandedOn}

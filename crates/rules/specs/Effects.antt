@@ -13,14 +13,14 @@ use Rattle.registers.specs.declared.Config.{Config}
 use Rattle.wires.specs.Groups.{putPairs, sent, unmarked, setWire as withWire}
 use Rattle.wires.specs.Turn.{placeAfter}
 use Rattle.wires.specs.declared.Wires.{Wires}
-use Rattle.state.specs.declared.Kind.{Kind}
-use Rattle.state.specs.declared.Kind.the-variants.{MemoryRead, IoRead, IoWrite}
-use Rattle.state.specs.declared.Request.{Request}
-use Rattle.state.specs.declared.Np.{Np}
-use Rattle.state.specs.declared.Np.the-variants.{Free, Waiting, Ready, Failed}
-use Rattle.state.specs.declared.Write.{Write}
-use Rattle.state.specs.declared.Write.the-variants.{Empty, Held}
-use Rattle.state.specs.declared.Peripheral.{Peripheral}
+use Rattle.peripheral.specs.declared.Kind.{Kind}
+use Rattle.peripheral.specs.declared.Kind.the-variants.{MemoryRead, IoRead, IoWrite}
+use Rattle.peripheral.specs.declared.Request.{Request}
+use Rattle.peripheral.specs.declared.Np.{Np}
+use Rattle.peripheral.specs.declared.Np.the-variants.{Free, Waiting, Ready, Failed}
+use Rattle.peripheral.specs.declared.Write.{Write}
+use Rattle.peripheral.specs.declared.Write.the-variants.{Empty, Held}
+use Rattle.peripheral.specs.declared.Peripheral.{Peripheral}
 use Rattle.state.specs.declared.State.{State}
 use Rattle.rules.specs.Fields.{byte, isPosted, isNonPosted, isIoRead, isIoWrite, isChannel0, isChannel1, accessAddress, accessLength, accessTag, lowFirst, writtenData, groups, registerAt, registerValue}
 use Rattle.rules.specs.FirstApplies.{enabled0, enabled1, payloadOf, readSizeOf}

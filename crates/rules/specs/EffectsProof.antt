@@ -16,25 +16,25 @@ use Rattle.registers.specs.Registers.{on0, on1, payloadSize, sizeOf, operatingC
 use Rattle.registers.specs.Laws.{bit-zero, on0-written, on1-written}
 use Rattle.wires.specs.Groups.{settable}
 use Rattle.wires.specs.declared.Wires.{Wires}
+use Rattle.pieces.specs.Pieces.{nextSize}
 use Rattle.command.specs.Opcode.{opcodeOf, wideCycle}
 use Rattle.command.specs.Needs.{headed, lengthRight}
 use Rattle.command.specs.Decode.{admit, decode, commandOf, opcodeKnown}
 use Rattle.command.specs.declared.Need.the-variants.{Whole, More}
 use Rattle.command.specs.declared.Opcode.{Opcode}
 use Rattle.command.specs.declared.Opcode.the-variants as O
-use Rattle.state.specs.Status.{pcFree, npFree}
-use Rattle.state.specs.Upward.{upward, handed, afterSuccess}
-use Rattle.sound.specs.Sound.{within}
-use Rattle.pieces.specs.Pieces.{nextSize}
-use Rattle.state.specs.declared.Kind.{Kind}
-use Rattle.state.specs.declared.Kind.the-variants as R
-use Rattle.state.specs.declared.Completion.{Completion}
-use Rattle.state.specs.declared.Request.{Request}
-use Rattle.state.specs.declared.Np.{Np}
-use Rattle.state.specs.declared.Np.the-variants.{Free, Waiting, Ready, Failed}
-use Rattle.state.specs.declared.Write.{Write}
-use Rattle.state.specs.declared.Write.the-variants.{Empty, Held}
-use Rattle.state.specs.declared.Peripheral.{Peripheral}
+use Rattle.peripheral.specs.Status.{pcFree, npFree}
+use Rattle.peripheral.specs.Upward.{upward, handed, afterSuccess}
+use Rattle.peripheral.specs.Sound.{within}
+use Rattle.peripheral.specs.declared.Kind.{Kind}
+use Rattle.peripheral.specs.declared.Kind.the-variants as R
+use Rattle.peripheral.specs.declared.Completion.{Completion}
+use Rattle.peripheral.specs.declared.Request.{Request}
+use Rattle.peripheral.specs.declared.Np.{Np}
+use Rattle.peripheral.specs.declared.Np.the-variants.{Free, Waiting, Ready, Failed}
+use Rattle.peripheral.specs.declared.Write.{Write}
+use Rattle.peripheral.specs.declared.Write.the-variants.{Empty, Held}
+use Rattle.peripheral.specs.declared.Peripheral.{Peripheral}
 use Rattle.state.specs.declared.State.{State}
 use Rattle.rules.specs.Decide as D
 use Rattle.rules.specs.Board as B

@@ -11,14 +11,14 @@ use Rattle.base.specs.Pick.{pick}
 use Rattle.registers.specs.Registers.{bits}
 use Rattle.registers.specs.declared.Config.{Config}
 use Rattle.wires.specs.declared.Wires.{Wires}
-use Rattle.state.specs.declared.Kind.{Kind}
-use Rattle.state.specs.declared.Kind.the-variants.{MemoryRead, IoRead, IoWrite}
-use Rattle.state.specs.declared.Np.{Np}
-use Rattle.state.specs.declared.Np.the-variants.{Free, Waiting, Ready, Failed}
-use Rattle.state.specs.declared.Write.{Write}
-use Rattle.state.specs.declared.Write.the-variants.{Empty, Held}
+use Rattle.peripheral.specs.declared.Kind.{Kind}
+use Rattle.peripheral.specs.declared.Kind.the-variants.{MemoryRead, IoRead, IoWrite}
+use Rattle.peripheral.specs.declared.Np.{Np}
+use Rattle.peripheral.specs.declared.Np.the-variants.{Free, Waiting, Ready, Failed}
+use Rattle.peripheral.specs.declared.Write.{Write}
+use Rattle.peripheral.specs.declared.Write.the-variants.{Empty, Held}
 use Rattle.state.specs.declared.State.{State}
-use Rattle.layout.specs.Layout.{stateLength, unpacked, holds}
+use Rattle.state.specs.Layout.{stateLength, unpacked, holds}
 use Rattle.rules.specs.Fields.{byte, isPosted, isRead, isNonPosted, isIoWrite, isChannel0, isChannel1, isListed, isReset, accessAddress, accessLength, groups, registerAt, registerValue, wholeLength, crcRight}
 use Rattle.rules.specs.Calls.{startCall, espiResetCall, platformResetCall, exchangeCall, lookCall, answerCall, takeWriteCall, setWireCall, readWireCall}
 

@@ -25,15 +25,15 @@ use Rattle.command.specs.declared.Command.the-variants as C
 use Rattle.command.specs.declared.Decoded.{Decoded}
 use Rattle.command.specs.declared.Opcode.{Opcode}
 use Rattle.command.specs.declared.Opcode.the-variants as O
-use Rattle.state.specs.Status.{pcFree, npFree}
-use Rattle.state.specs.Upward.{upward}
-use Rattle.state.specs.declared.Request.{Request}
-use Rattle.state.specs.declared.Np.{Np}
-use Rattle.state.specs.declared.Np.the-variants.{Free, Waiting, Ready, Failed}
-use Rattle.state.specs.declared.Write.{Write}
-use Rattle.state.specs.declared.Write.the-variants.{Empty, Held}
+use Rattle.peripheral.specs.Status.{pcFree, npFree}
+use Rattle.peripheral.specs.Upward.{upward}
+use Rattle.peripheral.specs.declared.Request.{Request}
+use Rattle.peripheral.specs.declared.Np.{Np}
+use Rattle.peripheral.specs.declared.Np.the-variants.{Free, Waiting, Ready, Failed}
+use Rattle.peripheral.specs.declared.Write.{Write}
+use Rattle.peripheral.specs.declared.Write.the-variants.{Empty, Held}
+use Rattle.peripheral.specs.Sound.{within}
 use Rattle.state.specs.declared.State.{State}
-use Rattle.sound.specs.Sound.{within}
 use Rattle.rules.specs.Decide as D
 use Rattle.rules.specs.declared.Plan.{Plan}
 use Rattle.rules.specs.Fields.{onlyFF, highFirst, lowFirst, cycleWidth, lengthField, putLength, registerAt, registerValue, isListed}

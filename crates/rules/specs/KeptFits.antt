@@ -23,16 +23,18 @@ use Rattle.command.specs.declared.Command.{Command}
 use Rattle.command.specs.declared.Command.the-variants as C
 use Rattle.command.specs.declared.Decoded.{Decoded}
 use Rattle.command.specs.declared.Decoded.the-variants.{Known, Refused}
-use Rattle.state.specs.Status.{pcFree, npFree}
-use Rattle.state.specs.Upward.{successOf, upward}
-use Rattle.state.specs.declared.Kind.{Kind}
-use Rattle.state.specs.declared.Kind.the-variants as R
-use Rattle.state.specs.declared.Request.{Request}
-use Rattle.state.specs.declared.Np.{Np}
-use Rattle.state.specs.declared.Np.the-variants.{Free, Waiting, Ready, Failed}
+use Rattle.peripheral.specs.Status.{pcFree, npFree}
+use Rattle.peripheral.specs.Upward.{successOf, upward}
+use Rattle.peripheral.specs.declared.Kind.{Kind}
+use Rattle.peripheral.specs.declared.Kind.the-variants as R
+use Rattle.peripheral.specs.declared.Request.{Request}
+use Rattle.peripheral.specs.declared.Np.{Np}
+use Rattle.peripheral.specs.declared.Np.the-variants.{Free, Waiting, Ready, Failed}
+use Rattle.peripheral.specs.Facts.{ReadyRequest, legal-payload, ready-request, waiting-request}
+use Rattle.peripheral.specs.Sound.{within, soundRequest}
 use Rattle.state.specs.declared.State.{State}
-use Rattle.sound.specs.Facts.{ReadyRequest, legal-payload, ready-request, waiting-request, sound-config, sound-request}
-use Rattle.sound.specs.Sound.{sound, within, soundRequest}
+use Rattle.state.specs.Facts.{sound-config, sound-request}
+use Rattle.state.specs.Sound.{sound}
 use Rattle.rules.specs.Fits.{BodyFits, AnswerFits, KeptFits, PlanFits, PieceFits}
 use Rattle.rules.specs.Plan.{responseByte}
 use Rattle.rules.specs.Decide as D

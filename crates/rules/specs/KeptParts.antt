@@ -11,15 +11,16 @@ use Rattle.registers.specs.declared.Config.{Config}
 use Rattle.wires.specs.Groups.{soundWires, wholeWires}
 use Rattle.wires.specs.Kept.{whole-level, whole-marks}
 use Rattle.wires.specs.declared.Wires.{Wires}
-use Rattle.state.specs.Fresh.{idle}
-use Rattle.state.specs.declared.Np.{Np}
-use Rattle.state.specs.declared.Np.the-variants.{Free}
-use Rattle.state.specs.declared.Write.{Write}
-use Rattle.state.specs.declared.Write.the-variants.{Empty}
-use Rattle.state.specs.declared.Peripheral.{Peripheral}
+use Rattle.peripheral.specs.Queues.{idle}
+use Rattle.peripheral.specs.declared.Np.{Np}
+use Rattle.peripheral.specs.declared.Np.the-variants.{Free}
+use Rattle.peripheral.specs.declared.Write.{Write}
+use Rattle.peripheral.specs.declared.Write.the-variants.{Empty}
+use Rattle.peripheral.specs.declared.Peripheral.{Peripheral}
+use Rattle.peripheral.specs.Sound.{soundRequest, soundWrite, nothingHeld, fitsRequest, fitsWrite}
 use Rattle.state.specs.declared.State.{State}
-use Rattle.sound.specs.Facts.{sound-parts, sound-made, fit-parts, fit-made}
-use Rattle.sound.specs.Sound.{Sound, soundRequest, soundWrite, nothingHeld, fitsRequest, fitsWrite}
+use Rattle.state.specs.Facts.{sound-parts, sound-made, fit-parts, fit-made}
+use Rattle.state.specs.Sound.{Sound}
 
 pub record ConfigOk (c : Config) : Type 0 where
   pub right : reachable c ≡ true

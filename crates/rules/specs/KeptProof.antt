@@ -23,19 +23,21 @@ use Rattle.command.specs.declared.Command.{Command}
 use Rattle.command.specs.declared.Command.the-variants as C
 use Rattle.command.specs.declared.Decoded.{Decoded}
 use Rattle.command.specs.declared.Decoded.the-variants.{Known, Refused}
-use Rattle.state.specs.Fresh.{freshState, dropped}
-use Rattle.state.specs.Status.{pcFree, npFree}
-use Rattle.state.specs.Upward.{upward}
-use Rattle.state.specs.declared.Kind.the-variants as R
-use Rattle.state.specs.declared.Request.{Request}
-use Rattle.state.specs.declared.Np.{Np}
-use Rattle.state.specs.declared.Np.the-variants.{Free, Waiting, Ready, Failed}
-use Rattle.state.specs.declared.Write.{Write}
-use Rattle.state.specs.declared.Write.the-variants.{Empty, Held}
-use Rattle.state.specs.declared.Peripheral.{Peripheral}
-use Rattle.state.specs.declared.Completion.{Completion}
+use Rattle.peripheral.specs.Queues.{dropped}
+use Rattle.peripheral.specs.Status.{pcFree, npFree}
+use Rattle.peripheral.specs.Upward.{upward}
+use Rattle.peripheral.specs.declared.Kind.the-variants as R
+use Rattle.peripheral.specs.declared.Request.{Request}
+use Rattle.peripheral.specs.declared.Np.{Np}
+use Rattle.peripheral.specs.declared.Np.the-variants.{Free, Waiting, Ready, Failed}
+use Rattle.peripheral.specs.declared.Write.{Write}
+use Rattle.peripheral.specs.declared.Write.the-variants.{Empty, Held}
+use Rattle.peripheral.specs.declared.Peripheral.{Peripheral}
+use Rattle.peripheral.specs.declared.Completion.{Completion}
+use Rattle.peripheral.specs.Sound.{within, madeAs}
+use Rattle.state.specs.Fresh.{freshState}
 use Rattle.state.specs.declared.State.{State}
-use Rattle.sound.specs.Sound.{Sound, within, madeAs}
+use Rattle.state.specs.Sound.{Sound}
 use Rattle.rules.specs.Decide as D
 use Rattle.rules.specs.Board as B
 use Rattle.rules.specs.Step as S

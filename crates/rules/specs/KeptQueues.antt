@@ -9,17 +9,17 @@ use lib.Dec.{lit<}
 use borrow.Author.Tests.{lt-ltb, le-leb, eq-eqb}
 use Rattle.base.specs.Pick.{and-right, and-true}
 use Rattle.command.specs.Facts.{SizeFits}
-use Rattle.state.specs.Status.{pcFree, npFree}
-use Rattle.state.specs.Upward.{handed}
-use Rattle.state.specs.declared.Kind.the-variants.{MemoryRead, IoRead, IoWrite}
-use Rattle.state.specs.declared.Request.{Request}
-use Rattle.state.specs.declared.Np.{Np}
-use Rattle.state.specs.declared.Np.the-variants.{Waiting, Ready, Failed}
-use Rattle.state.specs.declared.Posted.{Posted}
-use Rattle.state.specs.declared.Write.the-variants.{Held}
-use Rattle.state.specs.declared.Peripheral.{Peripheral}
-use Rattle.sound.specs.Facts.{sent-none, MadeMemoryRead, MadeIo, MadeIoRead, MadeIoWrite, waiting-request, handed-sound, handed-fits}
-use Rattle.sound.specs.Sound.{shortSize, ioMade, madeAs, requestMade, writeMade, soundRequest, soundWrite}
+use Rattle.peripheral.specs.Status.{pcFree, npFree}
+use Rattle.peripheral.specs.Upward.{handed}
+use Rattle.peripheral.specs.declared.Kind.the-variants.{MemoryRead, IoRead, IoWrite}
+use Rattle.peripheral.specs.declared.Request.{Request}
+use Rattle.peripheral.specs.declared.Np.{Np}
+use Rattle.peripheral.specs.declared.Np.the-variants.{Waiting, Ready, Failed}
+use Rattle.peripheral.specs.declared.Posted.{Posted}
+use Rattle.peripheral.specs.declared.Write.the-variants.{Held}
+use Rattle.peripheral.specs.declared.Peripheral.{Peripheral}
+use Rattle.peripheral.specs.Facts.{sent-none, MadeMemoryRead, MadeIo, MadeIoRead, MadeIoWrite, waiting-request, handed-sound, handed-fits}
+use Rattle.peripheral.specs.Sound.{shortSize, ioMade, madeAs, requestMade, writeMade, soundRequest, soundWrite}
 use Rattle.rules.specs.Decide.{holding, asking, withRequest}
 use Rattle.rules.specs.Board.{emptied}
 use Rattle.rules.specs.KeptParts.{RequestOk, WriteOk, PeripheralOk, empty-ok, held-on}

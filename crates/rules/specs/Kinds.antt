@@ -13,10 +13,10 @@ use Rattle.command.specs.declared.Access.{Access}
 use Rattle.command.specs.declared.Access.the-variants.{IoRead, IoWrite, MemoryRead, MemoryWrite}
 use Rattle.command.specs.declared.Opcode.{Opcode}
 use Rattle.command.specs.declared.Opcode.the-variants as O
-use Rattle.state.specs.declared.Kind.{Kind as Sort}
-use Rattle.state.specs.declared.Kind.the-variants as R
-use Rattle.state.specs.declared.Np.{Np}
-use Rattle.state.specs.declared.Request.{Request}
+use Rattle.peripheral.specs.declared.Kind.{Kind as Sort}
+use Rattle.peripheral.specs.declared.Kind.the-variants as R
+use Rattle.peripheral.specs.declared.Np.{Np}
+use Rattle.peripheral.specs.declared.Request.{Request}
 use Rattle.state.specs.declared.State.{State}
 use Rattle.rules.specs.Decide.{bytesOf}
 use Rattle.rules.specs.Step.{World, Call, Outcome, step, start, espiReset, platformReset, exchange, look, answer, takeWrite, setWire, readWire, lend}

@@ -7,8 +7,8 @@ use mathlib.Core.Path.{_≡_}
 use lib.Dec.{eqb}
 use lib.ListN.{length, take}
 use Rattle.base.specs.Bytes.{low2, low8}
-use Rattle.state.specs.declared.Posted.{Posted}
-use Rattle.state.specs.declared.Write.the-variants.{Held}
+use Rattle.peripheral.specs.declared.Posted.{Posted}
+use Rattle.peripheral.specs.declared.Write.the-variants.{Held}
 use Rattle.rules.specs.Fields.{byte, isPosted, accessAddress, accessLength, writtenData, registerAt, registerValue}
 use Rattle.rules.specs.FirstApplies.{enabled0, payloadOf}
 use Rattle.rules.specs.Effects.{valueEnables}

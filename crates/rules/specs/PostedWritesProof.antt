@@ -11,11 +11,11 @@ use borrow.Author.Tests.{not-true, eq-eqb, le-ltb}
 use Rattle.base.specs.Pick.{pick, pick-ind, taken, and-left, and-right}
 use Rattle.command.specs.Opcode.{opcodeOf}
 use Rattle.command.specs.Decode.{admit, decode, commandOf}
-use Rattle.state.specs.Status.{pcFree}
-use Rattle.state.specs.declared.Posted.{Posted}
-use Rattle.state.specs.declared.Write.{Write}
-use Rattle.state.specs.declared.Write.the-variants.{Empty, Held}
-use Rattle.state.specs.declared.Peripheral.{Peripheral}
+use Rattle.peripheral.specs.Status.{pcFree}
+use Rattle.peripheral.specs.declared.Posted.{Posted}
+use Rattle.peripheral.specs.declared.Write.{Write}
+use Rattle.peripheral.specs.declared.Write.the-variants.{Empty, Held}
+use Rattle.peripheral.specs.declared.Peripheral.{Peripheral}
 use Rattle.state.specs.declared.State.{State}
 use Rattle.rules.specs.Decide as D
 use Rattle.rules.specs.Board as B

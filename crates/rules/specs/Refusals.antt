@@ -11,7 +11,7 @@ use Rattle.base.specs.Pick.{pick}
 use Rattle.crc.specs.Crc.{crc}
 use Rattle.state.specs.Status.{status}
 use Rattle.state.specs.declared.State.{State}
-use Rattle.layout.specs.Layout.{stateLength, unpacked}
+use Rattle.state.specs.Layout.{stateLength, unpacked}
 use Rattle.rules.specs.Fields.{byte, isPosted, accessLength}
 use Rattle.rules.specs.Step.{World, Call, start, espiReset, platformReset, exchange, look, answer, takeWrite, setWire, readWire, lend, Outcome, step, lookLength, takeLength}
 use Rattle.rules.specs.Calls.{word, Exchanged, done, exchanged, stored, looked, startCall, espiResetCall, platformResetCall, exchangeCall, lookCall, answerCall, takeWriteCall, setWireCall, readWireCall}

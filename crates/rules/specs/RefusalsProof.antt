@@ -20,16 +20,16 @@ use Rattle.command.specs.declared.Access.the-variants.{IoRead, IoWrite, MemoryR
 use Rattle.command.specs.declared.Place.{Place}
 use Rattle.command.specs.declared.Command.{Command}
 use Rattle.command.specs.declared.Command.the-variants as C
-use Rattle.state.specs.Status.{pcFree, npFree}
-use Rattle.state.specs.Upward.{upward}
-use Rattle.state.specs.declared.Request.{Request}
-use Rattle.state.specs.declared.Completion.{Completion}
-use Rattle.state.specs.declared.Np.{Np}
-use Rattle.state.specs.declared.Np.the-variants.{Free, Waiting, Ready, Failed}
-use Rattle.state.specs.declared.Write.{Write}
-use Rattle.state.specs.declared.Write.the-variants.{Empty, Held}
+use Rattle.peripheral.specs.Status.{pcFree, npFree}
+use Rattle.peripheral.specs.Upward.{upward}
+use Rattle.peripheral.specs.declared.Request.{Request}
+use Rattle.peripheral.specs.declared.Completion.{Completion}
+use Rattle.peripheral.specs.declared.Np.{Np}
+use Rattle.peripheral.specs.declared.Np.the-variants.{Free, Waiting, Ready, Failed}
+use Rattle.peripheral.specs.declared.Write.{Write}
+use Rattle.peripheral.specs.declared.Write.the-variants.{Empty, Held}
+use Rattle.peripheral.specs.Sound.{within}
 use Rattle.state.specs.declared.State.{State}
-use Rattle.sound.specs.Sound.{within}
 use Rattle.rules.specs.Plan.{silent, fatal, nonFatal}
 use Rattle.rules.specs.Decide as D
 use Rattle.rules.specs.Board as B

@@ -15,17 +15,19 @@ use Rattle.command.specs.Opcode.{opcodeOf}
 use Rattle.command.specs.Decode.{admit, decode, commandOf, opcodeKnown}
 use Rattle.command.specs.declared.Opcode.{Opcode}
 use Rattle.command.specs.declared.Opcode.the-variants as O
-use Rattle.state.specs.Status.{status, pcFree, npFree}
-use Rattle.state.specs.Upward.{upward, successOf}
-use Rattle.state.specs.declared.Kind.{Kind}
-use Rattle.state.specs.declared.Kind.the-variants as R
-use Rattle.state.specs.declared.Completion.{Completion}
-use Rattle.state.specs.declared.Request.{Request}
-use Rattle.state.specs.declared.Np.{Np}
-use Rattle.state.specs.declared.Np.the-variants.{Free, Waiting, Ready, Failed}
+use Rattle.peripheral.specs.Status.{pcFree, npFree}
+use Rattle.peripheral.specs.Upward.{upward, successOf}
+use Rattle.peripheral.specs.declared.Kind.{Kind}
+use Rattle.peripheral.specs.declared.Kind.the-variants as R
+use Rattle.peripheral.specs.declared.Completion.{Completion}
+use Rattle.peripheral.specs.declared.Request.{Request}
+use Rattle.peripheral.specs.declared.Np.{Np}
+use Rattle.peripheral.specs.declared.Np.the-variants.{Free, Waiting, Ready, Failed}
+use Rattle.peripheral.specs.Facts.{ReadyRequest, ready-request}
+use Rattle.peripheral.specs.Sound.{within, soundRequest}
+use Rattle.state.specs.Status.{status}
 use Rattle.state.specs.declared.State.{State}
-use Rattle.sound.specs.Facts.{ReadyRequest, ready-request, sound-request}
-use Rattle.sound.specs.Sound.{within, soundRequest}
+use Rattle.state.specs.Facts.{sound-request}
 use Rattle.rules.specs.Decide as D
 use Rattle.rules.specs.Reply.{replyBytes, closed, headerBytes, dataBytes}
 use Rattle.rules.specs.declared.Plan.{Plan}

@@ -7,7 +7,7 @@ use mathlib.Core.Logic.{_↔_, _≢_}
 use mathlib.Core.Path.{_≡_}
 use lib.ListN.{length}
 use Rattle.state.specs.Status.{status}
-use Rattle.sound.specs.Sound.{Sound}
+use Rattle.state.specs.Sound.{Sound}
 use Rattle.rules.specs.Fields.{byte, isPosted, isNonPosted}
 use Rattle.rules.specs.FirstApplies.{noneApplies, formRows, sizeRows, crcWrong, enabled0}
 use Rattle.rules.specs.Shape.{statusShown}

@@ -11,19 +11,21 @@ use lib.Pow.{pow-pos}
 use lib.Seq.{getD-append-seam, getD-append-add}
 use borrow.Author.Tests.{eqb-true, eqb-false, le-ltb, not-true, eq-eqb, le-leb}
 use Rattle.base.specs.Pick.{pick, pick-ind, and-left, and-right}
+use Rattle.base.specs.Bytes.{bit as bitFor}
 use Rattle.crc.specs.Crc.{crc}
 use Rattle.registers.specs.Registers.{bits, on0, on1}
 use Rattle.registers.specs.Laws.{bit-zero}
 use Rattle.wires.specs.Groups.{anyPending, undefinedZero, marksRight, placeRight, markAt}
-use Rattle.state.specs.Status.{status, pcFree, npFree, pcAvail, bit as bitFor}
-use Rattle.state.specs.Upward.{upward}
-use Rattle.state.specs.declared.Np.{Np}
-use Rattle.state.specs.declared.Np.the-variants.{Free, Waiting, Ready, Failed}
-use Rattle.state.specs.declared.Write.{Write}
-use Rattle.state.specs.declared.Write.the-variants.{Empty, Held}
+use Rattle.peripheral.specs.Status.{pcFree, npFree, pcAvail}
+use Rattle.peripheral.specs.Upward.{upward}
+use Rattle.peripheral.specs.declared.Np.{Np}
+use Rattle.peripheral.specs.declared.Np.the-variants.{Free, Waiting, Ready, Failed}
+use Rattle.peripheral.specs.declared.Write.{Write}
+use Rattle.peripheral.specs.declared.Write.the-variants.{Empty, Held}
+use Rattle.state.specs.Status.{status}
 use Rattle.state.specs.declared.State.{State}
-use Rattle.sound.specs.Facts.{sound-wires, sound-off}
-use Rattle.sound.specs.Sound.{Sound}
+use Rattle.state.specs.Facts.{sound-wires, sound-off}
+use Rattle.state.specs.Sound.{Sound}
 use Rattle.rules.specs.Decide as D
 use Rattle.rules.specs.Step.{World, Call, exchange, step, exchanged, shortStores, refused, Outcome, replyLength, writeLength, readLength}
 use Rattle.rules.specs.Fields.{byte, isPosted, isNonPosted}

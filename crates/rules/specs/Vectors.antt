@@ -12,8 +12,8 @@ use Rattle.wires.specs.Groups.{putPairs, sent, packetOf, unmarked}
 use Rattle.pieces.specs.Marks.{markOf}
 use Rattle.pieces.specs.Pieces.{nextSize, nextMark}
 use Rattle.command.specs.Decode.{allFF, decode, admit}
+use Rattle.peripheral.specs.Upward.{upward, handed}
 use Rattle.state.specs.Fresh.{freshState}
-use Rattle.state.specs.Upward.{upward, handed}
 use Rattle.state.specs.Status.{status}
 use Rattle.rules.specs.Decide as D
 use Rattle.rules.specs.Board as B

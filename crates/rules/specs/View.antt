@@ -10,7 +10,7 @@ use lib.ListN.{length, getD, take, length-append}
 use lib.Seq.{getD-append-add, take-length}
 use borrow.Author.Tests.{eqb-true, not-false}
 use Rattle.base.specs.Pick.{pick, pick-ind}
-use Rattle.base.specs.Bytes.{over, low2}
+use Rattle.base.specs.Bytes.{over, low2, bit-below, bit}
 use Rattle.crc.specs.Crc.{crc}
 use Rattle.registers.specs.Registers.{on0, crcChecked, operatingCount, payloadSize, forbiddenAt, writeAt}
 use Rattle.registers.specs.Laws.{on0-written}
@@ -26,18 +26,19 @@ use Rattle.command.specs.declared.Opcode.{Opcode}
 use Rattle.command.specs.declared.Opcode.the-variants as O
 use Rattle.command.specs.declared.Decoded.{Decoded}
 use Rattle.command.specs.declared.Decoded.the-variants.{Known}
-use Rattle.state.specs.Status.{status, bit, npFree, pcFree, pcAvail}
-use Rattle.state.specs.Upward.{upward, handed}
-use Rattle.state.specs.declared.Completion.{Completion}
-use Rattle.state.specs.declared.Np.{Np}
-use Rattle.state.specs.declared.Np.the-variants.{Free, Waiting, Ready, Failed}
-use Rattle.state.specs.declared.Peripheral.{Peripheral}
-use Rattle.state.specs.declared.Request.{Request}
-use Rattle.state.specs.declared.Write.{Write}
-use Rattle.state.specs.declared.Write.the-variants.{Empty, Held}
+use Rattle.peripheral.specs.Status.{npFree, pcFree, pcAvail}
+use Rattle.peripheral.specs.Upward.{upward, handed}
+use Rattle.peripheral.specs.declared.Completion.{Completion}
+use Rattle.peripheral.specs.declared.Np.{Np}
+use Rattle.peripheral.specs.declared.Np.the-variants.{Free, Waiting, Ready, Failed}
+use Rattle.peripheral.specs.declared.Peripheral.{Peripheral}
+use Rattle.peripheral.specs.declared.Request.{Request}
+use Rattle.peripheral.specs.declared.Write.{Write}
+use Rattle.peripheral.specs.declared.Write.the-variants.{Empty, Held}
+use Rattle.peripheral.specs.Sound.{within}
+use Rattle.peripheral.specs.Facts.{no-request}
+use Rattle.state.specs.Status.{status}
 use Rattle.state.specs.declared.State.{State}
-use Rattle.sound.specs.Sound.{within}
-use Rattle.sound.specs.Facts.{no-request}
 use Rattle.rules.specs.Plan.{silent, fatal, acceptThen}
 use Rattle.rules.specs.Decide as D
 use Rattle.rules.specs.Decide.{nextSerial, sizeFor, channelsOf, byDecoded}
@@ -54,10 +55,6 @@ use Rattle.rules.specs.declared.Plan.{Plan}
 pub record Shown (n : Np) (reply : List ℕ) : Type 0 where
   pub np : shows 1 (bit (npFree n)) reply
   pub pc : shows 4 (bit (pcAvail n)) reply
-
-pub bit-below : (b : Bool) → bit b ≤ 1
-bit-below true = omega arith
-bit-below false = omega arith
 
 pub status-np : (s : State) → status s / 2 ^ 1 % 2 ≡ bit (npFree (s .peripheral .request))
 unfolding status

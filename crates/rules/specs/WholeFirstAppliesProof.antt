@@ -10,17 +10,17 @@ use borrow.Author.Tests.{not-false, ltb-false, leb-true, leb-false, ne-eqb, lt-l
 use Rattle.base.specs.Pick.{pick, and-right}
 use Rattle.registers.specs.Registers.{on1}
 use Rattle.wires.specs.Groups.{definedBit, settable, undefinedZero, marksRight, placeRight, readWire as readWireOf}
-use Rattle.state.specs.declared.Kind.{Kind}
-use Rattle.state.specs.declared.Kind.the-variants as R
-use Rattle.state.specs.declared.Request.{Request}
-use Rattle.state.specs.declared.Np.{Np}
-use Rattle.state.specs.declared.Np.the-variants.{Free, Waiting, Ready, Failed}
-use Rattle.state.specs.declared.Write.{Write}
-use Rattle.state.specs.declared.Write.the-variants.{Empty, Held}
+use Rattle.peripheral.specs.declared.Kind.{Kind}
+use Rattle.peripheral.specs.declared.Kind.the-variants as R
+use Rattle.peripheral.specs.declared.Request.{Request}
+use Rattle.peripheral.specs.declared.Np.{Np}
+use Rattle.peripheral.specs.declared.Np.the-variants.{Free, Waiting, Ready, Failed}
+use Rattle.peripheral.specs.declared.Write.{Write}
+use Rattle.peripheral.specs.declared.Write.the-variants.{Empty, Held}
 use Rattle.state.specs.declared.State.{State}
-use Rattle.sound.specs.Facts.{sound-wires}
-use Rattle.layout.specs.Layout.{stateLength, unpacked, holds}
-use Rattle.layout.specs.Packing.{holds-sound}
+use Rattle.state.specs.Facts.{sound-wires}
+use Rattle.state.specs.Layout.{stateLength, unpacked, holds}
+use Rattle.state.specs.Packing.{holds-sound}
 use Rattle.rules.specs.Decide as D
 use Rattle.rules.specs.Board as B
 use Rattle.rules.specs.declared.Plan.{Plan}

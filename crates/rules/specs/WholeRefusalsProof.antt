@@ -12,13 +12,13 @@ use borrow.Author.Tests.{not-false, ltb-true, ltb-false}
 use Rattle.base.specs.Pick.{pick, pick-ind}
 use Rattle.base.specs.Bytes.{over, over-none, drop-over}
 use Rattle.wires.specs.Groups.{definedBit, readWire as readWireOf}
-use Rattle.state.specs.declared.Np.{Np}
-use Rattle.state.specs.declared.Np.the-variants.{Free, Waiting, Ready, Failed}
-use Rattle.state.specs.declared.Write.{Write}
-use Rattle.state.specs.declared.Write.the-variants.{Empty, Held}
+use Rattle.peripheral.specs.declared.Np.{Np}
+use Rattle.peripheral.specs.declared.Np.the-variants.{Free, Waiting, Ready, Failed}
+use Rattle.peripheral.specs.declared.Write.{Write}
+use Rattle.peripheral.specs.declared.Write.the-variants.{Empty, Held}
 use Rattle.state.specs.declared.State.{State}
-use Rattle.layout.specs.Packing.{packed-length, stored-same}
-use Rattle.layout.specs.Layout.{stateLength, packed, unpacked, holds}
+use Rattle.state.specs.Packing.{packed-length, stored-same}
+use Rattle.state.specs.Layout.{stateLength, packed, unpacked, holds}
 use Rattle.rules.specs.Decide as D
 use Rattle.rules.specs.Board as B
 use Rattle.rules.specs.declared.Plan.{Plan}

@@ -16,7 +16,7 @@ use Rattle.wires.specs.declared.Wires.{Wires}
 use Rattle.command.specs.Needs.{groupCount}
 use Rattle.command.specs.Decode.{registerAddress, registerData}
 use Rattle.state.specs.Status.{status}
-use Rattle.sound.specs.Sound.{Sound}
+use Rattle.state.specs.Sound.{Sound}
 use Rattle.rules.specs.Reply.{closed}
 use Rattle.rules.specs.Step.{World, Call, exchange, setWire, readWire, Outcome, step}
 use Rattle.rules.specs.Bound.{wiresOf, groupByte}

@@ -11,6 +11,7 @@ use lib.ListN.{getD, length, take}
 use borrow.Author.Tests.{eqb-true, eqb-false, ltb-true, lt-ltb, not-true}
 use Rattle.base.specs.Pick.{or-second, pick, pick-ind, and-left, and-right}
 use Rattle.registers.specs.Registers.{on1}
+use Rattle.registers.specs.Layout.{fitsConfig}
 use Rattle.wires.specs.Kept.{clash}
 use Rattle.wires.specs.Table.{rowAt, isGroup}
 use Rattle.wires.specs.Groups as G
@@ -24,9 +25,10 @@ use Rattle.wires.specs.Changes.{put-read, put-undefined, put-passes, put-marks,
 use Rattle.wires.specs.Sent.{waiters, queue, sent-queue, sent-count, sent-levels, sent-stays, sent-gone, pairBytes}
 use Rattle.wires.specs.declared.Wires.{Wires}
 use Rattle.command.specs.Decode.{registerAddress, registerData}
+use Rattle.peripheral.specs.Sound.{fitsPeripheral}
 use Rattle.state.specs.Status.{status}
 use Rattle.state.specs.declared.State.{State}
-use Rattle.sound.specs.Sound.{Sound, fits, fitsConfig, fitsPeripheral}
+use Rattle.state.specs.Sound.{Sound, fits}
 use Rattle.rules.specs.Reply.{closed}
 use Rattle.rules.specs.Step.{World, Call, exchange, setWire, readWire, Outcome, step}
 use Rattle.rules.specs.Bound.{WireKind, nothing, puts, gets, sets, enables, disables, starts, resets, platformResets, edge, commandWire, wireKindOf, wireKind, wiresOf}

@@ -1,5 +1,5 @@
 // What an exchange or a board call does, as data: a plan names bytes by place and count only.
-use state::Completion;
+use peripheral::Completion;
 use state::State;
 use wires::Packet;
 
