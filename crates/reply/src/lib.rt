@@ -1,6 +1,5 @@
 // A plan's answer written into the lent reply, and its kept data into a lent store.
 use peripheral::Completion;
-use peripheral::Kind;
 use peripheral::Posted;
 use peripheral::Request;
 use peripheral::Write;
@@ -15,7 +14,6 @@ ghost use Prim.Native.Nat.{_+_, _*_, _≤_};
 ghost use lib.ListN.{length, take, drop};
 ghost use Rattle.base.specs.Bytes.{over};
 ghost use Rattle.wires.specs.Groups.{packetBytes};
-ghost use Rattle.peripheral.specs.Layout.{kindNumber};
 ghost use Rattle.rules.specs.Plan.{responseByte};
 ghost use Rattle.rules.specs.Board.{requestReport, postedReport, takeReport};
 ghost use Rattle.rules.specs.Reply.{headerBytes, dataBytes, bodyBytes, closed, replyBytes, keptBytes};
@@ -168,16 +166,6 @@ pub fn keep(dst: &mut [u8], k: Kept, src: &[u8])
     }
 }
 
-fn kind_number(k: Kind) -> u8
-    ensures { λ r. ⌜ r ≡ kindNumber k ⌝ }
-{
-    match k {
-        Kind::MemoryRead => 0,
-        Kind::IoRead => 1,
-        Kind::IoWrite => 2,
-    }
-}
-
 fn request_report(q: Request, serial: u32) -> [u8; 19]
     ensures { λ r. ⌜ r ≡ requestReport q serial ⌝ }
 {
@@ -186,7 +174,7 @@ fn request_report(q: Request, serial: u32) -> [u8; 19]
     let n = q.length;
     let b = q.bytes;
     [
-        kind_number(k),
+        peripheral::kind_number(k),
         (a % 256) as u8,
         (a / 256 % 256) as u8,
         (a / 65536 % 256) as u8,
