@@ -15,6 +15,7 @@ KINDS = ["GET_STATUS", "short I/O read", "its GET_PC", "64-byte piece", "256-byt
          "GET_CONFIGURATION", "SET_CONFIGURATION", "a refusal (GET_PC, none ready)"]
 BOARD = ["set wire, refused", "set wire"]  # load and little else; load, a wire changed, the state packed
 PROGRAM = "target/figures"
+LOAD = "state::load"
 NATIVE = platform.machine() == "x86_64"
 
 
@@ -22,12 +23,12 @@ def run(command):
     return subprocess.run(command, check=True, capture_output=True, text=True).stdout
 
 
-def counted(kind, times):
-    """Instructions by symbol of a run with so many exchanges; those of the archive are named espi_.. and CRATE::.."""
+def counted(kind, times, inside):
+    """Instructions by symbol of a run with so many exchanges, or of the calls of one symbol in it; those of the archive are named espi_.. and CRATE::.."""
     counts = collections.Counter()
     if NATIVE:
         with tempfile.NamedTemporaryFile() as out:
-            run(["valgrind", "--tool=callgrind", f"--callgrind-out-file={out.name}", PROGRAM, kind, str(times)])
+            run(["valgrind", "--tool=callgrind", f"--callgrind-out-file={out.name}"] + ([f"--toggle-collect={inside}"] if inside else []) + [PROGRAM, kind, str(times)])
             for line in run(["callgrind_annotate", "--threshold=100", out.name]).splitlines():
                 row = re.match(r"\s*([\d,]+) \(\s*[\d.]+%\)\s+[^\s:]+:(\S+)", line)
                 if row:
@@ -35,21 +36,27 @@ def counted(kind, times):
         return counts
     with tempfile.NamedTemporaryFile(mode="r") as out:
         run(["qemu-x86_64-static", "-singlestep", "-d", "exec,nochain", "-D", out.name, PROGRAM, kind, str(times)])
+        within = False
         for line in out:
             if line.startswith("Trace"):
-                counts[line.split("] ", 1)[-1].strip()] += 1
+                symbol = line.split("] ", 1)[-1].strip()
+                within = not inside or symbol == inside or within and not symbol.startswith("espi_")
+                counts[symbol] += within
     return counts
+
+
+def instructions(kind, inside=""):
+    """Those of one exchange in the archive."""
+    more = counted(kind, 2, inside)
+    more.subtract(counted(kind, 1, inside))
+    return sum(n for symbol, n in more.items() if "::" in symbol or symbol.startswith("espi_"))
 
 
 def figures(kind):
     """Number, bytes sent and said, instructions of the archive, those of them in `load`, nanoseconds."""
     number, sent, said, _ = run(([] if NATIVE else ["qemu-x86_64-static"]) + [PROGRAM, kind, "1"]).split()
-    more, less = counted(kind, 2), counted(kind, 1)
-    more.subtract(less)
-    total = sum(n for symbol, n in more.items() if "::" in symbol or symbol.startswith("espi_"))
-    load = sum(n for symbol, n in more.items() if symbol.startswith(("layout::", "sound::")))
     ns = min((run([PROGRAM, kind, "200000"]).split()[3] for _ in range(5)), key=float) if NATIVE else "-"
-    return number, int(sent), int(said), total, load, ns
+    return number, int(sent), int(said), instructions(kind), instructions(kind, LOAD), ns
 
 
 def main():

@@ -26,19 +26,21 @@ use Rattle.command.specs.declared.Channels.{Channels}
 use Rattle.command.specs.declared.Command.{Command}
 use Rattle.command.specs.declared.Decoded.{Decoded}
 use Rattle.command.specs.declared.Decoded.the-variants.{Known, Refused}
-use Rattle.state.specs.Upward.{upward, handed, firstOf}
-use Rattle.state.specs.Status.{pcFree, npFree}
-use Rattle.state.specs.declared.Kind.{Kind}
-use Rattle.state.specs.declared.Kind.the-variants as R
-use Rattle.state.specs.declared.Request.{Request}
-use Rattle.state.specs.declared.Np.{Np}
-use Rattle.state.specs.declared.Peripheral.{Peripheral}
-use Rattle.state.specs.declared.Completion.{Completion}
-use Rattle.state.specs.declared.Next.{Next}
-use Rattle.state.specs.declared.Next.the-variants.{Nothing, One}
+use Rattle.peripheral.specs.Upward.{upward, handed, firstOf}
+use Rattle.peripheral.specs.Status.{pcFree, npFree}
+use Rattle.peripheral.specs.declared.Kind.{Kind}
+use Rattle.peripheral.specs.declared.Kind.the-variants as R
+use Rattle.peripheral.specs.declared.Request.{Request}
+use Rattle.peripheral.specs.declared.Np.{Np}
+use Rattle.peripheral.specs.declared.Peripheral.{Peripheral}
+use Rattle.peripheral.specs.declared.Completion.{Completion}
+use Rattle.peripheral.specs.declared.Next.{Next}
+use Rattle.peripheral.specs.declared.Next.the-variants.{Nothing, One}
+use Rattle.peripheral.specs.Sound.{within}
+use Rattle.peripheral.specs.Facts.{legal-payload, legal-read}
 use Rattle.state.specs.declared.State.{State}
-use Rattle.sound.specs.Sound.{within, sound}
-use Rattle.sound.specs.Facts.{legal-payload, legal-read, sound-config, sound-wires}
+use Rattle.state.specs.Sound.{sound}
+use Rattle.state.specs.Facts.{sound-config, sound-wires}
 use Rattle.rules.specs.Plan.{silent, said, fatal, nonFatal, accept, defer, acceptThen, quietly}
 use Rattle.rules.specs.Decide.{withPeripheral, withWires, withRequest, holding, post, requestOf, sizeFor, asking, ask, bytesOf, handing, getPc, putVwire, getVwire, reconfigured, setConfiguration, channelsOf, byDecoded, decide, exchange}
 use Rattle.rules.specs.Decide as D

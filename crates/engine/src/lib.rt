@@ -5,6 +5,13 @@ use command::Command;
 use command::Decoded;
 use command::Head;
 use command::Place;
+use peripheral::Kind;
+use peripheral::Next;
+use peripheral::Np;
+use peripheral::Peripheral;
+use peripheral::Posted;
+use peripheral::Request;
+use peripheral::Write;
 use registers::Config;
 use registers::Reg008;
 use registers::Reg010;
@@ -13,29 +20,22 @@ use rules::Body;
 use rules::Kept;
 use rules::Plan;
 use rules::Response;
-use state::Kind;
-use state::Next;
-use state::Np;
-use state::Peripheral;
-use state::Posted;
-use state::Request;
 use state::State;
-use state::Write;
 use wires::Wires;
 ghost use mathlib.Core.Path.{_≡_};
 ghost use mathlib.Core.Bool.{true};
 ghost use Prim.Native.Nat.{_+_, _*_, _<_, _≤_};
 ghost use lib.ListN.{length};
 ghost use Rattle.registers.specs.Registers.{readAt};
-ghost use Rattle.state.specs.declared.Kind.the-variants as R;
-ghost use Rattle.rules.specs.declared.Body.the-variants as B;
 ghost use Rattle.command.specs.declared.Command.the-variants as C;
 ghost use Rattle.command.specs.Facts.{CommandFits, SizeFits};
-ghost use Rattle.sound.specs.Sound.{sound};
+ghost use Rattle.peripheral.specs.declared.Kind.the-variants as R;
+ghost use Rattle.state.specs.Sound.{sound};
+ghost use Rattle.rules.specs.declared.Body.the-variants as B;
 ghost use Rattle.rules.specs.Plan.{silent, said, fatal, accept, acceptThen, quietly};
 ghost use Rattle.rules.specs.Decide.{withPeripheral, withWires, withRequest, holding, post, requestOf, sizeFor, asking, ask, bytesOf, short, getPc, putVwire, getVwire, peripheralEdge, wiresEdge, reconfigured, setConfiguration, reset008h, dataAt, decide, channelsOf, exchange};
-ghost use Rattle.engine.specs.Laws.{refusedBy};
 ghost use Rattle.rules.specs.Board.{espiReset, platformReset, answerLength, bytesFor, answered, answeringWaiting, answer, emptied, takeWrite, setWireCall};
+ghost use Rattle.engine.specs.Laws.{refusedBy};
 
 // ---- the sorts of result
 
@@ -158,13 +158,13 @@ fn posted(s: State, address: u64, length: u32, from: u32) -> Plan
 {
     let p = s.peripheral;
     let w = p.write;
-    if !state::pc_free(w) {
+    if !peripheral::pc_free(w) {
         return fatally(s);
     }
     let c = s.config;
     let r = c.r010;
     let payload = r.payload_size();
-    if !sound::within(address, length, payload) {
+    if !peripheral::within(address, length, payload) {
         return fatally(s);
     }
     let next = with_peripheral(s, held(p, address, length, payload));
@@ -225,11 +225,11 @@ fn requested(s: State, q: Request) -> Plan
 {
     let p = s.peripheral;
     let n = p.request;
-    if !state::np_free(n) {
+    if !peripheral::np_free(n) {
         return fatally(s);
     }
     let size = size_for(q);
-    if !sound::within(q.address, q.length, size) {
+    if !peripheral::within(q.address, q.length, size) {
         return fatally(s);
     }
     say(
@@ -280,12 +280,12 @@ fn hand_over(s: State) -> Plan
 {
     let p = s.peripheral;
     let n = p.request;
-    let up = upward::next_completion(n);
+    let up = peripheral::next_completion(n);
     match up {
         Next::Nothing => fatally(s),
         Next::One(c) => accepted(
             Body::Piece(c),
-            with_peripheral(s, with_request(p, upward::handed(n))),
+            with_peripheral(s, with_request(p, peripheral::handed(n))),
         ),
     }
 }

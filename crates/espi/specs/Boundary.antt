@@ -10,11 +10,11 @@ use borrow.Author.Tests.{not-false}
 use Rattle.base.specs.Pick.{pick, and-left}
 use Rattle.base.specs.Bytes.{over, agree}
 use Rattle.wires.specs.Groups.{definedBit, readWire}
-use Rattle.state.specs.declared.Np.{Np}
+use Rattle.peripheral.specs.declared.Np.{Np}
 use Rattle.state.specs.declared.State.{State}
-use Rattle.sound.specs.Sound.{sound}
-use Rattle.layout.specs.Layout.{stateLength, packed, unpacked, holds, loaded}
-use Rattle.layout.specs.declared.Loaded.{Loaded}
+use Rattle.state.specs.Sound.{sound}
+use Rattle.state.specs.Layout.{stateLength, packed, unpacked, holds, loaded}
+use Rattle.state.specs.declared.Loaded.{Loaded}
 use Rattle.rules.specs.Decide as D
 use Rattle.rules.specs.Board as B
 use Rattle.rules.specs.Reply.{replyBytes, keptBytes}

@@ -1,10 +1,10 @@
 // The C boundary: the nine calls over lent bytes, and nothing else.
-use layout::load;
-use layout::pack;
+use peripheral::Np;
+use peripheral::Write;
 use rules::Plan;
-use state::Np;
 use state::State;
-use state::Write;
+use state::load;
+use state::pack;
 ghost use mathlib.Core.Path.{_≡_};
 ghost use Prim.Native.Nat.{_≤_};
 ghost use lib.ListN.{length};

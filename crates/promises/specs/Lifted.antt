@@ -6,7 +6,7 @@ use mathlib.Core.Path.{_≡_}
 use lib.ListN.{length, take}
 use Rattle.base.specs.Bytes.{over}
 use Rattle.state.specs.Fresh.{freshState}
-use Rattle.layout.specs.Layout.{stateLength, unpacked, holds}
+use Rattle.state.specs.Layout.{stateLength, unpacked, holds}
 use Rattle.rules.specs.Rules.Reset.{start}
 use Rattle.rules.specs.Rules.Peripheral as P
 use Rattle.rules.specs.Rules.Channel.{Channel, peripheral, wires, Board}

@@ -10,13 +10,13 @@ use borrow.Author.Tests.{le-ltb, ltb-true}
 use Rattle.base.specs.Pick.{pick, and-left, and-right}
 use Rattle.base.specs.Bytes.{over, over-none, take-over, length-over}
 use Rattle.wires.specs.Groups.{definedBit}
+use Rattle.peripheral.specs.declared.Np.{Np}
+use Rattle.peripheral.specs.declared.Np.the-variants.{Free, Waiting, Ready, Failed}
 use Rattle.state.specs.Fresh.{freshState}
-use Rattle.state.specs.declared.Np.{Np}
-use Rattle.state.specs.declared.Np.the-variants.{Free, Waiting, Ready, Failed}
 use Rattle.state.specs.declared.State.{State}
-use Rattle.sound.specs.Sound.{Sound}
-use Rattle.layout.specs.Layout.{stateLength, packed, unpacked, holds}
-use Rattle.layout.specs.Packing.{packed-length, unpacked-over, holds-packed, holds-sound}
+use Rattle.state.specs.Sound.{Sound}
+use Rattle.state.specs.Layout.{stateLength, packed, unpacked, holds}
+use Rattle.state.specs.Packing.{packed-length, unpacked-over, holds-packed, holds-sound}
 use Rattle.rules.specs.Rules.Reset as R
 use Rattle.rules.specs.Rules.Reset.{Reset}
 use Rattle.rules.specs.Rules.Peripheral as P

@@ -1,8 +1,10 @@
 // The configuration registers: each a type of its own with its reset value and its writable bits.
 ghost use mathlib.Core.Path.{_≡_};
-ghost use Prim.Native.Nat.{_%_, _<_};
+ghost use Prim.Native.Nat.{_%_, _<_, _≤_};
 ghost use lib.Dec.{eqb};
+ghost use lib.ListN.{length};
 ghost use Rattle.registers.specs.Registers.{masked, forbidden008, forbidden010, forbidden020, write008, write010, write020, readied, fresh004, fresh008, fresh010, fresh020, sizeOf, crcChecked, on0, on1, payloadSize, readSize, operatingCount, freshConfig, readAt, forbiddenAt, writeAt, reachable008, reachable010, reachable020, reachable};
+ghost use Rattle.registers.specs.Layout.{configBytes, configIn};
 
 // Device identification.
 pub struct Reg004 {
@@ -275,6 +277,45 @@ impl Config {
         let b = self.r010.value;
         let c = self.r020.value;
         reachable_008(a) & reachable_010(b) & reachable_020(c)
+    }
+
+    pub fn bytes(self) -> [u8; 12]
+        ensures { λ r. ⌜ r ≡ configBytes self ⌝ }
+    {
+        let a = self.r008.value;
+        let b = self.r010.value;
+        let c = self.r020.value;
+        [
+            (a % 256) as u8,
+            (a / 256 % 256) as u8,
+            (a / 65536 % 256) as u8,
+            (a / 16777216 % 256) as u8,
+            (b % 256) as u8,
+            (b / 256 % 256) as u8,
+            (b / 65536 % 256) as u8,
+            (b / 16777216 % 256) as u8,
+            (c % 256) as u8,
+            (c / 256 % 256) as u8,
+            (c / 65536 % 256) as u8,
+            (c / 16777216 % 256) as u8,
+        ]
+    }
+
+    // The registers whose bytes stand at their place in `b`, sound or not.
+    pub fn unpack(b: &[u8]) -> Config
+        requires { ⌜ 12 ≤ length (now b) ⌝ }
+        ensures { λ r. ⌜ r ≡ configIn (now (b .entry)) ⌝ }
+    {
+        let r008 = Reg008 {
+            value: base::get4(b, 0),
+        };
+        let r010 = Reg010 {
+            value: base::get4(b, 4),
+        };
+        let r020 = Reg020 {
+            value: base::get4(b, 8),
+        };
+        Config { r008, r010, r020 }
     }
 }
 

@@ -10,7 +10,7 @@ use Rattle.base.specs.Bytes.{low2, put, over, copied, put-over, put-first, take
 use Rattle.crc.specs.Crc.{crc}
 use Rattle.wires.specs.Groups.{packetBytes}
 use Rattle.wires.specs.declared.Packet.{Packet}
-use Rattle.state.specs.declared.Completion.{Completion}
+use Rattle.peripheral.specs.declared.Completion.{Completion}
 use Rattle.rules.specs.Reply.{headerBytes, bodyBytes, closed, replyBytes, keptBytes}
 use Rattle.rules.specs.KeptFits.{closed-length}
 use Rattle.rules.specs.declared.Body.{Body}

@@ -1,13 +1,13 @@
 // A plan's answer written into the lent reply, and its kept data into a lent store.
+use peripheral::Completion;
+use peripheral::Kind;
+use peripheral::Posted;
+use peripheral::Request;
+use peripheral::Write;
 use rules::Answer;
 use rules::Body;
 use rules::Kept;
 use rules::Response;
-use state::Completion;
-use state::Kind;
-use state::Posted;
-use state::Request;
-use state::Write;
 use wires::Packet;
 ghost use mathlib.Core.Path.{_≡_};
 ghost use mathlib.Core.List.{_∷_, _++_};
@@ -15,8 +15,9 @@ ghost use Prim.Native.Nat.{_+_, _*_, _≤_};
 ghost use lib.ListN.{length, take, drop};
 ghost use Rattle.base.specs.Bytes.{over};
 ghost use Rattle.wires.specs.Groups.{packetBytes};
+ghost use Rattle.peripheral.specs.Layout.{kindNumber};
 ghost use Rattle.rules.specs.Plan.{responseByte};
-ghost use Rattle.rules.specs.Board.{kindNumber, requestReport, postedReport, takeReport};
+ghost use Rattle.rules.specs.Board.{requestReport, postedReport, takeReport};
 ghost use Rattle.rules.specs.Reply.{headerBytes, dataBytes, bodyBytes, closed, replyBytes, keptBytes};
 ghost use Rattle.rules.specs.Fits.{BodyFits, AnswerFits, KeptFits};
 

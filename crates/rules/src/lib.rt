@@ -1,6 +1,6 @@
 // What an exchange or a board call does, as data: it names bytes by place and count only.
-use state::Completion;
-use state::Peripheral;
+use peripheral::Completion;
+use peripheral::Peripheral;
 use state::State;
 use wires::Packet;
 use wires::Wires;

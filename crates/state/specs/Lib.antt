@@ -1,3 +1,7 @@
 pub mod Fresh
-pub mod Upward
 pub mod Status
+pub mod Sound
+pub mod Facts
+pub mod Layout
+pub mod Packing
+pub mod Coded

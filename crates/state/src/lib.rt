@@ -1,54 +1,15 @@
-// The state: configuration, peripheral channel, wires. A status bit is computed from the queue, never stored beside it.
+// The state: the registers and each channel; its status, its soundness, its bytes (docs/STATE.md).
+use peripheral::Peripheral;
 use registers::Config;
 use wires::Wires;
 ghost use mathlib.Core.Path.{_≡_};
-ghost use Prim.Native.Nat.{_+_, _*_, _≤_};
-ghost use Rattle.state.specs.Fresh.{idle, freshState, dropped};
-ghost use Rattle.state.specs.Status.{pcFree, npFree, pcAvail, bit, status};
-
-pub enum Kind {
-    MemoryRead,
-    IoRead,
-    IoWrite,
-}
-
-// A non-posted request, with the sizes in force when it was accepted; `bytes`: those of an I/O write, low byte first.
-pub struct Request {
-    pub kind: Kind,
-    pub address: u64,
-    pub length: u32,
-    pub tag: u8,
-    pub payload: u32,
-    pub readsize: u32,
-    pub bytes: u32,
-}
-
-// The held request by phase: unanswered; answered with success, and so many bytes sent; answered with failure.
-pub enum Np {
-    Free,
-    Waiting(Request),
-    Ready(Request, u32),
-    Failed(Request),
-}
-
-// A posted write, with the payload size in force when it was accepted.
-pub struct Posted {
-    pub address: u64,
-    pub length: u32,
-    pub payload: u32,
-}
-
-pub enum Write {
-    Empty,
-    Held(Posted),
-}
-
-// `serial`: the last one given, so that of the held request.
-pub struct Peripheral {
-    pub write: Write,
-    pub request: Np,
-    pub serial: u32,
-}
+ghost use Prim.Native.Nat.{_≤_};
+ghost use lib.ListN.{length};
+ghost use Rattle.base.specs.Bytes.{over};
+ghost use Rattle.state.specs.Fresh.{freshState};
+ghost use Rattle.state.specs.Status.{status};
+ghost use Rattle.state.specs.Sound.{sound};
+ghost use Rattle.state.specs.Layout.{stateLength, packed, unpacked, loaded};
 
 pub struct State {
     pub config: Config,
@@ -56,90 +17,10 @@ pub struct State {
     pub wires: Wires,
 }
 
-// A completion: its header, and where in the read store its data begins.
-pub struct Completion {
-    pub cycle: u8,
-    pub tag: u8,
-    pub length: u32,
-    pub from: u32,
-}
-
-// What GET_PC hands over next.
-pub enum Next {
-    Nothing,
-    One(Completion),
-}
-
-// ---- the fresh state
-
-impl Peripheral {
-    // Nothing held, and this the last serial given.
-    pub fn idle(serial: u32) -> Peripheral
-        ensures { λ r. ⌜ r ≡ idle serial ⌝ }
-    {
-        Peripheral {
-            write: Write::Empty,
-            request: Np::Free,
-            serial,
-        }
-    }
-
-    // Held write, request and completions go; the serial stays.
-    pub fn dropped(self) -> Peripheral
-        ensures { λ r. ⌜ r ≡ dropped self ⌝ }
-    {
-        Peripheral::idle(self.serial)
-    }
-}
-
-// ---- the status word
-
-pub fn pc_free(w: Write) -> bool
-    ensures { λ r. ⌜ r ≡ pcFree w ⌝ }
-{
-    match w {
-        Write::Empty => true,
-        Write::Held(_) => false,
-    }
-}
-
-pub fn np_free(n: Np) -> bool
-    ensures { λ r. ⌜ r ≡ npFree n ⌝ }
-{
-    match n {
-        Np::Free => true,
-        Np::Waiting(_) => false,
-        Np::Ready(_, _) => false,
-        Np::Failed(_) => false,
-    }
-}
-
-fn pc_avail(n: Np) -> bool
-    ensures { λ r. ⌜ r ≡ pcAvail n ⌝ }
-{
-    match n {
-        Np::Free => false,
-        Np::Waiting(_) => false,
-        Np::Ready(_, _) => true,
-        Np::Failed(_) => true,
-    }
-}
-
-fn bit_of(b: bool) -> u8
-    ensures { λ r. ⌜ (r ≡ bit b) × (r ≤ 1) ⌝ }
-{
-    if b {
-        return 1;
-    }
-    0
-}
-
-// Each of these bits is 0 or 1; bit 2, VWIRE_FREE, is always 1.
-fn word_of(write: u8, request: u8, completion: u8, group: u8) -> u32
-    requires { ⌜ (write ≤ 1) × (request ≤ 1) × (completion ≤ 1) × (group ≤ 1) ⌝ }
-    ensures { λ r. ⌜ r ≡ write + request * 2 + completion * 16 + (4 + group * 64) ⌝ }
-{
-    (write as u32) + (request as u32) * 2 + (completion as u32) * 16 + (4 + (group as u32) * 64)
+// What state bytes hold: `ok` where they pack a sound state.
+pub struct Loaded {
+    pub ok: bool,
+    pub state: State,
 }
 
 impl State {
@@ -156,14 +37,68 @@ impl State {
     pub fn status(self) -> u32
         ensures { λ r. ⌜ r ≡ status self ⌝ }
     {
-        let p = self.peripheral;
-        let w = p.write;
-        let n = p.request;
-        word_of(
-            bit_of(pc_free(w)),
-            bit_of(np_free(n)),
-            bit_of(pc_avail(n)),
-            bit_of(self.wires.any_pending()),
-        )
+        self.peripheral.status() + self.wires.status()
+    }
+}
+
+pub fn sound(s: State) -> bool
+    ensures { λ r. ⌜ r ≡ sound s ⌝ }
+{
+    let c = s.config;
+    let p = s.peripheral;
+    let w = s.wires;
+    c.reachable() & (p.sound(c.r010.on()) & w.sound(c.r020.on()))
+}
+
+// The state's 77 bytes at the start of `dst`; what is past them stays.
+pub fn pack(s: State, dst: &mut [u8])
+    requires { ⌜ stateLength ≤ length (now dst) ⌝ }
+    ensures { λ _. ⌜ now (dst .exit) ≡ over (packed s) (now (dst .entry)) ⌝ }
+{
+    let c = s.config;
+    let p = s.peripheral;
+    let w = s.wires;
+    let held = p.write;
+    let np = p.request;
+    let config = c.bytes();
+    let write = peripheral::write_bytes(held);
+    let request = peripheral::np_bytes(np);
+    let serial = base::bytes4(p.serial);
+    let wires = w.bytes();
+    base::put_at(dst, 0, &config);
+    base::put_at(dst, 12, &write);
+    base::put_at(dst, 29, &request);
+    base::put_at(dst, 60, &serial);
+    base::put_at(dst, 64, &wires);
+}
+
+// The state whose bytes stand at the start of `b`, sound or not.
+fn unpack(b: &[u8]) -> State
+    requires { ⌜ stateLength ≤ length (now b) ⌝ }
+    ensures { λ r. ⌜ r ≡ unpacked (now (b .entry)) ⌝ }
+{
+    let config = Config::unpack(b);
+    let peripheral = Peripheral::unpack(b);
+    let wires = Wires::unpack(b);
+    State {
+        config,
+        peripheral,
+        wires,
+    }
+}
+
+// The state that the bytes pack, and whether they pack a sound one: it is packed again and compared.
+pub fn load(b: &[u8]) -> Loaded
+    requires { ⌜ stateLength ≤ length (now b) ⌝ }
+    ensures { λ r. ⌜ r ≡ loaded (now (b .entry)) ⌝ }
+{
+    let state = unpack(b);
+    let sound = sound(state);
+    let mut again: [u8; 77] = [0; 77];
+    pack(state, &mut again);
+    let same = base::same(&again, b, 77);
+    Loaded {
+        ok: sound & same,
+        state,
     }
 }

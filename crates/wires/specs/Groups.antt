@@ -6,6 +6,7 @@ use lib.ListN.{getD, set, length}
 use lib.Bits.{bitAnd, bitOr}
 use lib.Dec.{eqb, ltb, leb}
 use Rattle.base.specs.Pick.{pick}
+use Rattle.base.specs.Bytes.{bit}
 use Rattle.wires.specs.Table.{rowAt, isGroup, resets}
 use Rattle.wires.specs.Turn.{turn, placeAfter}
 use Rattle.wires.specs.declared.Wires.{Wires}
@@ -124,9 +125,12 @@ packetBytes (One a) = 0 ∷ pairOf a []
 packetBytes (Two a b) = 1 ∷ pairOf a (pairOf b [])
 packetBytes (Three a b c) = 2 ∷ pairOf a (pairOf b (pairOf c []))
 
--- status bit 6: "a group is pending"
 abbrev pub anyPending : Wires → Bool
 anyPending w = markAt w 4 || (markAt w 5 || markAt w 6)
+
+-- the channel's word of the status: bit 2, VWIRE_FREE, always 1; bit 6, VWIRE_AVAIL: "a group is pending"
+abbrev pub wiresStatus : Wires → ℕ
+wiresStatus w = 4 + bit (anyPending w) * 64
 
 -- ---- enabling, disabling and resets
 

@@ -8,3 +8,4 @@ pub mod Nibbles
 pub mod Kept
 pub mod Changes
 pub mod Sent
+pub mod Layout

@@ -112,13 +112,6 @@ settable-bit i bit value e =
       level = leb-true value 1 (and-right (not (rowAt (i - 2) .down)) _ e₁);
     }
 
--- a test that stops at its first part, and one that goes on to its second
-pub stops : {a : Bool} (b : Bool) → a ≡ false → false ≡ (a && b)
-stops {a} b e = rw e
-
-pub goes-on : {a : Bool} (b : Bool) → a ≡ true → b ≡ (a && b)
-goes-on {a} b e = rw e
-
 -- a level moved to its bit loses nothing in eight bits
 pub bit-exact : (bit value : ℕ) → bit < 4 → value ≤ 1 → (value * 2 ^ bit) % 256 ≡ value * 2 ^ bit
 bit-exact bit value h l = shl-exact {a = value} 1 bit 8 (omega arith) (omega arith)

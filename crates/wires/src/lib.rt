@@ -5,7 +5,8 @@ ghost use Prim.Native.Nat.{_+_, _-_, _*_, _≤_, _<_};
 ghost use lib.ListN.{length, take};
 ghost use Rattle.wires.specs.Turn.{after};
 ghost use Rattle.wires.specs.Sending.{packetAnd, leftBy, asked, sending, Sendable};
-ghost use Rattle.wires.specs.Groups.{senders, groupOf, freshWires, withGroup, levelAt, nibble, putPair, putPairs, definedBit, settable, setWire, readWire, anyPending, differs, enabled, disabled, placed, resetGroup, platformWires, onlyDefined, undefinedZero, marksRight, placeRight, soundWires};
+ghost use Rattle.wires.specs.Groups.{senders, groupOf, freshWires, withGroup, levelAt, nibble, putPair, putPairs, definedBit, settable, setWire, readWire, anyPending, wiresStatus, differs, enabled, disabled, placed, resetGroup, platformWires, onlyDefined, undefinedZero, marksRight, placeRight, soundWires};
+ghost use Rattle.wires.specs.Layout.{wiresBytes, wiresIn};
 
 pub struct WireRow {
     pub index: u8,
@@ -299,6 +300,13 @@ impl Wires {
         self.pending[2] | (self.pending[3] | self.pending[4])
     }
 
+    // Bit 2, VWIRE_FREE, is always 1.
+    pub fn status(self) -> u32
+        ensures { λ r. ⌜ (r ≡ wiresStatus self) × (r ≤ 68) ⌝ }
+    {
+        4 + (base::bit_of(self.any_pending()) as u32) * 64
+    }
+
     fn differs(self, index: usize) -> bool
         requires { ⌜ (2 ≤ index) × (index ≤ 7) ⌝ }
         ensures { λ r. ⌜ r ≡ differs self index ⌝ }
@@ -388,5 +396,44 @@ impl Wires {
         ensures { λ r. ⌜ r ≡ soundWires on self ⌝ }
     {
         self.undefined_zero() & self.marks_right(on) & self.place_right()
+    }
+
+    pub fn bytes(self) -> [u8; 13]
+        ensures { λ r. ⌜ r ≡ wiresBytes self ⌝ }
+    {
+        [
+            self.level[0],
+            self.level[1],
+            self.level[2],
+            self.level[3],
+            self.level[4],
+            self.level[5],
+            base::bit_of(self.pending[0]),
+            base::bit_of(self.pending[1]),
+            base::bit_of(self.pending[2]),
+            base::bit_of(self.pending[3]),
+            base::bit_of(self.pending[4]),
+            base::bit_of(self.pending[5]),
+            self.place,
+        ]
+    }
+
+    // The wires whose bytes stand at their place in `b`, sound or not.
+    pub fn unpack(b: &[u8]) -> Wires
+        requires { ⌜ 77 ≤ length (now b) ⌝ }
+        ensures { λ r. ⌜ r ≡ wiresIn (now (b .entry)) ⌝ }
+    {
+        Wires {
+            level: [b[64], b[65], b[66], b[67], b[68], b[69]],
+            pending: [
+                b[70] == 1,
+                b[71] == 1,
+                b[72] == 1,
+                b[73] == 1,
+                b[74] == 1,
+                b[75] == 1,
+            ],
+            place: b[76],
+        }
     }
 }

@@ -1,10 +1,10 @@
-use Rattle.state.specs.declared.Np.the-variants.{Ready}
+use Rattle.peripheral.specs.declared.Np.the-variants.{Ready}
 use mathlib.Core.Path.{sym, ap, _∙_}
+use Rattle.state.specs.declared.State.{State}
 use Rattle.rules.specs.Board.{answered}
 use Rattle.rules.specs.Decide.{withPeripheral, withRequest}
 use Rattle.rules.specs.Plan.{quietly}
 use Rattle.rules.specs.declared.Kept.the-variants as K
-use Rattle.state.specs.declared.State.{State}
 use Prim.Native.Nat.{ℕ}
 use borrow.Author.Needs.{needs}
 use Rattle.engine.proofs.answer_taken.Statement.{statement}

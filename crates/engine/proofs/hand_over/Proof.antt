@@ -1,5 +1,5 @@
+use Rattle.state.specs.Facts.{sound-request}
 use Rattle.engine.specs.Laws.{get-none, get-one}
-use Rattle.sound.specs.Facts.{sound-request}
 use borrow.Author.Needs.{needs}
 use Rattle.engine.proofs.hand_over.Statement.{statement}
 use Rattle.engine.proofs.hand_over.Tie as tie

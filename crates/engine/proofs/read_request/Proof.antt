@@ -1,7 +1,7 @@
 use mathlib.Core.Path.{ap, _∙_}
-use Rattle.engine.specs.Laws.{request-sizes}
+use Rattle.peripheral.specs.declared.Kind.the-variants.{MemoryRead}
 use Rattle.rules.specs.Decide.{ask}
-use Rattle.state.specs.declared.Kind.the-variants.{MemoryRead}
+use Rattle.engine.specs.Laws.{request-sizes}
 use borrow.Author.Needs.{needs}
 use Rattle.engine.proofs.read_request.Statement.{statement}
 use Rattle.engine.proofs.read_request.Tie as tie

@@ -1,7 +1,7 @@
 use Rattle.registers.specs.Registers.{on1}
-use Rattle.engine.specs.Laws.{send-none, send-done}
 use Rattle.wires.specs.Kept.{sound-sendable}
-use Rattle.sound.specs.Facts.{sound-wires}
+use Rattle.state.specs.Facts.{sound-wires}
+use Rattle.engine.specs.Laws.{send-none, send-done}
 use borrow.Author.Needs.{needs}
 use Rattle.engine.proofs.send_wires.Statement.{statement}
 use Rattle.engine.proofs.send_wires.Tie as tie

@@ -2,12 +2,12 @@ use mathlib.Core.Path.{ap, sym, subst, _∙_}
 use native.Mathlib.Omega.{arith}
 use Prim.Native.Nat.{ℕ}
 use denote.Ref.{now}
-use Rattle.engine.specs.Laws.{request-sizes}
-use Rattle.rules.specs.Decide.{ask, short, requestOf}
-use Rattle.state.specs.declared.Kind.the-variants as R
 use Rattle.command.specs.Facts.{CommandFits}
 use Rattle.command.specs.declared.Access.{Access}
 use Rattle.command.specs.declared.Command.the-variants as C
+use Rattle.peripheral.specs.declared.Kind.the-variants as R
+use Rattle.rules.specs.Decide.{ask, short, requestOf}
+use Rattle.engine.specs.Laws.{request-sizes}
 use native.Mathlib.Omega.{arith}
 use borrow.Author.Needs.{needs}
 use Rattle.engine.proofs.short_access.Statement.{statement}

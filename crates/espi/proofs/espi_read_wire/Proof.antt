@@ -1,5 +1,5 @@
-use Rattle.layout.specs.Layout.{unpacked}
 use Rattle.base.specs.Pick.{taken, passed}
+use Rattle.state.specs.Layout.{unpacked}
 use borrow.Author.Tests.{lt-ltb, le-ltb}
 use mathlib.Core.Path.{refl, _∙_}
 use denote.Ref.{now}

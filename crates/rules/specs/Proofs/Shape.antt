@@ -9,9 +9,9 @@ use lib.ListN.{length}
 use borrow.Author.Tests.{ltb-false}
 use Rattle.base.specs.Pick.{pick-ind}
 use Rattle.base.specs.Bytes.{low4}
+use Rattle.peripheral.specs.Sound.{soundRequest}
 use Rattle.state.specs.declared.State.{State}
-use Rattle.sound.specs.Facts.{sound-request}
-use Rattle.sound.specs.Sound.{soundRequest}
+use Rattle.state.specs.Facts.{sound-request}
 use Rattle.rules.specs.Rules.Channel.{Channel, peripheral, wires, Command, Change, part, actOf}
 use Rattle.rules.specs.Rules.Lift.{lift}
 use Rattle.rules.specs.Rules.Reply.{replyBytes, closed}

@@ -16,7 +16,7 @@ use Rattle.command.specs.declared.PeripheralCommand.the-variants.{PutPc, GetPc,
 use Rattle.command.specs.declared.Command.the-variants as C₀
 use Rattle.state.specs.Fresh.{freshState}
 use Rattle.state.specs.declared.State.{State}
-use Rattle.sound.specs.Sound.{Sound}
+use Rattle.state.specs.Sound.{Sound}
 use Rattle.rules.specs.Rules.Reset.{Reset, start}
 use Rattle.rules.specs.Rules.Channel.{Channel, peripheral, wires, Part, Command, Act, Board, Change, nextOf, part, put, each, on, actOf, edge, reset}
 use Rattle.rules.specs.Rules.Lift as L

@@ -18,18 +18,20 @@ use Rattle.wires.specs.Kept.{sound-view, sound-test}
 use Rattle.wires.specs.declared.Wires.{Wires}
 use Rattle.pieces.specs.Pieces.{blocks, edge}
 use Rattle.pieces.specs.Edges.{edge-of, edge-zero, edge-whole}
-use Rattle.state.specs.Status.{pcFree, npFree}
-use Rattle.state.specs.declared.Kind.{Kind}
-use Rattle.state.specs.declared.Kind.the-variants.{MemoryRead, IoRead, IoWrite}
-use Rattle.state.specs.declared.Request.{Request}
-use Rattle.state.specs.declared.Np.{Np}
-use Rattle.state.specs.declared.Np.the-variants.{Free, Waiting, Ready, Failed}
-use Rattle.state.specs.declared.Write.{Write}
-use Rattle.state.specs.declared.Write.the-variants.{Empty, Held}
-use Rattle.state.specs.declared.Peripheral.{Peripheral}
+use Rattle.peripheral.specs.Status.{pcFree, npFree}
+use Rattle.peripheral.specs.declared.Kind.{Kind}
+use Rattle.peripheral.specs.declared.Kind.the-variants.{MemoryRead, IoRead, IoWrite}
+use Rattle.peripheral.specs.declared.Request.{Request}
+use Rattle.peripheral.specs.declared.Np.{Np}
+use Rattle.peripheral.specs.declared.Np.the-variants.{Free, Waiting, Ready, Failed}
+use Rattle.peripheral.specs.declared.Write.{Write}
+use Rattle.peripheral.specs.declared.Write.the-variants.{Empty, Held}
+use Rattle.peripheral.specs.declared.Peripheral.{Peripheral}
+use Rattle.peripheral.specs.Facts.{ReadyRequest, legal-payload, ready-request, held-write, made-memory-read, made-io-read, made-io-write, sent-write}
+use Rattle.peripheral.specs.Sound.{madeAs, requestMade, sentRight, soundRequest, soundWrite, nothingHeld, fitsRequest, fitsWrite}
 use Rattle.state.specs.declared.State.{State}
-use Rattle.sound.specs.Facts.{ReadyRequest, legal-payload, ready-request, held-write, made-memory-read, made-io-read, made-io-write, sent-write, sound-parts, sound-made, sound-off, fit-parts}
-use Rattle.sound.specs.Sound.{sound, fits, madeAs, requestMade, sentRight, soundRequest, soundWrite, nothingHeld, fitsRequest, fitsWrite}
+use Rattle.state.specs.Facts.{sound-parts, sound-made, sound-off, fit-parts}
+use Rattle.state.specs.Sound.{sound, fits}
 use Rattle.rules.specs.Statements.SoundMeans.{Coded, MadeAs, Made, RequestMade, WriteMade, ReadSent, SentAs, BytesSent, GroupRight, Clauses}
 use Rattle.rules.specs.Proofs.Peripheral.Sound.{memory-read-test, io-read-test, io-write-test}
 use Rattle.rules.specs.Proofs.SoundRegisters.{registers-reached, reached-registers}

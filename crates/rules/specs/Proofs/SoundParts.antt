@@ -8,8 +8,8 @@ use Rattle.registers.specs.Laws.{Fitting, fits-fresh, reachable-fresh, reachabl
 use Rattle.registers.specs.declared.Config.{Config}
 use Rattle.wires.specs.Kept.{whole-level, whole-marks}
 use Rattle.state.specs.declared.State.{State}
-use Rattle.sound.specs.Facts.{sound-parts, sound-made, fit-parts, fit-made}
-use Rattle.sound.specs.Sound.{Sound}
+use Rattle.state.specs.Facts.{sound-parts, sound-made, fit-parts, fit-made}
+use Rattle.state.specs.Sound.{Sound}
 use Rattle.rules.specs.Rules.Reset.{Reset, start, espiReset, platformReset}
 use Rattle.rules.specs.Rules.Channel.{Channel, peripheral, wires, Part, part, put, each, on}
 use Rattle.rules.specs.Rules.Exchange.{configReset}

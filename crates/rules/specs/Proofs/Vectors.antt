@@ -8,7 +8,7 @@ use Rattle.wires.specs.Groups.{putPairs, sent, packetOf, unmarked}
 use Rattle.pieces.specs.Marks.{markOf}
 use Rattle.pieces.specs.Pieces.{nextSize, nextMark}
 use Rattle.command.specs.Decode.{allFF, decode, admit}
-use Rattle.state.specs.Upward.{upward, handed}
+use Rattle.peripheral.specs.Upward.{upward, handed}
 use Rattle.state.specs.Status.{status}
 use Rattle.rules.specs.Rules.Peripheral as P
 use Rattle.rules.specs.Rules.Wires as W

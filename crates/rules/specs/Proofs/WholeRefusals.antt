@@ -12,14 +12,14 @@ use borrow.Author.Tests.{not-false, ltb-true, ltb-false, lt-ltb}
 use Rattle.base.specs.Pick.{pick, pick-ind}
 use Rattle.base.specs.Bytes.{over, over-none, drop-over}
 use Rattle.wires.specs.Groups.{definedBit, readWire as readWireOf}
+use Rattle.peripheral.specs.declared.Np.{Np}
+use Rattle.peripheral.specs.declared.Np.the-variants.{Free, Waiting, Ready, Failed}
+use Rattle.peripheral.specs.declared.Write.{Write}
+use Rattle.peripheral.specs.declared.Write.the-variants.{Empty, Held}
 use Rattle.state.specs.Fresh.{freshState}
-use Rattle.state.specs.declared.Np.{Np}
-use Rattle.state.specs.declared.Np.the-variants.{Free, Waiting, Ready, Failed}
-use Rattle.state.specs.declared.Write.{Write}
-use Rattle.state.specs.declared.Write.the-variants.{Empty, Held}
 use Rattle.state.specs.declared.State.{State}
-use Rattle.layout.specs.Packing.{packed-length, stored-same}
-use Rattle.layout.specs.Layout.{stateLength, packed, unpacked, holds}
+use Rattle.state.specs.Packing.{packed-length, stored-same}
+use Rattle.state.specs.Layout.{stateLength, packed, unpacked, holds}
 use Rattle.rules.specs.Rules.Out.{number}
 use Rattle.rules.specs.Rules.Reset.{Reset, espiReset, platformReset}
 use Rattle.rules.specs.Rules.Peripheral as P

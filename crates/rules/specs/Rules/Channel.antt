@@ -6,10 +6,11 @@ use lib.Dec.{eqb}
 use Rattle.registers.specs.Registers.{on0, on1}
 use Rattle.registers.specs.declared.Config.{Config}
 use Rattle.wires.specs.declared.Wires.{Wires}
+use Rattle.wires.specs.Groups.{wiresStatus}
 use Rattle.command.specs.declared.PeripheralCommand.{PeripheralCommand}
 use Rattle.command.specs.declared.WiresCommand.{WiresCommand}
-use Rattle.state.specs.Status.{peripheralStatus, wiresStatus}
-use Rattle.state.specs.declared.Peripheral.{Peripheral}
+use Rattle.peripheral.specs.Status.{peripheralStatus}
+use Rattle.peripheral.specs.declared.Peripheral.{Peripheral}
 use Rattle.state.specs.declared.State.{State}
 use Rattle.rules.specs.Rules.Reset.{Reset}
 use Rattle.rules.specs.Rules.Peripheral as P

@@ -1,6 +1,6 @@
 -- What the lent slices must hold for a plan to be carried out: a piece's data in the read store and the reply, the kept data in its source and its store.
 use Prim.Native.Nat.{ℕ, _+_, _≤_}
-use Rattle.state.specs.declared.Completion.{Completion}
+use Rattle.peripheral.specs.declared.Completion.{Completion}
 use Rattle.rules.specs.declared.Body.{Body}
 use Rattle.rules.specs.declared.Body.the-variants as B
 use Rattle.rules.specs.declared.Reply.{Reply}

@@ -15,20 +15,21 @@ use Rattle.command.specs.declared.Head.{Head}
 use Rattle.command.specs.declared.Span.{Span}
 use Rattle.command.specs.declared.PeripheralCommand.{PeripheralCommand}
 use Rattle.command.specs.declared.PeripheralCommand.the-variants.{PutPc, GetPc, PutNp, Short}
-use Rattle.state.specs.Fresh.{idle, dropped}
-use Rattle.state.specs.Upward.{upward, handed}
-use Rattle.state.specs.Status.{pcFree, npFree}
-use Rattle.state.specs.declared.Kind.{Kind}
-use Rattle.state.specs.declared.Kind.the-variants as R
-use Rattle.state.specs.declared.Request.{Request}
-use Rattle.state.specs.declared.Np.{Np}
-use Rattle.state.specs.declared.Np.the-variants.{Free, Waiting, Ready, Failed}
-use Rattle.state.specs.declared.Posted.{Posted}
-use Rattle.state.specs.declared.Write.{Write}
-use Rattle.state.specs.declared.Write.the-variants.{Empty, Held}
-use Rattle.state.specs.declared.Peripheral.{Peripheral}
-use Rattle.state.specs.declared.Completion.{Completion}
-use Rattle.sound.specs.Sound.{within}
+use Rattle.peripheral.specs.Layout.{kindNumber}
+use Rattle.peripheral.specs.Queues.{idle, dropped}
+use Rattle.peripheral.specs.Upward.{upward, handed}
+use Rattle.peripheral.specs.Status.{pcFree, npFree}
+use Rattle.peripheral.specs.declared.Kind.{Kind}
+use Rattle.peripheral.specs.declared.Kind.the-variants as R
+use Rattle.peripheral.specs.declared.Request.{Request}
+use Rattle.peripheral.specs.declared.Np.{Np}
+use Rattle.peripheral.specs.declared.Np.the-variants.{Free, Waiting, Ready, Failed}
+use Rattle.peripheral.specs.declared.Posted.{Posted}
+use Rattle.peripheral.specs.declared.Write.{Write}
+use Rattle.peripheral.specs.declared.Write.the-variants.{Empty, Held}
+use Rattle.peripheral.specs.declared.Peripheral.{Peripheral}
+use Rattle.peripheral.specs.declared.Completion.{Completion}
+use Rattle.peripheral.specs.Sound.{within}
 use Rattle.rules.specs.Rules.Reset.{Reset, start, espiReset, platformReset}
 use Rattle.rules.specs.Rules.Out.{fatal, accept, defer, number, keep}
 use Rattle.rules.specs.declared.Body.the-variants as B
@@ -197,12 +198,6 @@ takeReport Empty = []
 takeReport (Held w) = postedReport w
 
 -- ---- look at the request: 23 "no unanswered request to look at"; "changes nothing"
-
--- the report's kind: 0 memory read, 1 I/O read, 2 I/O write
-abbrev pub kindNumber : Kind → ℕ
-kindNumber R.MemoryRead = 0
-kindNumber R.IoRead = 1
-kindNumber R.IoWrite = 2
 
 abbrev pub requestReport : Request → ℕ → List ℕ
 requestReport q serial = kindNumber (q .kind) ∷ (low8 (q .address) ++ (low2 (q .length) ++ (low4 serial ++ low4 (q .bytes))))

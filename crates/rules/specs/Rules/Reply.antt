@@ -5,7 +5,7 @@ use lib.ListN.{take, drop}
 use Rattle.base.specs.Bytes.{low2, low4}
 use Rattle.crc.specs.Crc.{crc}
 use Rattle.wires.specs.Groups.{packetBytes}
-use Rattle.state.specs.declared.Completion.{Completion}
+use Rattle.peripheral.specs.declared.Completion.{Completion}
 use Rattle.rules.specs.Rules.Out.{responseByte}
 use Rattle.rules.specs.declared.Body.{Body}
 use Rattle.rules.specs.declared.Body.the-variants as B

@@ -7,7 +7,7 @@ use lib.ListN.{length}
 use Rattle.base.specs.Pick.{pick}
 use Rattle.base.specs.Bytes.{over}
 use Rattle.state.specs.declared.State.{State}
-use Rattle.layout.specs.Layout.{stateLength}
+use Rattle.state.specs.Layout.{stateLength}
 use Rattle.rules.specs.Rules.Reset.{Reset}
 use Rattle.rules.specs.Rules.Peripheral as P
 use Rattle.rules.specs.Rules.Channel.{Channel, peripheral, wires, Board, Part, part, reportOf, valueOf, given}

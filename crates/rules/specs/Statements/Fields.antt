@@ -7,8 +7,8 @@ use lib.Dec.{eqb, leb}
 use lib.ListN.{length, getD, take, drop}
 use Rattle.base.specs.Pick.{pick}
 use Rattle.crc.specs.Crc.{crc}
-use Rattle.state.specs.declared.Kind.{Kind}
-use Rattle.state.specs.declared.Kind.the-variants.{MemoryRead, IoRead, IoWrite}
+use Rattle.peripheral.specs.declared.Kind.{Kind}
+use Rattle.peripheral.specs.declared.Kind.the-variants.{MemoryRead, IoRead, IoWrite}
 
 abbrev pub byte : List ℕ → ℕ → ℕ
 byte b k = getD b k 0

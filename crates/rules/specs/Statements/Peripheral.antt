@@ -9,16 +9,16 @@ use lib.Dec.{eqb}
 use lib.ListN.{length}
 use Rattle.registers.specs.Registers.{payloadSize}
 use Rattle.registers.specs.declared.Config.{Config}
-use Rattle.state.specs.Upward.{upward, handed}
-use Rattle.state.specs.Status.{pcFree, npFree}
-use Rattle.state.specs.declared.Request.{Request}
-use Rattle.state.specs.declared.Np.{Np}
-use Rattle.state.specs.declared.Np.the-variants.{Free, Waiting, Ready, Failed}
-use Rattle.state.specs.declared.Posted.{Posted}
-use Rattle.state.specs.declared.Write.the-variants.{Empty, Held}
-use Rattle.state.specs.declared.Peripheral.{Peripheral}
-use Rattle.state.specs.declared.Completion.{Completion}
-use Rattle.sound.specs.Sound.{within}
+use Rattle.peripheral.specs.Upward.{upward, handed}
+use Rattle.peripheral.specs.Status.{pcFree, npFree}
+use Rattle.peripheral.specs.declared.Request.{Request}
+use Rattle.peripheral.specs.declared.Np.{Np}
+use Rattle.peripheral.specs.declared.Np.the-variants.{Free, Waiting, Ready, Failed}
+use Rattle.peripheral.specs.declared.Posted.{Posted}
+use Rattle.peripheral.specs.declared.Write.the-variants.{Empty, Held}
+use Rattle.peripheral.specs.declared.Peripheral.{Peripheral}
+use Rattle.peripheral.specs.declared.Completion.{Completion}
+use Rattle.peripheral.specs.Sound.{within}
 use Rattle.rules.specs.Rules.Out.{fatal, accept, defer, number, keep}
 use Rattle.rules.specs.Rules.Peripheral.{Act, posts, asks, gets, Board, look, answer, takeWrite, change, withRequest, holding, asking, emptied, sizeFor, succeeded, answerLength, bytesFor}
 use Rattle.rules.specs.declared.Body.the-variants as B

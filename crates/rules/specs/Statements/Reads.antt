@@ -7,7 +7,7 @@ use lib.ListN.{length}
 use Rattle.registers.specs.declared.Config.{Config}
 use Rattle.command.specs.declared.Command.{Command}
 use Rattle.command.specs.declared.Command.the-variants as C
-use Rattle.state.specs.declared.Request.{Request}
+use Rattle.peripheral.specs.declared.Request.{Request}
 use Rattle.state.specs.declared.State.{State}
 use Rattle.rules.specs.Rules.Peripheral as P
 use Rattle.rules.specs.Rules.Peripheral.{requestOf}

@@ -11,7 +11,7 @@ use Rattle.base.specs.Pick.{pick}
 use Rattle.crc.specs.Crc.{crc}
 use Rattle.state.specs.Status.{status}
 use Rattle.state.specs.declared.State.{State}
-use Rattle.layout.specs.Layout.{stateLength, unpacked}
+use Rattle.state.specs.Layout.{stateLength, unpacked}
 use Rattle.rules.specs.Rules.Peripheral as P
 use Rattle.rules.specs.Rules.Channel.{Channel, peripheral, wires, Board}
 use Rattle.rules.specs.Rules.Step.{World, Call, reset, exchange, board, short, lend, Outcome, step, lookLength, takeLength}

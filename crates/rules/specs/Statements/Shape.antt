@@ -11,7 +11,7 @@ use Rattle.base.specs.Pick.{pick}
 use Rattle.crc.specs.Crc.{crc}
 use Rattle.state.specs.Status.{status}
 use Rattle.state.specs.declared.State.{State}
-use Rattle.sound.specs.Sound.{Sound}
+use Rattle.state.specs.Sound.{Sound}
 use Rattle.rules.specs.Statements.Fields.{byte, isNonPosted}
 use Rattle.rules.specs.Statements.Refusals.{isExchange}
 use Rattle.rules.specs.Rules.Step.{World, Call, exchange, Outcome, step, replyLength}

@@ -3,7 +3,7 @@ use mathlib.Core.Bool.{true}
 use mathlib.Core.List.{List}
 use mathlib.Core.Path.{_≡_}
 use Rattle.state.specs.Fresh.{freshState}
-use Rattle.sound.specs.Sound.{Sound}
+use Rattle.state.specs.Sound.{Sound}
 use Rattle.rules.specs.Rules.Step.{World, Call, step, run, handedOver, allHanded}
 
 pub record SoundKept : Type 0 where

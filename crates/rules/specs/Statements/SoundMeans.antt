@@ -9,16 +9,16 @@ use Rattle.wires.specs.Table.{isGroup, rowAt}
 use Rattle.wires.specs.Groups.{levelAt, markAt, definedBit, readWire}
 use Rattle.wires.specs.declared.Wires.{Wires}
 use Rattle.pieces.specs.Pieces.{blocks, edge}
-use Rattle.state.specs.declared.Kind.{Kind}
-use Rattle.state.specs.declared.Kind.the-variants.{MemoryRead, IoRead, IoWrite}
-use Rattle.state.specs.declared.Request.{Request}
-use Rattle.state.specs.declared.Np.{Np}
-use Rattle.state.specs.declared.Np.the-variants.{Free, Waiting, Ready, Failed}
-use Rattle.state.specs.declared.Posted.{Posted}
-use Rattle.state.specs.declared.Write.{Write}
-use Rattle.state.specs.declared.Write.the-variants.{Empty, Held}
+use Rattle.peripheral.specs.declared.Kind.{Kind}
+use Rattle.peripheral.specs.declared.Kind.the-variants.{MemoryRead, IoRead, IoWrite}
+use Rattle.peripheral.specs.declared.Request.{Request}
+use Rattle.peripheral.specs.declared.Np.{Np}
+use Rattle.peripheral.specs.declared.Np.the-variants.{Free, Waiting, Ready, Failed}
+use Rattle.peripheral.specs.declared.Posted.{Posted}
+use Rattle.peripheral.specs.declared.Write.{Write}
+use Rattle.peripheral.specs.declared.Write.the-variants.{Empty, Held}
+use Rattle.peripheral.specs.Facts.{MadeMemoryRead, MadeIoRead, MadeIoWrite}
 use Rattle.state.specs.declared.State.{State}
-use Rattle.sound.specs.Facts.{MadeMemoryRead, MadeIoRead, MadeIoWrite}
 
 -- ---- "registers hold reachable values": what a write that is not forbidden makes of the reset value
 

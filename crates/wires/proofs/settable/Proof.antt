@@ -2,7 +2,8 @@ use mathlib.Core.Path.{sym, _∙_}
 use native.Mathlib.Omega.{arith}
 use borrow.Author.Tests.{not-true, not-false}
 use borrow.Author.Needs.{needs}
-use Rattle.wires.specs.Rows.{defined-bit, stops, goes-on}
+use Rattle.base.specs.Pick.{stops, goes-on}
+use Rattle.wires.specs.Rows.{defined-bit}
 use Rattle.wires.proofs.settable.Statement.{statement}
 use Rattle.wires.proofs.settable.Tie as tie
 

@@ -12,14 +12,14 @@ use Rattle.base.specs.Pick.{pick}
 use Rattle.base.specs.Bytes.{over}
 use Rattle.registers.specs.Registers.{sizeOf}
 use Rattle.registers.specs.declared.Config.{Config}
-use Rattle.state.specs.Upward.{handed, afterSuccess}
 use Rattle.pieces.specs.Pieces.{nextSize}
-use Rattle.state.specs.declared.Kind.{Kind}
-use Rattle.state.specs.declared.Kind.the-variants as R
-use Rattle.state.specs.declared.Request.{Request}
-use Rattle.state.specs.declared.Np.{Np}
-use Rattle.state.specs.declared.Np.the-variants.{Free, Waiting, Ready, Failed}
-use Rattle.state.specs.declared.Peripheral.{Peripheral}
+use Rattle.peripheral.specs.Upward.{handed, afterSuccess}
+use Rattle.peripheral.specs.declared.Kind.{Kind}
+use Rattle.peripheral.specs.declared.Kind.the-variants as R
+use Rattle.peripheral.specs.declared.Request.{Request}
+use Rattle.peripheral.specs.declared.Np.{Np}
+use Rattle.peripheral.specs.declared.Np.the-variants.{Free, Waiting, Ready, Failed}
+use Rattle.peripheral.specs.declared.Peripheral.{Peripheral}
 use Rattle.rules.specs.Rules.Peripheral as P
 use Rattle.rules.specs.Rules.Channel.{peripheral}
 use Rattle.rules.specs.Statements.Fields.{byte, isChannel0, accessLength, dataFrom, writtenData}

@@ -6,17 +6,17 @@ use mathlib.Core.Path.{_≡_, refl, sym, ap, _∙_, subst}
 use native.Mathlib.Omega.{arith}
 use lib.ListN.{length, length-take, length-drop}
 use Rattle.registers.specs.declared.Config.{Config}
+use Rattle.peripheral.specs.Upward.{upward, successOf}
+use Rattle.peripheral.specs.declared.Kind.{Kind}
+use Rattle.peripheral.specs.declared.Kind.the-variants as R
+use Rattle.peripheral.specs.declared.Completion.{Completion}
+use Rattle.peripheral.specs.declared.Request.{Request}
+use Rattle.peripheral.specs.declared.Np.{Np}
+use Rattle.peripheral.specs.declared.Np.the-variants.{Free, Waiting, Ready, Failed}
+use Rattle.peripheral.specs.Facts.{ReadyRequest, ready-request}
+use Rattle.peripheral.specs.Sound.{soundRequest}
 use Rattle.state.specs.Status.{status}
-use Rattle.state.specs.Upward.{upward, successOf}
-use Rattle.state.specs.declared.Kind.{Kind}
-use Rattle.state.specs.declared.Kind.the-variants as R
-use Rattle.state.specs.declared.Completion.{Completion}
-use Rattle.state.specs.declared.Request.{Request}
-use Rattle.state.specs.declared.Np.{Np}
-use Rattle.state.specs.declared.Np.the-variants.{Free, Waiting, Ready, Failed}
 use Rattle.state.specs.declared.State.{State}
-use Rattle.sound.specs.Facts.{ReadyRequest, ready-request}
-use Rattle.sound.specs.Sound.{soundRequest}
 use Rattle.rules.specs.Rules.Peripheral as P₀
 use Rattle.rules.specs.Rules.Channel.{peripheral}
 use Rattle.rules.specs.Rules.Lift.{lift}

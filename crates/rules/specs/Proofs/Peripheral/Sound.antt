@@ -16,19 +16,19 @@ use Rattle.command.specs.Facts.{IsBytes, SizeFits, PeripheralNumbers}
 use Rattle.command.specs.declared.Access.the-variants.{IoRead, IoWrite, MemoryRead, MemoryWrite}
 use Rattle.command.specs.declared.PeripheralCommand.{PeripheralCommand}
 use Rattle.command.specs.declared.PeripheralCommand.the-variants.{PutPc, GetPc, PutNp, Short}
-use Rattle.state.specs.Fresh.{idle, dropped}
-use Rattle.state.specs.Status.{pcFree, npFree}
-use Rattle.state.specs.Upward.{handed}
-use Rattle.state.specs.declared.Kind.the-variants as R
-use Rattle.state.specs.declared.Request.{Request}
-use Rattle.state.specs.declared.Np.{Np}
-use Rattle.state.specs.declared.Np.the-variants.{Free, Waiting, Ready, Failed}
-use Rattle.state.specs.declared.Posted.{Posted}
-use Rattle.state.specs.declared.Write.{Write}
-use Rattle.state.specs.declared.Write.the-variants.{Empty, Held}
-use Rattle.state.specs.declared.Peripheral.{Peripheral}
-use Rattle.sound.specs.Facts.{sent-none, MadeMemoryRead, MadeIo, MadeIoRead, MadeIoWrite, waiting-request, handed-sound, handed-fits}
-use Rattle.sound.specs.Sound.{within, shortSize, ioMade, madeAs, requestMade, writeMade, soundRequest, soundWrite, nothingHeld, fitsRequest, fitsWrite}
+use Rattle.peripheral.specs.Queues.{idle, dropped}
+use Rattle.peripheral.specs.Status.{pcFree, npFree}
+use Rattle.peripheral.specs.Upward.{handed}
+use Rattle.peripheral.specs.declared.Kind.the-variants as R
+use Rattle.peripheral.specs.declared.Request.{Request}
+use Rattle.peripheral.specs.declared.Np.{Np}
+use Rattle.peripheral.specs.declared.Np.the-variants.{Free, Waiting, Ready, Failed}
+use Rattle.peripheral.specs.declared.Posted.{Posted}
+use Rattle.peripheral.specs.declared.Write.{Write}
+use Rattle.peripheral.specs.declared.Write.the-variants.{Empty, Held}
+use Rattle.peripheral.specs.declared.Peripheral.{Peripheral}
+use Rattle.peripheral.specs.Facts.{sent-none, MadeMemoryRead, MadeIo, MadeIoRead, MadeIoWrite, waiting-request, handed-sound, handed-fits}
+use Rattle.peripheral.specs.Sound.{within, shortSize, ioMade, madeAs, requestMade, writeMade, soundRequest, soundWrite, nothingHeld, fitsRequest, fitsWrite}
 use Rattle.rules.specs.Rules.Reset.{Reset, start, espiReset, platformReset}
 use Rattle.rules.specs.Rules.Peripheral as P₀
 use Rattle.rules.specs.Rules.Peripheral.{Act, posts, asks, gets, Board, requestOf, bytesOf, sizeFor, holding, asking, withRequest, emptied}

@@ -3,48 +3,18 @@ use borrow.Author.Needs.{needs}
 use Rattle.state.proofs.State.status.Statement.{statement}
 use Rattle.state.proofs.State.status.Tie as tie
 
-pc-free-requires : tie.Need-pc-free-requires
-pc-free-requires c κs = search needs
+status-requires : tie.Need-status-requires
+status-requires c κs = search needs
 
-bit-of-requires : tie.Need-bit-of-requires
-bit-of-requires c κs = search needs
+status-requires-2 : tie.Need-status-requires-2
+status-requires-2 c κs = search needs
 
-np-free-requires : tie.Need-np-free-requires
-np-free-requires c κs = search needs
-
-bit-of-requires-2 : tie.Need-bit-of-requires-2
-bit-of-requires-2 c κs = search needs
-
-pc-avail-requires : tie.Need-pc-avail-requires
-pc-avail-requires c κs = search needs
-
-bit-of-requires-3 : tie.Need-bit-of-requires-3
-bit-of-requires-3 c κs = search needs
-
-any-pending-requires : tie.Need-any-pending-requires
-any-pending-requires c κs = search needs
-
-bit-of-requires-4 : tie.Need-bit-of-requires-4
-bit-of-requires-4 c κs = search needs
-
-word-of-requires : tie.Need-word-of-requires
-word-of-requires c κs = search needs
+add-result : tie.Need-add-result
+add-result c = search needs
 
 returns : tie.Need-returns
 unfolding status
 returns c = cc
 
 pub status-spec : {M : Type 1} → statement M
-status-spec =
-    tie.close
-    (tie.spec
-    pc-free-requires
-    bit-of-requires
-    np-free-requires
-    bit-of-requires-2
-    pc-avail-requires
-    bit-of-requires-3
-    any-pending-requires
-    bit-of-requires-4
-    word-of-requires
-    returns)
+status-spec = tie.close (tie.spec status-requires status-requires-2 add-result returns)

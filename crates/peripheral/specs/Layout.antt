@@ -1,0 +1,86 @@
+-- The channel's bytes in those of a state, as docs/STATE.md lays them out.
+use Prim.Native.Nat.{ℕ, zero, suc}
+use mathlib.Core.List.{List, _∷_, _++_}
+use lib.ListN.{getD}
+use Rattle.base.specs.Bytes.{low4, low8, number4, number8}
+use Rattle.peripheral.specs.declared.Kind.{Kind}
+use Rattle.peripheral.specs.declared.Kind.the-variants.{MemoryRead, IoRead, IoWrite}
+use Rattle.peripheral.specs.declared.Request.{Request}
+use Rattle.peripheral.specs.declared.Np.{Np}
+use Rattle.peripheral.specs.declared.Np.the-variants.{Free, Waiting, Ready, Failed}
+use Rattle.peripheral.specs.declared.Posted.{Posted}
+use Rattle.peripheral.specs.declared.Write.{Write}
+use Rattle.peripheral.specs.declared.Write.the-variants.{Empty, Held}
+use Rattle.peripheral.specs.declared.Peripheral.{Peripheral}
+
+-- ---- packing
+
+-- 12 to 28: the held write: 1 where one is held, address, length, payload size
+abbrev pub writeBytes : Write → List ℕ
+writeBytes Empty = 0 ∷ (low8 0 ++ (low4 0 ++ low4 0))
+writeBytes (Held w) = 1 ∷ (low8 (w .address) ++ (low4 (w .length) ++ low4 (w .payload)))
+
+-- a request's kind, here and in the report of a look
+abbrev pub kindNumber : Kind → ℕ
+kindNumber MemoryRead = 0
+kindNumber IoRead = 1
+kindNumber IoWrite = 2
+
+-- 29 to 59: the held request: phase, kind, tag, address, length, payload size, read request size, an I/O write's bytes, bytes sent
+abbrev pub numberBytes : (phase kind : ℕ) → Request → ℕ → List ℕ
+numberBytes phase kind q sent =
+    phase ∷ kind ∷ q .tag
+    ∷ (low8 (q .address) ++ (low4 (q .length) ++ (low4 (q .payload) ++ (low4 (q .readsize) ++ (low4 (q .bytes) ++ low4 sent)))))
+
+abbrev pub requestBytes : ℕ → Request → ℕ → List ℕ
+requestBytes phase q sent = numberBytes phase (kindNumber (q .kind)) q sent
+
+abbrev pub npBytes : Np → List ℕ
+npBytes Free = 0 ∷ 0 ∷ 0 ∷ (low8 0 ++ (low4 0 ++ (low4 0 ++ (low4 0 ++ (low4 0 ++ low4 0)))))
+npBytes (Waiting q) = requestBytes 1 q 0
+npBytes (Ready q sent) = requestBytes 2 q sent
+npBytes (Failed q) = requestBytes 3 q 0
+
+-- 60 to 63: the serial
+abbrev pub peripheralBytes : Peripheral → List ℕ
+peripheralBytes p = writeBytes (p .write) ++ (npBytes (p .request) ++ low4 (p .serial))
+
+-- ---- unpacking: total; canonical bytes are those that it gives back
+
+abbrev pub postedIn : List ℕ → Posted
+postedIn l = record { address = number8 13 l; length = number4 21 l; payload = number4 25 l }
+
+abbrev pub writeOf : ℕ → Posted → Write
+writeOf zero w = Empty
+writeOf (suc n) w = Held w
+
+abbrev pub kindOf : ℕ → Kind
+kindOf zero = MemoryRead
+kindOf (suc zero) = IoRead
+kindOf (suc (suc n)) = IoWrite
+
+abbrev pub requestIn : List ℕ → Request
+requestIn l =
+    record {
+      kind = kindOf (getD l 30 0);
+      tag = getD l 31 0;
+      address = number8 32 l;
+      length = number4 40 l;
+      payload = number4 44 l;
+      readsize = number4 48 l;
+      bytes = number4 52 l;
+    }
+
+abbrev pub npOf : ℕ → Request → ℕ → Np
+npOf zero q sent = Free
+npOf (suc zero) q sent = Waiting q
+npOf (suc (suc zero)) q sent = Ready q sent
+npOf (suc (suc (suc n))) q sent = Failed q
+
+abbrev pub peripheralIn : List ℕ → Peripheral
+peripheralIn l =
+    record {
+      write = writeOf (getD l 12 0) (postedIn l);
+      request = npOf (getD l 29 0) (requestIn l) (number4 56 l);
+      serial = number4 60 l;
+    }

@@ -1,0 +1,568 @@
+// Channel 0: the held write and request, what GET_PC hands over of them. A status bit is computed from its queue, never stored beside it.
+ghost use mathlib.Core.Path.{_≡_};
+ghost use mathlib.Core.Bool.{true, _&&_};
+ghost use Prim.Native.Nat.{_+_, _*_, _^_, _≤_, _<_};
+ghost use lib.Dec.{ltb};
+ghost use lib.ListN.{length};
+ghost use Rattle.registers.specs.Registers.{payloadLegal, readLegal};
+ghost use Rattle.peripheral.specs.declared.Kind.the-variants.{MemoryRead, IoRead, IoWrite};
+ghost use Rattle.peripheral.specs.declared.Write.the-variants.{Held};
+ghost use Rattle.peripheral.specs.Queues.{idle, dropped};
+ghost use Rattle.peripheral.specs.Status.{pcFree, npFree, pcAvail, peripheralStatus};
+ghost use Rattle.peripheral.specs.Upward.{bare, pieceOf, successOf, upward, firstOf, afterPiece, afterSuccess, handed};
+ghost use Rattle.peripheral.specs.Sound.{within, shortSize, ioMade, madeAs, requestMade, writeMade, sentRight, soundRequest, soundWrite, soundPeripheral};
+ghost use Rattle.peripheral.specs.Layout.{writeBytes, kindNumber, numberBytes, requestBytes, npBytes, postedIn, writeOf, kindOf, requestIn, npOf, peripheralIn};
+
+pub enum Kind {
+    MemoryRead,
+    IoRead,
+    IoWrite,
+}
+
+// A non-posted request, with the sizes in force when it was accepted; `bytes`: those of an I/O write, low byte first.
+pub struct Request {
+    pub kind: Kind,
+    pub address: u64,
+    pub length: u32,
+    pub tag: u8,
+    pub payload: u32,
+    pub readsize: u32,
+    pub bytes: u32,
+}
+
+// The held request by phase: unanswered; answered with success, and so many bytes sent; answered with failure.
+pub enum Np {
+    Free,
+    Waiting(Request),
+    Ready(Request, u32),
+    Failed(Request),
+}
+
+// A posted write, with the payload size in force when it was accepted.
+pub struct Posted {
+    pub address: u64,
+    pub length: u32,
+    pub payload: u32,
+}
+
+pub enum Write {
+    Empty,
+    Held(Posted),
+}
+
+// `serial`: the last one given, so that of the held request.
+pub struct Peripheral {
+    pub write: Write,
+    pub request: Np,
+    pub serial: u32,
+}
+
+// A completion: its header, and where in the read store its data begins.
+pub struct Completion {
+    pub cycle: u8,
+    pub tag: u8,
+    pub length: u32,
+    pub from: u32,
+}
+
+// What GET_PC hands over next.
+pub enum Next {
+    Nothing,
+    One(Completion),
+}
+
+// ---- the status bits
+
+pub fn pc_free(w: Write) -> bool
+    ensures { λ r. ⌜ r ≡ pcFree w ⌝ }
+{
+    match w {
+        Write::Empty => true,
+        Write::Held(_) => false,
+    }
+}
+
+pub fn np_free(n: Np) -> bool
+    ensures { λ r. ⌜ r ≡ npFree n ⌝ }
+{
+    match n {
+        Np::Free => true,
+        Np::Waiting(_) => false,
+        Np::Ready(_, _) => false,
+        Np::Failed(_) => false,
+    }
+}
+
+fn pc_avail(n: Np) -> bool
+    ensures { λ r. ⌜ r ≡ pcAvail n ⌝ }
+{
+    match n {
+        Np::Free => false,
+        Np::Waiting(_) => false,
+        Np::Ready(_, _) => true,
+        Np::Failed(_) => true,
+    }
+}
+
+fn word_of(write: u8, request: u8, completion: u8) -> u32
+    requires { ⌜ (write ≤ 1) × (request ≤ 1) × (completion ≤ 1) ⌝ }
+    ensures { λ r. ⌜ (r ≡ write + request * 2 + completion * 16) × (r ≤ 19) ⌝ }
+{
+    (write as u32) + (request as u32) * 2 + (completion as u32) * 16
+}
+
+// ---- what GET_PC hands over (01, Requests, answers, pieces)
+
+// A completion without data: an I/O write's, or a failure's.
+fn bare(cycle: u8, q: Request) -> Completion
+    ensures { λ r. ⌜ r ≡ bare cycle q ⌝ }
+{
+    Completion {
+        cycle,
+        tag: q.tag,
+        length: 0,
+        from: 0,
+    }
+}
+
+fn piece_of(q: Request, sent: u32) -> Completion
+    requires { ⌜ (sent < q .length) × (q .length ≤ 4096) × (1 ≤ q .payload) × (q .payload ≤ 4096) ⌝ }
+    ensures { λ r. ⌜ r ≡ pieceOf q sent ⌝ }
+{
+    let mark = pieces::next_mark(q.address, q.length, q.payload, sent);
+    let cycle = pieces::mark_type(mark);
+    let length = pieces::next_size(q.address, q.length, q.payload, sent);
+    Completion {
+        cycle,
+        tag: q.tag,
+        length,
+        from: sent,
+    }
+}
+
+fn success_of(q: Request, sent: u32) -> Completion
+    requires { ⌜ (sent < q .length) × (q .length ≤ 4096) × (1 ≤ q .payload) × (q .payload ≤ 4096) ⌝ }
+    ensures { λ r. ⌜ r ≡ successOf (q .kind) q sent ⌝ }
+{
+    let k = q.kind;
+    match k {
+        Kind::MemoryRead => piece_of(q, sent),
+        Kind::IoRead => piece_of(q, sent),
+        Kind::IoWrite => bare(0x06, q),
+    }
+}
+
+pub fn next_completion(n: Np) -> Next
+    requires { ⌜ soundRequest n ≡ true ⌝ }
+    ensures { λ r. ⌜ r ≡ firstOf (upward n) ⌝ }
+{
+    match n {
+        Np::Free => Next::Nothing,
+        Np::Waiting(_) => Next::Nothing,
+        Np::Ready(q, sent) => Next::One(success_of(q, sent)),
+        Np::Failed(q) => Next::One(bare(0x0E, q)),
+    }
+}
+
+// The place is free once the last piece is handed over, and not before.
+fn after_piece(q: Request, sent: u32) -> Np
+    requires { ⌜ (sent < q .length) × (q .length ≤ 4096) × (1 ≤ q .payload) × (q .payload ≤ 4096) ⌝ }
+    ensures { λ r. ⌜ r ≡ afterPiece q sent ⌝ }
+{
+    let gone = sent + pieces::next_size(q.address, q.length, q.payload, sent);
+    if gone == q.length {
+        return Np::Free;
+    }
+    Np::Ready(q, gone)
+}
+
+fn after_success(q: Request, sent: u32) -> Np
+    requires { ⌜ (sent < q .length) × (q .length ≤ 4096) × (1 ≤ q .payload) × (q .payload ≤ 4096) ⌝ }
+    ensures { λ r. ⌜ r ≡ afterSuccess (q .kind) q sent ⌝ }
+{
+    let k = q.kind;
+    match k {
+        Kind::MemoryRead => after_piece(q, sent),
+        Kind::IoRead => after_piece(q, sent),
+        Kind::IoWrite => Np::Free,
+    }
+}
+
+// What is held once the next completion is handed over.
+pub fn handed(n: Np) -> Np
+    requires { ⌜ soundRequest n ≡ true ⌝ }
+    ensures { λ r. ⌜ r ≡ handed n ⌝ }
+{
+    match n {
+        Np::Free => Np::Free,
+        Np::Waiting(_) => n,
+        Np::Ready(q, sent) => after_success(q, sent),
+        Np::Failed(_) => Np::Free,
+    }
+}
+
+// ---- soundness (01, Wires, last paragraph)
+
+// "at most the size, and does not cross a block of that size"
+pub fn within(address: u64, length: u32, block: u32) -> bool
+    requires { ⌜ 1 ≤ block ⌝ }
+    ensures { λ r. ⌜ r ≡ within address length block ⌝ }
+{
+    let b = block as u64;
+    address % b + (length as u64) <= b
+}
+
+fn payload_legal(p: u32) -> bool
+    ensures { λ r. ⌜ r ≡ payloadLegal p ⌝ }
+{
+    (p == 64) | ((p == 128) | (p == 256))
+}
+
+fn read_legal(p: u32) -> bool
+    ensures { λ r. ⌜ r ≡ readLegal p ⌝ }
+{
+    (p == 64)
+        | ((p == 128) | ((p == 256) | ((p == 512) | ((p == 1024) | ((p == 2048) | (p == 4096))))))
+}
+
+fn io_made(q: Request) -> bool
+    ensures { λ r. ⌜ r ≡ ioMade q ⌝ }
+{
+    (q.tag == 0) & ((q.address < 65536) & ((q.length == 1) | ((q.length == 2) | (q.length == 4))))
+}
+
+// An I/O write's bytes are as many as its length.
+fn bytes_fit(bytes: u32, length: u32) -> bool
+    requires { ⌜ shortSize length ≡ true ⌝ }
+    ensures { λ r. ⌜ r ≡ ltb bytes (2 ^ (8 * length)) ⌝ }
+{
+    if length == 1 {
+        return bytes < 256;
+    }
+    if length == 2 {
+        return bytes < 65536;
+    }
+    true
+}
+
+fn memory_read_made(q: Request) -> bool
+    requires { ⌜ 1 ≤ q .readsize ⌝ }
+    ensures { λ r. ⌜ r ≡ madeAs MemoryRead q ⌝ }
+{
+    (1 <= q.length) & (within(q.address, q.length, q.readsize) & ((q.tag < 16) & (q.bytes == 0)))
+}
+
+fn io_read_made(q: Request) -> bool
+    requires { ⌜ 1 ≤ q .readsize ⌝ }
+    ensures { λ r. ⌜ r ≡ madeAs IoRead q ⌝ }
+{
+    io_made(q) & (within(q.address, q.length, q.readsize) & (q.bytes == 0))
+}
+
+fn io_write_made(q: Request) -> bool
+    requires { ⌜ 1 ≤ q .payload ⌝ }
+    ensures { λ r. ⌜ r ≡ madeAs IoWrite q ⌝ }
+{
+    if !io_made(q) {
+        return false;
+    }
+    within(q.address, q.length, q.payload) & bytes_fit(q.bytes, q.length)
+}
+
+fn made_as(q: Request) -> bool
+    requires { ⌜ (1 ≤ q .payload) × (1 ≤ q .readsize) ⌝ }
+    ensures { λ r. ⌜ r ≡ madeAs (q .kind) q ⌝ }
+{
+    let k = q.kind;
+    match k {
+        Kind::MemoryRead => memory_read_made(q),
+        Kind::IoRead => io_read_made(q),
+        Kind::IoWrite => io_write_made(q),
+    }
+}
+
+fn request_made(q: Request) -> bool
+    ensures { λ r. ⌜ r ≡ requestMade q ⌝ }
+{
+    if !payload_legal(q.payload) {
+        return false;
+    }
+    if !read_legal(q.readsize) {
+        return false;
+    }
+    made_as(q)
+}
+
+fn write_made(w: Posted) -> bool
+    ensures { λ r. ⌜ r ≡ writeMade w ⌝ }
+{
+    if !payload_legal(w.payload) {
+        return false;
+    }
+    (1 <= w.length) & within(w.address, w.length, w.payload)
+}
+
+// "end at a piece's edge, short of the whole"
+fn at_edge(q: Request, sent: u32) -> bool
+    requires { ⌜ 1 ≤ q .payload ⌝ }
+    ensures { λ r. ⌜ r ≡ sentRight MemoryRead q sent ⌝ }
+{
+    let p = q.payload as u64;
+    (sent < q.length) & ((sent == 0) | ((q.address % p + (sent as u64)) % p == 0))
+}
+
+fn sent_right(q: Request, sent: u32) -> bool
+    requires { ⌜ 1 ≤ q .payload ⌝ }
+    ensures { λ r. ⌜ r ≡ sentRight (q .kind) q sent ⌝ }
+{
+    let k = q.kind;
+    match k {
+        Kind::MemoryRead => at_edge(q, sent),
+        Kind::IoRead => at_edge(q, sent),
+        Kind::IoWrite => sent == 0,
+    }
+}
+
+fn ready_made(q: Request, sent: u32) -> bool
+    ensures { λ r. ⌜ r ≡ (requestMade q && sentRight (q .kind) q sent) ⌝ }
+{
+    if !request_made(q) {
+        return false;
+    }
+    sent_right(q, sent)
+}
+
+fn sound_request(n: Np) -> bool
+    ensures { λ r. ⌜ r ≡ soundRequest n ⌝ }
+{
+    match n {
+        Np::Free => true,
+        Np::Waiting(q) => request_made(q),
+        Np::Ready(q, sent) => ready_made(q, sent),
+        Np::Failed(q) => request_made(q),
+    }
+}
+
+fn sound_write(w: Write) -> bool
+    ensures { λ r. ⌜ r ≡ soundWrite w ⌝ }
+{
+    match w {
+        Write::Empty => true,
+        Write::Held(p) => write_made(p),
+    }
+}
+
+// ---- the bytes (docs/STATE.md)
+
+fn posted_bytes(w: Posted) -> [u8; 17]
+    ensures { λ r. ⌜ r ≡ writeBytes (Held w) ⌝ }
+{
+    [
+        1,
+        (w.address % 256) as u8,
+        (w.address / 256 % 256) as u8,
+        (w.address / 65536 % 256) as u8,
+        (w.address / 16777216 % 256) as u8,
+        (w.address / 4294967296 % 256) as u8,
+        (w.address / 1099511627776 % 256) as u8,
+        (w.address / 281474976710656 % 256) as u8,
+        (w.address / 72057594037927936 % 256) as u8,
+        (w.length % 256) as u8,
+        (w.length / 256 % 256) as u8,
+        (w.length / 65536 % 256) as u8,
+        (w.length / 16777216 % 256) as u8,
+        (w.payload % 256) as u8,
+        (w.payload / 256 % 256) as u8,
+        (w.payload / 65536 % 256) as u8,
+        (w.payload / 16777216 % 256) as u8,
+    ]
+}
+
+pub fn write_bytes(w: Write) -> [u8; 17]
+    ensures { λ r. ⌜ r ≡ writeBytes w ⌝ }
+{
+    match w {
+        Write::Empty => [0; 17],
+        Write::Held(p) => posted_bytes(p),
+    }
+}
+
+pub fn kind_number(k: Kind) -> u8
+    ensures { λ r. ⌜ r ≡ kindNumber k ⌝ }
+{
+    match k {
+        Kind::MemoryRead => 0,
+        Kind::IoRead => 1,
+        Kind::IoWrite => 2,
+    }
+}
+
+fn number_bytes(phase: u8, kind: u8, q: Request, sent: u32) -> [u8; 31]
+    ensures { λ r. ⌜ r ≡ numberBytes phase kind q sent ⌝ }
+{
+    [
+        phase,
+        kind,
+        q.tag,
+        (q.address % 256) as u8,
+        (q.address / 256 % 256) as u8,
+        (q.address / 65536 % 256) as u8,
+        (q.address / 16777216 % 256) as u8,
+        (q.address / 4294967296 % 256) as u8,
+        (q.address / 1099511627776 % 256) as u8,
+        (q.address / 281474976710656 % 256) as u8,
+        (q.address / 72057594037927936 % 256) as u8,
+        (q.length % 256) as u8,
+        (q.length / 256 % 256) as u8,
+        (q.length / 65536 % 256) as u8,
+        (q.length / 16777216 % 256) as u8,
+        (q.payload % 256) as u8,
+        (q.payload / 256 % 256) as u8,
+        (q.payload / 65536 % 256) as u8,
+        (q.payload / 16777216 % 256) as u8,
+        (q.readsize % 256) as u8,
+        (q.readsize / 256 % 256) as u8,
+        (q.readsize / 65536 % 256) as u8,
+        (q.readsize / 16777216 % 256) as u8,
+        (q.bytes % 256) as u8,
+        (q.bytes / 256 % 256) as u8,
+        (q.bytes / 65536 % 256) as u8,
+        (q.bytes / 16777216 % 256) as u8,
+        (sent % 256) as u8,
+        (sent / 256 % 256) as u8,
+        (sent / 65536 % 256) as u8,
+        (sent / 16777216 % 256) as u8,
+    ]
+}
+
+fn request_bytes(phase: u8, q: Request, sent: u32) -> [u8; 31]
+    ensures { λ r. ⌜ r ≡ requestBytes phase q sent ⌝ }
+{
+    let k = q.kind;
+    number_bytes(phase, kind_number(k), q, sent)
+}
+
+pub fn np_bytes(n: Np) -> [u8; 31]
+    ensures { λ r. ⌜ r ≡ npBytes n ⌝ }
+{
+    match n {
+        Np::Free => [0; 31],
+        Np::Waiting(q) => request_bytes(1, q, 0),
+        Np::Ready(q, sent) => request_bytes(2, q, sent),
+        Np::Failed(q) => request_bytes(3, q, 0),
+    }
+}
+
+fn posted_in(b: &[u8]) -> Posted
+    requires { ⌜ 64 ≤ length (now b) ⌝ }
+    ensures { λ r. ⌜ r ≡ postedIn (now (b .entry)) ⌝ }
+{
+    Posted {
+        address: base::get8(b, 13),
+        length: base::get4(b, 21),
+        payload: base::get4(b, 25),
+    }
+}
+
+fn write_of(n: u8, w: Posted) -> Write
+    ensures { λ r. ⌜ r ≡ writeOf n w ⌝ }
+{
+    match n {
+        0 => Write::Empty,
+        _ => Write::Held(w),
+    }
+}
+
+fn kind_of(n: u8) -> Kind
+    ensures { λ r. ⌜ r ≡ kindOf n ⌝ }
+{
+    match n {
+        0 => Kind::MemoryRead,
+        1 => Kind::IoRead,
+        _ => Kind::IoWrite,
+    }
+}
+
+fn request_in(b: &[u8]) -> Request
+    requires { ⌜ 64 ≤ length (now b) ⌝ }
+    ensures { λ r. ⌜ r ≡ requestIn (now (b .entry)) ⌝ }
+{
+    let kind = kind_of(b[30]);
+    Request {
+        kind,
+        address: base::get8(b, 32),
+        length: base::get4(b, 40),
+        tag: b[31],
+        payload: base::get4(b, 44),
+        readsize: base::get4(b, 48),
+        bytes: base::get4(b, 52),
+    }
+}
+
+fn np_of(n: u8, q: Request, sent: u32) -> Np
+    ensures { λ r. ⌜ r ≡ npOf n q sent ⌝ }
+{
+    match n {
+        0 => Np::Free,
+        1 => Np::Waiting(q),
+        2 => Np::Ready(q, sent),
+        _ => Np::Failed(q),
+    }
+}
+
+// ---- the channel
+
+impl Peripheral {
+    // Nothing held, and this the last serial given.
+    pub fn idle(serial: u32) -> Peripheral
+        ensures { λ r. ⌜ r ≡ idle serial ⌝ }
+    {
+        Peripheral {
+            write: Write::Empty,
+            request: Np::Free,
+            serial,
+        }
+    }
+
+    // Held write, request and completions go; the serial stays.
+    pub fn dropped(self) -> Peripheral
+        ensures { λ r. ⌜ r ≡ dropped self ⌝ }
+    {
+        Peripheral::idle(self.serial)
+    }
+
+    pub fn status(self) -> u32
+        ensures { λ r. ⌜ (r ≡ peripheralStatus self) × (r ≤ 19) ⌝ }
+    {
+        let w = self.write;
+        let n = self.request;
+        word_of(
+            base::bit_of(pc_free(w)),
+            base::bit_of(np_free(n)),
+            base::bit_of(pc_avail(n)),
+        )
+    }
+
+    // The channel's part of soundness, it being on or off.
+    pub fn sound(self, on: bool) -> bool
+        ensures { λ r. ⌜ r ≡ soundPeripheral on self ⌝ }
+    {
+        let w = self.write;
+        let n = self.request;
+        (on | (pc_free(w) & np_free(n))) & (sound_request(n) & sound_write(w))
+    }
+
+    // The channel whose bytes stand at their place in `b`, sound or not.
+    pub fn unpack(b: &[u8]) -> Peripheral
+        requires { ⌜ 64 ≤ length (now b) ⌝ }
+        ensures { λ r. ⌜ r ≡ peripheralIn (now (b .entry)) ⌝ }
+    {
+        let write = write_of(b[12], posted_in(b));
+        let request = np_of(b[29], request_in(b), base::get4(b, 56));
+        Peripheral {
+            write,
+            request,
+            serial: base::get4(b, 60),
+        }
+    }
+}

@@ -1,3 +1,0 @@
-pub mod Sound
-pub mod Facts
-pub mod Coded

@@ -1,0 +1,29 @@
+-- A state's bytes, as docs/STATE.md lays them out: the registers', then each channel's; the bytes that pack a sound state.
+use Prim.Native.Nat.{ℕ}
+use mathlib.Core.Bool.{Bool, _&&_}
+use mathlib.Core.List.{List, _++_}
+use Rattle.base.specs.Bytes.{agree}
+use Rattle.registers.specs.Layout.{configBytes, configIn}
+use Rattle.wires.specs.Layout.{wiresBytes, wiresIn}
+use Rattle.peripheral.specs.Layout.{peripheralBytes, peripheralIn}
+use Rattle.state.specs.Sound.{sound}
+use Rattle.state.specs.declared.State.{State}
+use Rattle.state.specs.declared.Loaded.{Loaded}
+
+-- the fixed length
+abbrev pub stateLength : ℕ
+stateLength = 77
+
+unfoldable pub packed : State → List ℕ
+packed s = configBytes (s .config) ++ (peripheralBytes (s .peripheral) ++ wiresBytes (s .wires))
+
+-- total; canonical bytes are those that it gives back
+unfoldable pub unpacked : List ℕ → State
+unpacked l = record { config = configIn l; peripheral = peripheralIn l; wires = wiresIn l }
+
+-- the bytes pack a sound state: number 11 where they do not
+unfoldable pub holds : List ℕ → Bool
+holds l = sound (unpacked l) && agree stateLength (packed (unpacked l)) l
+
+abbrev pub loaded : List ℕ → Loaded
+loaded l = record { ok = holds l; state = unpacked l }

@@ -1,0 +1,144 @@
+-- P3, packing: sound states and their 77 bytes, there and back; nothing past them matters.
+use Prim.Native.Nat.{ℕ, zero, suc, _<_, _≤_}
+use mathlib.Core.Bool.{true}
+use mathlib.Core.List.{List, _++_, append-assoc}
+use mathlib.Core.Logic.{_↔_}
+use mathlib.Core.Path.{_≡_, refl, sym, ap, subst, _∙_}
+use native.Mathlib.Nat.{le-of-eq}
+use native.Mathlib.Omega.{arith}
+use lib.ListN.{length, getD, take}
+use lib.Seq.{getD-take, take-all}
+use borrow.Author.Tests.{eq-eqb}
+use Rattle.base.specs.Pick.{and-left, and-right, and-true}
+use Rattle.base.specs.Bytes.{over, over-take, take-over, agree, agree-take}
+use Rattle.base.specs.Numbers.{length-join}
+use Rattle.base.specs.AllBytes.{all-append}
+use Rattle.registers.specs.Registers.{on1}
+use Rattle.registers.specs.Layout.{fitsConfig, configBytes, config-fitting, fitting-config, config-back, all-config, config-in-fits, config-same}
+use Rattle.wires.specs.Kept.{whole-level, whole-marks}
+use Rattle.wires.specs.Layout.{wiresBytes, wiresIn, wires-back, all-wires, wires-same}
+use Rattle.peripheral.specs.Sound.{fitsPeripheral}
+use Rattle.peripheral.specs.Layout.{peripheralBytes}
+use Rattle.peripheral.specs.Packing.{peripheral-length, peripheral-back, all-peripheral, peripheral-in-fits, peripheral-same}
+use Rattle.state.specs.Sound.{sound, fits, Sound}
+use Rattle.state.specs.Facts.{sound-parts}
+use Rattle.state.specs.Layout.{stateLength, packed, unpacked, holds}
+use Rattle.state.specs.declared.State.{State}
+
+pub packed-length : (s : State) → length (packed s) ≡ stateLength
+unfolding packed
+packed-length s =
+    let b = peripheralBytes (s .peripheral) in
+    length-join (configBytes (s .config)) (b ++ wiresBytes (s .wires)) 12 65 refl (length-join b (wiresBytes (s .wires)) 52 13 (peripheral-length (s .peripheral)) refl)
+
+-- ---- a sound state's bytes, unpacked, give it back: part by part
+
+round : (s : State) → Sound s → unpacked (packed s) ≡ s
+unfolding packed unpacked fits
+round s w =
+    let g = sound-parts s (w .isSound) in
+    let a = configBytes (s .config) in
+    let b = peripheralBytes (s .peripheral) in
+    let d = wiresBytes (s .wires) in
+    let f = and-right (fitsConfig (s .config)) _ (w .isFit) in
+    let whole = and-right (fitsPeripheral (s .peripheral)) _ f in
+    rw (
+      config-back (s .config) (b ++ d) (config-fitting (s .config) (and-left (fitsConfig (s .config)) _ (w .isFit))),
+      peripheral-back a d (s .peripheral) refl (g .request) (g .write) (and-left (fitsPeripheral (s .peripheral)) _ f),
+      ap wiresIn (sym (append-assoc a b d))
+          ∙ wires-back (a ++ b) (s .wires) (length-join a b 12 52 refl (peripheral-length (s .peripheral))) (whole-level (s .wires) whole) (whole-marks (s .wires) whole),
+    )
+
+-- a sound state packs to bytes
+pub packed-bytes : (s : State) → sound s ≡ true → (k : ℕ) → getD (packed s) k 0 < 256
+unfolding packed
+packed-bytes s e =
+    let g = sound-parts s e in
+    let a =
+    all-append (configBytes (s .config)) (all-config (s .config))
+    (all-append (peripheralBytes (s .peripheral)) (all-peripheral (s .peripheral) (g .request)) (all-wires (on1 (s .config .r020)) (s .wires) (g .wires))) in
+    a .byte
+
+-- what bytes make fits
+unpacked-fits : (l : List ℕ) → ((k : ℕ) → getD l k 0 < 256) → fits (unpacked l) ≡ true
+unfolding unpacked fits
+unpacked-fits l byte = and-true (fitting-config _ (config-in-fits l byte)) (and-true (peripheral-in-fits l byte) refl)
+
+-- ---- bytes past the length do not matter
+
+unpacked-at : (a b : List ℕ) → ((k : ℕ) → k < stateLength → getD a k 0 ≡ getD b k 0) → unpacked a ≡ unpacked b
+unfolding unpacked
+unpacked-at a b e = rw (config-same a b (λ k h. e k (omega arith)), peripheral-same a b (λ k h. e k (omega arith)), wires-same a b e)
+
+-- the first bytes are the same one by one
+each : (a b : List ℕ) (n : ℕ) → take n a ≡ take n b → (k : ℕ) → k < n → getD a k 0 ≡ getD b k 0
+each a b n e k h = sym (getD-take n a k 0 h) ∙ ap (λ (l : List ℕ). getD l k 0) e ∙ getD-take n b k 0 h
+
+agree-each : (n : ℕ) (c a b : List ℕ) → ((k : ℕ) → k < n → getD a k 0 ≡ getD b k 0) → agree n c a ≡ agree n c b
+unfolding agree
+agree-each zero c a b e = refl
+agree-each (suc n) c a b e = rw (agree-each n c a b (λ k h. e k (omega arith)), e n (omega arith))
+
+agree-self : (n : ℕ) (a : List ℕ) → agree n a a ≡ true
+unfolding agree
+agree-self zero a = refl
+agree-self (suc n) a = rw (agree-self n a, eq-eqb (getD a n 0) (getD a n 0) refl)
+
+pub unpacked-same : (a b : List ℕ) → take stateLength a ≡ take stateLength b → unpacked a ≡ unpacked b
+unpacked-same a b e = unpacked-at a b (each a b stateLength e)
+
+pub holds-same : (a b : List ℕ) → take stateLength a ≡ take stateLength b → holds a ≡ holds b
+unfolding holds
+holds-same a b e = rw (unpacked-same a b e, agree-each stateLength (packed (unpacked b)) a b (each a b stateLength e))
+
+-- ---- a sound state's bytes give it back, whatever comes after them
+
+pub packed-found : (s : State) (l : List ℕ) → Sound s → take stateLength l ≡ packed s → unpacked l ≡ s
+packed-found s l w e = unpacked-same l (packed s) (e ∙ sym (take-all stateLength (packed s) (le-of-eq (packed-length s)))) ∙ round s w
+
+pub packed-holds : (s : State) (l : List ℕ) → Sound s → take stateLength l ≡ packed s → holds l ≡ true
+unfolding holds
+packed-holds s l w e =
+    let same : take stateLength l ≡ take stateLength (packed s) = e ∙ sym (take-all stateLength (packed s) (le-of-eq (packed-length s))) in
+    rw (packed-found s l w e)
+    (and-true (w .isSound) (agree-each stateLength (packed s) l (packed s) (each l (packed s) stateLength same) ∙ agree-self stateLength (packed s)))
+
+pub unpacked-over : (s : State) (l : List ℕ) → Sound s → unpacked (over (packed s) l) ≡ s
+unpacked-over s l w = packed-found s (over (packed s) l) w (take-over (packed s) l stateLength (packed-length s))
+
+pub holds-packed : (s : State) (l : List ℕ) → Sound s → holds (over (packed s) l) ≡ true
+holds-packed s l w = packed-holds s (over (packed s) l) w (take-over (packed s) l stateLength (packed-length s))
+
+pub packed-injective : (s t : State) → Sound s → Sound t → packed s ≡ packed t → s ≡ t
+packed-injective s t v w e = sym (round s v) ∙ ap unpacked e ∙ round t w
+
+-- ---- bytes that pass are those of the state found
+
+pub holds-bytes : (l : List ℕ) → stateLength ≤ length l → holds l ≡ true → take stateLength l ≡ packed (unpacked l)
+unfolding holds
+holds-bytes l h e =
+    let u = unpacked l in
+    let n = packed-length u in
+    sym (agree-take stateLength (packed u) l (le-of-eq (sym n)) h (and-right (sound u) _ e)) ∙ take-all stateLength (packed u) (le-of-eq n)
+
+-- a refusal that commits the state it got changes no byte
+pub stored-same : (l : List ℕ) → stateLength ≤ length l → holds l ≡ true → over (packed (unpacked l)) l ≡ l
+stored-same l h e = rw (← holds-bytes l h e) (over-take l stateLength h)
+
+-- ---- what passes is a sound state
+
+-- bytes that pass are below 256 in the part that counts, so no premise on them is needed
+pub holds-sound : (l : List ℕ) → stateLength ≤ length l → holds l ≡ true → Sound (unpacked l)
+unfolding holds
+holds-sound l h e =
+    let u = unpacked l in
+    let good : sound u ≡ true = and-left (sound u) _ e in
+    let same : unpacked (packed u) ≡ u = unpacked-same (packed u) l (take-all stateLength (packed u) (le-of-eq (packed-length u)) ∙ sym (holds-bytes l h e)) in
+    record { isSound = good; isFit = subst (λ (t : State). fits t ≡ true) same (unpacked-fits (packed u) (packed-bytes u good)) }
+
+-- unpacking finds exactly the packed sound states
+pub exactly : (s : State) (l : List ℕ) → Sound s → stateLength ≤ length l → (take stateLength l ≡ packed s) ↔ ((holds l ≡ true) × (unpacked l ≡ s))
+exactly s l w h = (
+  λ e. (packed-holds s l w e, packed-found s l w e),
+  λ p. holds-bytes l h (p .0) ∙ ap packed (p .1),
+)

@@ -1,0 +1,23 @@
+-- Sound state (01, Wires, last paragraph): reachable registers, and each channel's part, which reads whether the channel is on.
+use mathlib.Core.Bool.{Bool, true, _&&_}
+use mathlib.Core.Path.{_≡_}
+use Rattle.registers.specs.Registers.{on0, on1, reachable}
+use Rattle.registers.specs.Layout.{fitsConfig}
+use Rattle.wires.specs.Groups.{soundWires, wholeWires}
+use Rattle.peripheral.specs.Sound.{soundPeripheral, fitsPeripheral}
+use Rattle.state.specs.declared.State.{State}
+
+unfoldable pub sound : State → Bool
+sound s =
+    reachable (s .config)
+    && (soundPeripheral (on0 (s .config .r010)) (s .peripheral)
+    && soundWires (on1 (s .config .r020)) (s .wires))
+
+-- each number within its width, each array of six: what the types of the code say and a record of naturals does not
+unfoldable pub fits : State → Bool
+fits s = fitsConfig (s .config) && (fitsPeripheral (s .peripheral) && wholeWires (s .wires))
+
+-- the sound states
+pub record Sound (s : State) : Type 0 where
+  pub isSound : sound s ≡ true
+  pub isFit : fits s ≡ true

@@ -1,0 +1,119 @@
+-- The wires' bytes in those of a state (docs/STATE.md), there and back.
+use Prim.Native.Nat.{ℕ, _-_, _<_, _≤_}
+use mathlib.Core.Bool.{Bool, true, false}
+use mathlib.Core.List.{List, [], _∷_, _++_}
+use mathlib.Core.Path.{_≡_, refl}
+use native.Mathlib.Omega.{arith}
+use lib.Bits.{bitAnd}
+use lib.Dec.{eqb}
+use lib.ListN.{getD, length}
+use borrow.Author.Tests.{ltb-true}
+use Rattle.base.specs.Pick.{and-right}
+use Rattle.base.specs.Bytes.{bit, bit-below}
+use Rattle.base.specs.Numbers.{past}
+use Rattle.base.specs.AllBytes.{AllBytes, all-none, all-cons}
+use Rattle.wires.specs.Table.{rowAt}
+use Rattle.wires.specs.Groups.{levelAt, markAt, onlyDefined, soundWires}
+use Rattle.wires.specs.Kept.{sound-view}
+use Rattle.wires.specs.declared.Wires.{Wires}
+
+-- 64 to 69: levels of groups 2 to 7; 70 to 75: their pending marks; 76: the going-round place
+abbrev pub wiresBytes : Wires → List ℕ
+wiresBytes w =
+    levelAt w 2 ∷ levelAt w 3 ∷ levelAt w 4 ∷ levelAt w 5 ∷ levelAt w 6 ∷ levelAt w 7
+    ∷ bit (markAt w 2) ∷ bit (markAt w 3) ∷ bit (markAt w 4) ∷ bit (markAt w 5) ∷ bit (markAt w 6) ∷ bit (markAt w 7)
+    ∷ w .place ∷ []
+
+abbrev pub wiresIn : List ℕ → Wires
+wiresIn l =
+    record {
+      level = getD l 64 0 ∷ getD l 65 0 ∷ getD l 66 0 ∷ getD l 67 0 ∷ getD l 68 0 ∷ getD l 69 0 ∷ [];
+      pending = eqb (getD l 70 0) 1 ∷ eqb (getD l 71 0) 1 ∷ eqb (getD l 72 0) 1 ∷ eqb (getD l 73 0) 1 ∷ eqb (getD l 74 0) 1 ∷ eqb (getD l 75 0) 1 ∷ [];
+      place = getD l 76 0;
+    }
+
+-- ---- laws
+
+mark-back : (b : Bool) → eqb (bit b) 1 ≡ b
+mark-back true = refl
+mark-back false = refl
+
+six : {A : Type 0} (d : A) (l : List A) → length l ≡ 6
+    → getD l 0 d ∷ getD l 1 d ∷ getD l 2 d ∷ getD l 3 d ∷ getD l 4 d ∷ getD l 5 d ∷ [] ≡ l
+six d (a ∷ b ∷ c ∷ e ∷ f ∷ g ∷ []) h = refl
+six d [] h = absurd (omega arith)
+six d (a ∷ []) h = absurd (omega arith)
+six d (a ∷ b ∷ []) h = absurd (omega arith)
+six d (a ∷ b ∷ c ∷ []) h = absurd (omega arith)
+six d (a ∷ b ∷ c ∷ e ∷ []) h = absurd (omega arith)
+six d (a ∷ b ∷ c ∷ e ∷ f ∷ []) h = absurd (omega arith)
+six d (a ∷ b ∷ c ∷ e ∷ f ∷ g ∷ x ∷ l) h = absurd (omega arith)
+
+pub wires-back : (p : List ℕ) (w : Wires) → length p ≡ 64 → length (w .level) ≡ 6 → length (w .pending) ≡ 6 → wiresIn (p ++ wiresBytes w) ≡ w
+wires-back p w h a b =
+    let l = wiresBytes w in
+    rw (
+      past p l 64 0 (omega arith),
+      past p l 65 1 (omega arith),
+      past p l 66 2 (omega arith),
+      past p l 67 3 (omega arith),
+      past p l 68 4 (omega arith),
+      past p l 69 5 (omega arith),
+      past p l 70 6 (omega arith),
+      past p l 71 7 (omega arith),
+      past p l 72 8 (omega arith),
+      past p l 73 9 (omega arith),
+      past p l 74 10 (omega arith),
+      past p l 75 11 (omega arith),
+      past p l 76 12 (omega arith),
+      mark-back (markAt w 2),
+      mark-back (markAt w 3),
+      mark-back (markAt w 4),
+      mark-back (markAt w 5),
+      mark-back (markAt w 6),
+      mark-back (markAt w 7),
+      six 0 (w .level) a,
+      six false (w .pending) b,
+    )
+
+mark-small : (b : Bool) → bit b < 256
+mark-small b = omega (arith, bit-below b)
+
+small-level : (w : Wires) (i : ℕ) → onlyDefined w i ≡ true → levelAt w i < 256
+small-level w i e = omega (arith, ltb-true (levelAt w i) 16 (and-right (eqb (bitAnd (levelAt w i) (15 - rowAt (i - 2) .defined)) 0) _ e))
+
+pub all-wires : (on : Bool) (w : Wires) → soundWires on w ≡ true → AllBytes (wiresBytes w)
+all-wires on w e =
+    let s = sound-view on w e in
+    let m = mark-small in
+    let n : (i : ℕ) → 2 ≤ i → i ≤ 7 → levelAt w i < 256 = λ i h k. small-level w i (s .clean i h k) in
+    all-cons (n 2 (omega arith) (omega arith))
+    (all-cons (n 3 (omega arith) (omega arith))
+    (all-cons (n 4 (omega arith) (omega arith))
+    (all-cons (n 5 (omega arith) (omega arith))
+    (all-cons (n 6 (omega arith) (omega arith))
+    (all-cons (n 7 (omega arith) (omega arith))
+    (all-cons (m (markAt w 2))
+    (all-cons (m (markAt w 3))
+    (all-cons (m (markAt w 4))
+    (all-cons (m (markAt w 5))
+    (all-cons (m (markAt w 6))
+    (all-cons (m (markAt w 7)) (all-cons (omega (arith, s .upto)) all-none))))))))))))
+
+pub wires-same : (a b : List ℕ) → ((k : ℕ) → k < 77 → getD a k 0 ≡ getD b k 0) → wiresIn a ≡ wiresIn b
+wires-same a b e =
+    rw (
+      e 64 (omega arith),
+      e 65 (omega arith),
+      e 66 (omega arith),
+      e 67 (omega arith),
+      e 68 (omega arith),
+      e 69 (omega arith),
+      e 70 (omega arith),
+      e 71 (omega arith),
+      e 72 (omega arith),
+      e 73 (omega arith),
+      e 74 (omega arith),
+      e 75 (omega arith),
+      e 76 (omega arith),
+    )
