@@ -1,7 +1,7 @@
 use denote.Ref.{now}
 use mathlib.Core.Path.{sym, ap, _∙_}
 use Rattle.base.specs.Bytes.{over, over-none}
-use Rattle.rules.specs.Board.{takeReport}
+use Rattle.rules.specs.Rules.Peripheral.{takeReport}
 use Rattle.state.specs.declared.Write.{Write}
 use borrow.Author.Needs.{needs}
 use Rattle.reply.proofs.put_write.Statement.{statement}
