@@ -16,6 +16,7 @@ use rules::Reply;
 use rules::Response;
 use rules::Say;
 use rules::WiresChange;
+use state::Peripheral;
 use state::State;
 use wires::Wires;
 ghost use mathlib.Core.Path.{_≡_};
@@ -160,7 +161,7 @@ pub fn espi_reset(s: State) -> State
     let p = s.peripheral;
     State {
         config: Config::fresh(),
-        peripheral: p.dropped(),
+        peripheral: Peripheral::idle(p.serial),
         wires: Wires::fresh(),
     }
 }
@@ -171,7 +172,7 @@ pub fn platform_reset(s: State) -> State
     let c = s.config;
     let r008 = c.r008;
     let r020 = c.r020;
-    let p = s.peripheral;
+    let held = s.peripheral;
     let w = s.wires;
     State {
         config: Config {
@@ -179,7 +180,7 @@ pub fn platform_reset(s: State) -> State
             r010: Reg010::fresh(),
             r020,
         },
-        peripheral: p.dropped(),
+        peripheral: Peripheral::idle(held.serial),
         wires: w.platform(),
     }
 }

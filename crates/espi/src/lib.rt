@@ -4,7 +4,6 @@ use layout::pack;
 use rules::Plan;
 use state::Np;
 use state::State;
-use state::Write;
 ghost use mathlib.Core.Path.{_≡_};
 ghost use Prim.Native.Nat.{_≤_};
 ghost use lib.ListN.{length};
