@@ -48,11 +48,11 @@ fn lift_peripheral(s: State, x: PeripheralChange) -> Plan
     ensures { λ r. ⌜ r ≡ lift peripheral s x ⌝ }
 {
     let config = s.config;
-    let part = x.next;
+    let peripheral = x.next;
     let wires = s.wires;
     let next = State {
         config,
-        peripheral: part,
+        peripheral,
         wires,
     };
     let out = x.out;
@@ -71,11 +71,11 @@ fn lift_wires(s: State, x: WiresChange) -> Plan
 {
     let config = s.config;
     let peripheral = s.peripheral;
-    let part = x.next;
+    let wires = x.next;
     let next = State {
         config,
         peripheral,
-        wires: part,
+        wires,
     };
     let out = x.out;
     let say = out.say;
