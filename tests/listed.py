@@ -24,10 +24,12 @@ def read(path):
 
 # ---- the source: crate -> {qualified name: (public, extern, contract)}
 
-FUNCTION = re.compile(r'^(\s*)(pub )?(extern "C" )?fn (\w+)')
+FUNCTION = re.compile(r'^(\s*)(pub |pub\(crate\) )?(extern "C" )?fn (\w+)')
 
 
 def functions(path):
+    module = os.path.basename(path)[: -len(".rt")]
+    prefix = "" if module == "lib" else module + "::"
     found, owner, lines = {}, "", read(path).split("\n")
     for at, line in enumerate(lines):
         impl = re.match(r"^impl (\w+)", line)
@@ -42,7 +44,7 @@ def functions(path):
         while not lines[k].rstrip().endswith("{"):
             k += 1
             contract.append(lines[k])
-        found[owner + head.group(4)] = (bool(head.group(2)), bool(head.group(3)), "\n".join(contract))
+        found[prefix + owner + head.group(4)] = (head.group(2) == "pub ", bool(head.group(3)), "\n".join(contract))
     return found
 
 

@@ -10,17 +10,21 @@ use borrow.Author.Tests.{not-false}
 use Rattle.base.specs.Pick.{pick, and-left}
 use Rattle.base.specs.Bytes.{over, agree}
 use Rattle.wires.specs.Groups.{definedBit, readWire}
+use Rattle.wires.specs.declared.Wires.{Wires}
 use Rattle.peripheral.specs.declared.Np.{Np}
 use Rattle.state.specs.declared.State.{State}
 use Rattle.state.specs.Sound.{sound}
 use Rattle.state.specs.Layout.{stateLength, packed, unpacked, holds, loaded}
 use Rattle.state.specs.declared.Loaded.{Loaded}
-use Rattle.rules.specs.Decide as D
-use Rattle.rules.specs.Board as B
-use Rattle.rules.specs.Reply.{replyBytes, keptBytes}
-use Rattle.rules.specs.Fits.{KeptFits, PlanFits}
-use Rattle.rules.specs.KeptFits as F
-use Rattle.rules.specs.Calls.{Exchanged, done, exchanged, stored, looked, kept, word, exchangePlanned}
+use Rattle.rules.specs.Rules.Peripheral as P
+use Rattle.rules.specs.Rules.Wires as W
+use Rattle.rules.specs.Rules.Channel.{peripheral}
+use Rattle.rules.specs.Rules.Lift.{lift}
+use Rattle.rules.specs.Rules.Exchange.{exchange}
+use Rattle.rules.specs.Rules.Reply.{replyBytes, keptBytes}
+use Rattle.rules.specs.Rules.Fits.{KeptFits, PlanFits}
+use Rattle.rules.specs.Rules.Calls.{Exchanged, done, exchanged, stored, looked, kept, word, exchangePlanned}
+use Rattle.rules.specs.Proofs.Fits as F
 use Rattle.rules.specs.declared.Kept.{Kept}
 use Rattle.rules.specs.declared.Kept.the-variants as K
 use Rattle.rules.specs.declared.Plan.{Plan}
@@ -57,56 +61,56 @@ module _ (st : List ℕ) (g : Loaded) (e : g ≡ loaded st) where
       rw (es, ew) (ap (λ (q : Plan). stored (q .number) (kept (q .next) st) (over (keptBytes (q .kept) bytes) store)) (ep ∙ ap (λ (y : Loaded). f (y .state)) e))
 
   -- a take: the held write reported
-  pub taken-by : (p : Plan) (st′ report report′ : List ℕ)
-      → p ≡ B.takeWrite (g .state)
+  pub taken-by : (f : State → Plan) (p : Plan) (st′ report report′ : List ℕ)
+      → p ≡ f (g .state)
       → st′ ≡ over (packed (p .next)) st
-      → report′ ≡ over (B.takeReport (g .state .peripheral .write)) report
+      → report′ ≡ over (P.takeReport (g .state .peripheral .write)) report
       → stored (p .number) st′ report′
-      ≡ stored (B.takeWrite (unpacked st) .number) (kept (B.takeWrite (unpacked st) .next) st) (over (B.takeReport (unpacked st .peripheral .write)) report)
-  taken-by p st′ report report′ ep es er =
+      ≡ stored (f (unpacked st) .number) (kept (f (unpacked st) .next) st) (over (P.takeReport (unpacked st .peripheral .write)) report)
+  taken-by f p st′ report report′ ep es er =
       rw (es, er)
-      (ap (λ (q : Plan). stored (q .number) (kept (q .next) st) (over (B.takeReport (g .state .peripheral .write)) report)) ep
-      ∙ ap (λ (y : Loaded). stored (B.takeWrite (y .state) .number) (kept (B.takeWrite (y .state) .next) st) (over (B.takeReport (y .state .peripheral .write)) report)) e)
+      (ap (λ (q : Plan). stored (q .number) (kept (q .next) st) (over (P.takeReport (g .state .peripheral .write)) report)) ep
+      ∙ ap (λ (y : Loaded). stored (f (y .state) .number) (kept (f (y .state) .next) st) (over (P.takeReport (y .state .peripheral .write)) report)) e)
 
   -- a look, by the request's phase
   pub looked-by : (n : Np) (number : ℕ) (report report′ : List ℕ)
       → g .state .peripheral .request ≡ n
-      → number ≡ B.lookNumber n
-      → report′ ≡ over (B.lookReport n (g .state .peripheral .serial)) report
+      → number ≡ P.lookNumber n
+      → report′ ≡ over (P.lookReport n (g .state .peripheral .serial)) report
       → looked number report′
-      ≡ looked (B.lookNumber (unpacked st .peripheral .request)) (over (B.lookReport (unpacked st .peripheral .request) (unpacked st .peripheral .serial)) report)
+      ≡ looked (P.lookNumber (unpacked st .peripheral .request)) (over (P.lookReport (unpacked st .peripheral .request) (unpacked st .peripheral .serial)) report)
   looked-by n number report report′ en ew er =
       rw (ew, er)
-      (ap (λ (z : Np). looked (B.lookNumber z) (over (B.lookReport z (g .state .peripheral .serial)) report)) (sym en)
-      ∙ ap (λ (y : Loaded). looked (B.lookNumber (y .state .peripheral .request)) (over (B.lookReport (y .state .peripheral .request) (y .state .peripheral .serial)) report)) e)
+      (ap (λ (z : Np). looked (P.lookNumber z) (over (P.lookReport z (g .state .peripheral .serial)) report)) (sym en)
+      ∙ ap (λ (y : Loaded). looked (P.lookNumber (y .state .peripheral .request)) (over (P.lookReport (y .state .peripheral .request) (y .state .peripheral .serial)) report)) e)
 
   -- an exchange's plan carried out
   pub exchanged-by : (p : Plan) (command reply write read : List ℕ) (x : Exchanged)
-      → p ≡ D.exchange (g .state) command
+      → p ≡ exchange (g .state) command
       → x ≡ exchangePlanned p st command reply write read
-      → x ≡ exchangePlanned (D.exchange (unpacked st) command) st command reply write read
+      → x ≡ exchangePlanned (exchange (unpacked st) command) st command reply write read
   exchanged-by p command reply write read x ep ex =
-      ex ∙ ap (λ (q : Plan). exchangePlanned q st command reply write read) (ep ∙ ap (λ (y : Loaded). D.exchange (y .state) command) e)
+      ex ∙ ap (λ (q : Plan). exchangePlanned q st command reply write read) (ep ∙ ap (λ (y : Loaded). exchange (y .state) command) e)
 
   -- a wire read
   pub wire-by : (index bit v : ℕ) (ok : Bool) → ok ≡ definedBit index bit → not ok ≡ false → v ≡ readWire (g .state .wires) index bit
-      → 256 * v ≡ word (B.readNumber index bit) (B.readValue (unpacked st) index bit)
+      → 256 * v ≡ word (W.readNumber index bit) (W.readValue (unpacked st .wires) index bit)
   wire-by index bit v ok eo h ev =
       let t : definedBit index bit ≡ true = sym eo ∙ not-false ok h in
       ap (λ (z : ℕ). 256 * z) (ev ∙ ap (λ (y : Loaded). readWire (y .state .wires) index bit) e)
       ∙ sym (zero-add (256 * readWire (unpacked st .wires) index bit))
       ∙ ap (λ (b : Bool). word (pick b 0 22) (pick b (readWire (unpacked st .wires) index bit) 0)) (sym t)
 
-pub wire-refused : (s : State) (index bit : ℕ) (ok : Bool) → ok ≡ definedBit index bit → not ok ≡ true → 22 ≡ word (B.readNumber index bit) (B.readValue s index bit)
-wire-refused s index bit true eo h = let z : _≡_ {A = Bool} true false = sym h in ap (λ (b : Bool). pick b 22 (word (B.readNumber index bit) (B.readValue s index bit))) z
-wire-refused s index bit false eo h = ap (λ (b : Bool). word (pick b 0 22) (pick b (readWire (s .wires) index bit) 0)) eo
+pub wire-refused : (w : Wires) (index bit : ℕ) (ok : Bool) → ok ≡ definedBit index bit → not ok ≡ true → 22 ≡ word (W.readNumber index bit) (W.readValue w index bit)
+wire-refused w index bit true eo h = let z : _≡_ {A = Bool} true false = sym h in ap (λ (b : Bool). pick b 22 (word (W.readNumber index bit) (W.readValue w index bit))) z
+wire-refused w index bit false eo h = ap (λ (b : Bool). word (pick b 0 22) (pick b (readWire w index bit) 0)) eo
 
 -- ---- a plan carried out
 
 pub planned-by : (p : Plan) (st st′ command reply reply′ write write′ read : List ℕ) (n : ℕ)
     → st′ ≡ over (packed (p .next)) st
-    → reply′ ≡ over (replyBytes (p .answer) read) reply
-    → n ≡ length (replyBytes (p .answer) read)
+    → reply′ ≡ over (replyBytes (p .reply) read) reply
+    → n ≡ length (replyBytes (p .reply) read)
     → write′ ≡ over (keptBytes (p .kept) command) write
     → exchanged (p .number + 256 * n) st′ reply′ write′ ≡ exchangePlanned p st command reply write read
 unfolding exchangePlanned
@@ -117,8 +121,8 @@ pub kept-wider : (k : Kept) (m a b : ℕ) → a ≤ b → KeptFits k m a → Kep
 kept-wider K.Nothing m a b h f = tt
 kept-wider (K.Data at n) m a b h f = record { there = f .there; most = omega (arith, f .most) }
 
-pub exchange-fits : (s : State) (command : List ℕ) (p : Plan) → sound s ≡ true → p ≡ D.exchange s command → PlanFits (length command) p
+pub exchange-fits : (s : State) (command : List ℕ) (p : Plan) → sound s ≡ true → p ≡ exchange s command → PlanFits (length command) p
 exchange-fits s command p h e = subst (PlanFits (length command)) (sym e) (F.exchange-fits s h command)
 
-pub answer-fits : (s : State) (serial n : ℕ) (success : Bool) (p : Plan) → sound s ≡ true → p ≡ B.answer s serial success n → KeptFits (p .kept) n 4096
+pub answer-fits : (s : State) (serial n : ℕ) (success : Bool) (p : Plan) → sound s ≡ true → p ≡ lift peripheral s (P.answerTo (s .peripheral) serial success n) → KeptFits (p .kept) n 4096
 answer-fits s serial n success p h e = subst (λ (q : Plan). KeptFits (q .kept) n 4096) (sym e) (F.answer-fits s h serial success n)

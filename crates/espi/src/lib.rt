@@ -1,6 +1,5 @@
 // The C boundary: the nine calls over lent bytes, and nothing else.
 use peripheral::Np;
-use peripheral::Write;
 use rules::Plan;
 use state::State;
 use state::load;
@@ -8,8 +7,8 @@ use state::pack;
 ghost use mathlib.Core.Path.{_≡_};
 ghost use Prim.Native.Nat.{_≤_};
 ghost use lib.ListN.{length};
-ghost use Rattle.rules.specs.Fits.{AnswerFits, KeptFits};
-ghost use Rattle.rules.specs.Calls.{done, exchanged, stored, looked, startCall, espiResetCall, platformResetCall, exchangePlanned, exchangeCall, lookCall, answerCall, takeWriteCall, setWireCall, readWireCall};
+ghost use Rattle.rules.specs.Rules.Fits.{ReplyFits, KeptFits};
+ghost use Rattle.rules.specs.Rules.Calls.{done, exchanged, stored, looked, startCall, espiResetCall, platformResetCall, exchangePlanned, exchangeCall, lookCall, answerCall, takeWriteCall, setWireCall, readWireCall};
 
 // The least lengths of the lent slices.
 const STATE: usize = 77;
@@ -76,14 +75,14 @@ fn commit(
     write_store: &mut [u8],
     read_store: &[u8],
 ) -> u32
-    requires { ⌜ (77 ≤ length (now state)) × (263 ≤ length (now reply)) × (256 ≤ length (now «write_store»)) × (4096 ≤ length (now «read_store»)) × AnswerFits (p .answer) × KeptFits (p .kept) (length (now command)) 256 ⌝ }
+    requires { ⌜ (77 ≤ length (now state)) × (263 ≤ length (now reply)) × (256 ≤ length (now «write_store»)) × (4096 ≤ length (now «read_store»)) × ReplyFits (p .reply) × KeptFits (p .kept) (length (now command)) 256 ⌝ }
     ensures { λ r. ⌜ exchanged r (now (state .exit)) (now (reply .exit)) (now («write_store» .exit)) ≡ exchangePlanned p (now (state .entry)) (now (command .entry)) (now (reply .entry)) (now («write_store» .entry)) (now («read_store» .entry)) ⌝ }
 {
     let next = p.next;
-    let a = p.answer;
+    let r = p.reply;
     let k = p.kept;
     pack(next, state);
-    let n = reply::answer(reply, a, read_store);
+    let n = reply::put_reply(reply, r, read_store);
     reply::keep(write_store, k, command);
     (p.number as u32) + 256 * n
 }

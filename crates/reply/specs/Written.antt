@@ -11,11 +11,11 @@ use Rattle.crc.specs.Crc.{crc}
 use Rattle.wires.specs.Groups.{packetBytes}
 use Rattle.wires.specs.declared.Packet.{Packet}
 use Rattle.peripheral.specs.declared.Completion.{Completion}
-use Rattle.rules.specs.Reply.{headerBytes, bodyBytes, closed, replyBytes, keptBytes}
-use Rattle.rules.specs.KeptFits.{closed-length}
+use Rattle.rules.specs.Rules.Reply.{headerBytes, bodyBytes, closed, replyBytes, keptBytes}
+use Rattle.rules.specs.Proofs.Fits.{closed-length}
 use Rattle.rules.specs.declared.Body.{Body}
 use Rattle.rules.specs.declared.Body.the-variants as B
-use Rattle.rules.specs.declared.Answer.{Answer}
+use Rattle.rules.specs.declared.Reply.{Reply}
 use Rattle.rules.specs.declared.Kept.{Kept}
 
 -- status, then the CRC of all before it
@@ -88,12 +88,12 @@ four-more k n e = omega arith
 pub piece-length : (c : Completion) (n : ℕ) (reads : List ℕ) → 4096 ≤ length reads → c .from + c .length ≤ 4096 → n ≡ 4 + c .length → (code : ℕ) → n ≡ length (code ∷ bodyBytes (B.Piece c) reads)
 piece-length c n reads hs hf e code = e ∙ four-more _ _ (length-take-le (c .length) (drop (c .from) reads) (rw length-drop (omega arith)))
 
--- the answer of the case that it is in
-pub by-answer : (a a′ : Answer) (l l₁ reads : List ℕ) (n : ℕ)
-    → a ≡ a′
-    → (l₁ ≡ over (replyBytes a′ reads) l) × (n ≡ length (replyBytes a′ reads)) × (n ≤ 263)
-    → (l₁ ≡ over (replyBytes a reads) l) × (n ≡ length (replyBytes a reads)) × (n ≤ 263)
-by-answer a a′ l l₁ reads n e h = subst (λ (z : Answer). (l₁ ≡ over (replyBytes z reads) l) × (n ≡ length (replyBytes z reads)) × (n ≤ 263)) (sym e) h
+-- the reply of the case that it is in
+pub by-reply : (r r′ : Reply) (l l₁ reads : List ℕ) (n : ℕ)
+    → r ≡ r′
+    → (l₁ ≡ over (replyBytes r′ reads) l) × (n ≡ length (replyBytes r′ reads)) × (n ≤ 263)
+    → (l₁ ≡ over (replyBytes r reads) l) × (n ≡ length (replyBytes r reads)) × (n ≤ 263)
+by-reply r r′ l l₁ reads n e h = subst (λ (z : Reply). (l₁ ≡ over (replyBytes z reads) l) × (n ≡ length (replyBytes z reads)) × (n ≤ 263)) (sym e) h
 
 -- data kept at the start of a store
 pub data-by : (dst dst′ src part : List ℕ) (at n : ℕ) → at + n ≤ length src → part ≡ drop at src → dst′ ≡ copied dst part n → dst′ ≡ over (take n (drop at src)) dst

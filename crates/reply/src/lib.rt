@@ -1,12 +1,11 @@
-// A plan's answer written into the lent reply, and its kept data into a lent store.
+// A plan's reply written into the lent bytes, and its kept data into a lent store.
 use peripheral::Completion;
-use peripheral::Kind;
 use peripheral::Posted;
 use peripheral::Request;
 use peripheral::Write;
-use rules::Answer;
 use rules::Body;
 use rules::Kept;
+use rules::Reply;
 use rules::Response;
 use wires::Packet;
 ghost use mathlib.Core.Path.{_≡_};
@@ -16,10 +15,10 @@ ghost use lib.ListN.{length, take, drop};
 ghost use Rattle.base.specs.Bytes.{over};
 ghost use Rattle.wires.specs.Groups.{packetBytes};
 ghost use Rattle.peripheral.specs.Layout.{kindNumber};
-ghost use Rattle.rules.specs.Plan.{responseByte};
-ghost use Rattle.rules.specs.Board.{requestReport, postedReport, takeReport};
-ghost use Rattle.rules.specs.Reply.{headerBytes, dataBytes, bodyBytes, closed, replyBytes, keptBytes};
-ghost use Rattle.rules.specs.Fits.{BodyFits, AnswerFits, KeptFits};
+ghost use Rattle.rules.specs.Rules.Out.{responseByte};
+ghost use Rattle.rules.specs.Rules.Peripheral.{requestReport, postedReport, takeReport};
+ghost use Rattle.rules.specs.Rules.Reply.{headerBytes, dataBytes, bodyBytes, closed, replyBytes, keptBytes};
+ghost use Rattle.rules.specs.Rules.Fits.{BodyFits, ReplyFits, KeptFits};
 
 fn response_byte(r: Response) -> u8
     ensures { λ x. ⌜ x ≡ responseByte r ⌝ }
@@ -132,14 +131,14 @@ fn say(reply: &mut [u8], code: u8, body: Body, status: u32, reads: &[u8]) -> u32
     (n + 3) as u32
 }
 
-// The reply that the answer is; its length.
-pub fn answer(reply: &mut [u8], a: Answer, reads: &[u8]) -> u32
-    requires { ⌜ (263 ≤ length (now reply)) × (4096 ≤ length (now reads)) × AnswerFits a ⌝ }
-    ensures { λ r. ⌜ (now (reply .exit) ≡ over (replyBytes a (now (reads .entry))) (now (reply .entry))) × (r ≡ length (replyBytes a (now (reads .entry)))) × (r ≤ 263) ⌝ }
+// The reply's bytes; their count.
+pub fn put_reply(reply: &mut [u8], r: Reply, reads: &[u8]) -> u32
+    requires { ⌜ (263 ≤ length (now reply)) × (4096 ≤ length (now reads)) × ReplyFits r ⌝ }
+    ensures { λ n. ⌜ (now (reply .exit) ≡ over (replyBytes r (now (reads .entry))) (now (reply .entry))) × (n ≡ length (replyBytes r (now (reads .entry)))) × (n ≤ 263) ⌝ }
 {
-    match a {
-        Answer::Silent => 0,
-        Answer::Said(response, body, status) => say(
+    match r {
+        Reply::Silent => 0,
+        Reply::Said(response, body, status) => say(
             reply,
             response_byte(response),
             body,
@@ -168,16 +167,6 @@ pub fn keep(dst: &mut [u8], k: Kept, src: &[u8])
     }
 }
 
-fn kind_number(k: Kind) -> u8
-    ensures { λ r. ⌜ r ≡ kindNumber k ⌝ }
-{
-    match k {
-        Kind::MemoryRead => 0,
-        Kind::IoRead => 1,
-        Kind::IoWrite => 2,
-    }
-}
-
 fn request_report(q: Request, serial: u32) -> [u8; 19]
     ensures { λ r. ⌜ r ≡ requestReport q serial ⌝ }
 {
@@ -186,7 +175,7 @@ fn request_report(q: Request, serial: u32) -> [u8; 19]
     let n = q.length;
     let b = q.bytes;
     [
-        kind_number(k),
+        peripheral::kind_number(k),
         (a % 256) as u8,
         (a / 256 % 256) as u8,
         (a / 65536 % 256) as u8,

@@ -19,3 +19,4 @@ pub mod Becomes
 pub mod Effects
 pub mod ConfigWrites
 pub mod Replies
+pub mod Fits

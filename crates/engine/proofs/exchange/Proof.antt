@@ -1,7 +1,6 @@
-use Rattle.engine.specs.Laws.{exchange-silent, exchange-decided, command-fits}
+use native.Mathlib.Omega.{arith}
 use denote.Ref.{now}
-use native.Mathlib.Omega.{arith}
-use native.Mathlib.Omega.{arith}
+use Rattle.engine.specs.Laws.Exchange.{exchange-silent, exchange-decided, command-fits}
 use borrow.Author.Needs.{needs}
 use Rattle.engine.proofs.exchange.Statement.{statement}
 use Rattle.engine.proofs.exchange.Tie as tie

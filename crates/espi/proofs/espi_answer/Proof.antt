@@ -5,9 +5,10 @@ use denote.Ref.{now}
 use Rattle.espi.specs.Boundary.{ok-is, kept-by, kept-wider, answer-fits, loaded-sound}
 use lib.ListN.{length}
 use native.Mathlib.Omega.{arith}
-use Rattle.rules.specs.Calls.{answerCall}
-use Rattle.rules.specs.Board as T
-use Rattle.rules.specs.Step.{succeeded}
+use Rattle.rules.specs.Rules.Calls.{answerCall}
+use Rattle.rules.specs.Rules.Peripheral.{answerTo, succeeded, settle}
+use Rattle.rules.specs.Rules.Channel.{peripheral}
+use Rattle.rules.specs.Rules.Lift.{lift}
 use Rattle.state.specs.declared.State.{State}
 use native.Mathlib.Omega.{arith}
 use borrow.Author.Needs.{needs}
@@ -51,8 +52,8 @@ same-length-3 : tie.Need-same-length-3
 same-length-3 c = search needs
 
 returns-4 : tie.Need-returns-4
-unfolding answerCall
-returns-4 c = let a = c .before .before .before .before .before .before .before .before .before .before .before .before .before .before .before .before .before .before .before .before .before .args in passed _ _ (le-ltb _ _ (c .before .before .before .before .before .before .before .before .before .before .before .before .before .before .before .before .before .if1 .left)) (passed _ _ (le-ltb _ _ (c .before .before .before .before .before .before .before .before .before .before .before .before .before .before .before .before .if2 .left)) (passed _ _ (ok-is _ (c .before .before .before .before .before .before .before .before .before .before .before .before .before .before .load .result) (c .before .before .before .before .before .before .before .before .before .before .before .before .before .before .load .ensures) (c .before .before .before .before .before .before .before .before .before .before .before .before .if3 .left)) (kept-by (now (a .state)) (c .before .before .before .before .before .before .before .before .before .before .before .before .before .before .load .result) (c .before .before .before .before .before .before .before .before .before .before .before .before .before .before .load .ensures) (λ (s : State). T.answer s (a .serial) (succeeded (a .success)) (length (now (a .bytes)))) (c .before .before .before .before .before .before .before .before .before .before .answer .result) _ (now (a .bytes)) (now (a .read-store)) _ (c .before .before .before .before .before .before .before .before .before .before .answer .ensures) (c .before .before .before .before .before .before .before .pack .ensures) (c .before .before .before .keep .ensures))))
+unfolding answerCall settle
+returns-4 c = let a = c .before .before .before .before .before .before .before .before .before .before .before .before .before .before .before .before .before .before .before .before .before .args in passed _ _ (le-ltb _ _ (c .before .before .before .before .before .before .before .before .before .before .before .before .before .before .before .before .before .if1 .left)) (passed _ _ (le-ltb _ _ (c .before .before .before .before .before .before .before .before .before .before .before .before .before .before .before .before .if2 .left)) (passed _ _ (ok-is _ (c .before .before .before .before .before .before .before .before .before .before .before .before .before .before .load .result) (c .before .before .before .before .before .before .before .before .before .before .before .before .before .before .load .ensures) (c .before .before .before .before .before .before .before .before .before .before .before .before .if3 .left)) (kept-by (now (a .state)) (c .before .before .before .before .before .before .before .before .before .before .before .before .before .before .load .result) (c .before .before .before .before .before .before .before .before .before .before .before .before .before .before .load .ensures) (λ (s : State). lift peripheral s (answerTo (s .peripheral) (a .serial) (succeeded (a .success)) (length (now (a .bytes))))) (c .before .before .before .before .before .before .before .before .before .before .answer .result) _ (now (a .bytes)) (now (a .read-store)) _ (c .before .before .before .before .before .before .before .before .before .before .answer .ensures) (c .before .before .before .before .before .before .before .pack .ensures) (c .before .before .before .keep .ensures))))
 
 pub espi-answer-spec : {M : Type 1} → statement M
 espi-answer-spec =

@@ -4,7 +4,7 @@ use mathlib.Core.Path.{refl}
 use denote.Ref.{now}
 use Rattle.espi.specs.Boundary.{ok-is, exchanged-by, exchange-fits, loaded-sound}
 use native.Mathlib.Omega.{arith}
-use Rattle.rules.specs.Calls.{exchangeCall}
+use Rattle.rules.specs.Rules.Calls.{exchangeCall}
 use native.Mathlib.Omega.{arith}
 use borrow.Author.Needs.{needs}
 use Rattle.espi.proofs.espi_exchange.Statement.{statement}
@@ -40,7 +40,7 @@ exchange-requires : tie.Need-exchange-requires
 exchange-requires c κs = loaded-sound (now (c .before .before .before .before .before .before .before .before .before .before .before .before .before .before .args .state)) (c .before .before .before .load .result) (c .before .before .before .load .ensures) (c .before .if5 .left)
 
 commit-requires : tie.Need-commit-requires
-commit-requires c κs = let a = c .before .before .before .before .before .before .before .before .before .before .before .before .before .before .before .before .before .before .args in let f = exchange-fits (c .before .before .before .before .before .before .before .load .result .state) (now (a .command)) _ (loaded-sound (now (a .state)) (c .before .before .before .before .before .before .before .load .result) (c .before .before .before .before .before .before .before .load .ensures) (c .before .before .before .before .before .if5 .left)) (c .before .before .before .exchange .ensures) in (omega arith, omega arith, omega arith, omega arith, f .answer, f .kept)
+commit-requires c κs = let a = c .before .before .before .before .before .before .before .before .before .before .before .before .before .before .before .before .before .before .args in let f = exchange-fits (c .before .before .before .before .before .before .before .load .result .state) (now (a .command)) _ (loaded-sound (now (a .state)) (c .before .before .before .before .before .before .before .load .result) (c .before .before .before .before .before .before .before .load .ensures) (c .before .before .before .before .before .if5 .left)) (c .before .before .before .exchange .ensures) in (omega arith, omega arith, omega arith, omega arith, f .reply, f .kept)
 
 same-length-2 : tie.Need-same-length-2
 same-length-2 c = search needs

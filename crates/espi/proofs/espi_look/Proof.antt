@@ -5,7 +5,7 @@ use denote.Ref.{now}
 use Rattle.espi.specs.Boundary.{ok-is, looked-by}
 use mathlib.Core.Path.{sym}
 use Rattle.base.specs.Bytes.{over-none}
-use Rattle.rules.specs.Calls.{lookCall}
+use Rattle.rules.specs.Rules.Calls.{lookCall}
 use borrow.Author.Needs.{needs}
 use Rattle.espi.proofs.espi_look.Statement.{statement}
 use Rattle.espi.proofs.espi_look.Tie as tie

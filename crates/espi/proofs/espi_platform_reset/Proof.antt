@@ -3,14 +3,15 @@ use borrow.Author.Tests.{lt-ltb, le-ltb}
 use mathlib.Core.Path.{refl}
 use denote.Ref.{now}
 use Rattle.espi.specs.Boundary.{ok-is, changed-by}
-use Rattle.rules.specs.Calls.{platformResetCall, changeCall}
-use Rattle.rules.specs.Board as T
+use Rattle.rules.specs.Rules.Calls.{platformResetCall, resetCall}
+use Rattle.rules.specs.Rules.Reset.{platformReset}
+use Rattle.rules.specs.Rules.Exchange.{wasReset}
 use borrow.Author.Needs.{needs}
 use Rattle.espi.proofs.espi_platform_reset.Statement.{statement}
 use Rattle.espi.proofs.espi_platform_reset.Tie as tie
 
 returns : tie.Need-returns
-unfolding platformResetCall changeCall
+unfolding platformResetCall resetCall
 returns c = taken _ _ (lt-ltb _ _ (c .if1 .taken)) refl
 
 load-requires : tie.Need-load-requires
@@ -20,7 +21,7 @@ same-length : tie.Need-same-length
 same-length c = search needs
 
 returns-2 : tie.Need-returns-2
-unfolding platformResetCall changeCall
+unfolding platformResetCall resetCall
 returns-2 c = passed _ _ (le-ltb _ _ (c .before .before .before .before .if1 .left)) (taken _ _ (ok-is _ (c .before .before .load .result) (c .before .before .load .ensures) (c .if2 .taken)) refl)
 
 platform-reset-requires : tie.Need-platform-reset-requires
@@ -33,8 +34,8 @@ same-length-2 : tie.Need-same-length-2
 same-length-2 c = search needs
 
 returns-3 : tie.Need-returns-3
-unfolding platformResetCall changeCall
-returns-3 c = passed _ _ (le-ltb _ _ (c .before .before .before .before .before .before .before .before .before .before .if1 .left)) (passed _ _ (ok-is _ (c .before .before .before .before .before .before .before .before .load .result) (c .before .before .before .before .before .before .before .before .load .ensures) (c .before .before .before .before .before .before .if2 .left)) (changed-by (now (c .before .before .before .before .before .before .before .before .before .before .before .before .args .state)) (c .before .before .before .before .before .before .before .before .load .result) (c .before .before .before .before .before .before .before .before .load .ensures) T.platformReset _ _ (c .before .before .before .before .platform-reset .ensures) (c .before .before .pack .ensures)))
+unfolding platformResetCall resetCall
+returns-3 c = passed _ _ (le-ltb _ _ (c .before .before .before .before .before .before .before .before .before .before .if1 .left)) (passed _ _ (ok-is _ (c .before .before .before .before .before .before .before .before .load .result) (c .before .before .before .before .before .before .before .before .load .ensures) (c .before .before .before .before .before .before .if2 .left)) (changed-by (now (c .before .before .before .before .before .before .before .before .before .before .before .before .args .state)) (c .before .before .before .before .before .before .before .before .load .result) (c .before .before .before .before .before .before .before .before .load .ensures) (wasReset platformReset) _ _ (c .before .before .before .before .platform-reset .ensures) (c .before .before .pack .ensures)))
 
 pub espi-platform-reset-spec : {M : Type 1} → statement M
 espi-platform-reset-spec =

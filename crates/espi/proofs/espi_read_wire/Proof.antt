@@ -6,7 +6,7 @@ use denote.Ref.{now}
 use Rattle.espi.specs.Boundary.{ok-is, wire-by, wire-refused}
 use mathlib.Core.Path.{sym}
 use borrow.Author.Tests.{not-false}
-use Rattle.rules.specs.Calls.{readWireCall}
+use Rattle.rules.specs.Rules.Calls.{readWireCall}
 use borrow.Author.Needs.{needs}
 use Rattle.espi.proofs.espi_read_wire.Statement.{statement}
 use Rattle.espi.proofs.espi_read_wire.Tie as tie
@@ -27,7 +27,7 @@ defined-bit-requires c κs = search needs
 
 returns-3 : tie.Need-returns-3
 unfolding readWireCall
-returns-3 c = let a = c .before .before .before .before .before .before .before .args in passed _ _ (le-ltb _ _ (c .before .before .before .before .before .if1 .left)) (passed _ _ (ok-is _ (c .before .before .before .before .load .result) (c .before .before .before .before .load .ensures) (c .before .before .if2 .left)) (wire-refused (unpacked (now (a .state))) (a .index) (a .bit) _ (c .before .defined-bit .ensures) (c .if3 .taken)))
+returns-3 c = let a = c .before .before .before .before .before .before .before .args in passed _ _ (le-ltb _ _ (c .before .before .before .before .before .if1 .left)) (passed _ _ (ok-is _ (c .before .before .before .before .load .result) (c .before .before .before .before .load .ensures) (c .before .before .if2 .left)) (wire-refused (unpacked (now (a .state)) .wires) (a .index) (a .bit) _ (c .before .defined-bit .ensures) (c .if3 .taken)))
 
 read-requires : tie.Need-read-requires
 read-requires c κs = sym (c .before .before .before .defined-bit .ensures) ∙ not-false _ (c .before .before .if3 .left)

@@ -3,8 +3,10 @@ use borrow.Author.Tests.{lt-ltb, le-ltb}
 use mathlib.Core.Path.{refl}
 use denote.Ref.{now}
 use Rattle.espi.specs.Boundary.{ok-is, settled-by}
-use Rattle.rules.specs.Calls.{setWireCall}
-use Rattle.rules.specs.Board as T
+use Rattle.rules.specs.Rules.Calls.{setWireCall}
+use Rattle.rules.specs.Rules.Wires.{setting, settle}
+use Rattle.rules.specs.Rules.Channel.{wires}
+use Rattle.rules.specs.Rules.Lift.{lift}
 use Rattle.state.specs.declared.State.{State}
 use borrow.Author.Needs.{needs}
 use Rattle.espi.proofs.espi_set_wire.Statement.{statement}
@@ -37,8 +39,8 @@ same-length-2 : tie.Need-same-length-2
 same-length-2 c = search needs
 
 returns-3 : tie.Need-returns-3
-unfolding setWireCall
-returns-3 c = let a = c .before .before .before .before .before .before .before .before .before .before .before .before .before .before .args in passed _ _ (le-ltb _ _ (c .before .before .before .before .before .before .before .before .before .before .before .before .if1 .left)) (passed _ _ (ok-is _ (c .before .before .before .before .before .before .before .before .before .before .load .result) (c .before .before .before .before .before .before .before .before .before .before .load .ensures) (c .before .before .before .before .before .before .before .before .if2 .left)) (settled-by (now (a .state)) (c .before .before .before .before .before .before .before .before .before .before .load .result) (c .before .before .before .before .before .before .before .before .before .before .load .ensures) (λ (s : State). T.setWireCall s (a .index) (a .bit) (a .value)) _ _ (c .before .before .before .before .before .before .set-wire .ensures) (c .before .before .before .pack .ensures)))
+unfolding setWireCall settle
+returns-3 c = let a = c .before .before .before .before .before .before .before .before .before .before .before .before .before .before .args in passed _ _ (le-ltb _ _ (c .before .before .before .before .before .before .before .before .before .before .before .before .if1 .left)) (passed _ _ (ok-is _ (c .before .before .before .before .before .before .before .before .before .before .load .result) (c .before .before .before .before .before .before .before .before .before .before .load .ensures) (c .before .before .before .before .before .before .before .before .if2 .left)) (settled-by (now (a .state)) (c .before .before .before .before .before .before .before .before .before .before .load .result) (c .before .before .before .before .before .before .before .before .before .before .load .ensures) (λ (s : State). lift wires s (setting (s .config) (s .wires) (a .index) (a .bit) (a .value))) _ _ (c .before .before .before .before .before .before .set-wire .ensures) (c .before .before .before .pack .ensures)))
 
 pub espi-set-wire-spec : {M : Type 1} → statement M
 espi-set-wire-spec =

@@ -2,7 +2,7 @@ use Rattle.base.specs.Pick.{taken, passed}
 use borrow.Author.Tests.{lt-ltb, le-ltb}
 use mathlib.Core.Path.{refl, ap, _∙_}
 use denote.Ref.{now}
-use Rattle.rules.specs.Calls.{startCall, done, kept}
+use Rattle.rules.specs.Rules.Calls.{startCall, done, kept}
 use Rattle.state.specs.declared.State.{State}
 use borrow.Author.Needs.{needs}
 use Rattle.espi.proofs.espi_start.Statement.{statement}

@@ -3,7 +3,11 @@ use borrow.Author.Tests.{lt-ltb, le-ltb}
 use mathlib.Core.Path.{refl}
 use denote.Ref.{now}
 use Rattle.espi.specs.Boundary.{ok-is, taken-by}
-use Rattle.rules.specs.Calls.{takeWriteCall}
+use Rattle.rules.specs.Rules.Peripheral as P
+use Rattle.rules.specs.Rules.Channel.{peripheral}
+use Rattle.rules.specs.Rules.Lift.{lift}
+use Rattle.rules.specs.Rules.Calls.{takeWriteCall}
+use Rattle.state.specs.declared.State.{State}
 use borrow.Author.Needs.{needs}
 use Rattle.espi.proofs.espi_take_write.Statement.{statement}
 use Rattle.espi.proofs.espi_take_write.Tie as tie
@@ -49,8 +53,8 @@ same-length-3 : tie.Need-same-length-3
 same-length-3 c = search needs
 
 returns-5 : tie.Need-returns-5
-unfolding takeWriteCall
-returns-5 c = passed _ _ (le-ltb _ _ (c .before .before .before .before .before .before .before .before .before .before .before .before .before .before .before .before .before .before .before .if1 .left)) (passed _ _ (le-ltb _ _ (c .before .before .before .before .before .before .before .before .before .before .before .before .before .before .before .before .before .before .if2 .left)) (passed _ _ (le-ltb _ _ (c .before .before .before .before .before .before .before .before .before .before .before .before .before .before .before .before .before .if3 .left)) (passed _ _ (ok-is _ (c .before .before .before .before .before .before .before .before .before .before .before .before .before .before .before .load .result) (c .before .before .before .before .before .before .before .before .before .before .before .before .before .before .before .load .ensures) (c .before .before .before .before .before .before .before .before .before .before .before .before .before .if4 .left)) (taken-by (now (c .before .before .before .before .before .before .before .before .before .before .before .before .before .before .before .before .before .before .before .before .before .before .before .args .state)) (c .before .before .before .before .before .before .before .before .before .before .before .before .before .before .before .load .result) (c .before .before .before .before .before .before .before .before .before .before .before .before .before .before .before .load .ensures) (c .before .before .before .before .before .before .before .before .before .before .take-write .result) _ _ _ (c .before .before .before .before .before .before .before .before .before .before .take-write .ensures) (c .before .before .before .before .before .before .before .pack .ensures) (c .before .before .before .put-write .ensures)))))
+unfolding takeWriteCall P.settle
+returns-5 c = passed _ _ (le-ltb _ _ (c .before .before .before .before .before .before .before .before .before .before .before .before .before .before .before .before .before .before .before .if1 .left)) (passed _ _ (le-ltb _ _ (c .before .before .before .before .before .before .before .before .before .before .before .before .before .before .before .before .before .before .if2 .left)) (passed _ _ (le-ltb _ _ (c .before .before .before .before .before .before .before .before .before .before .before .before .before .before .before .before .before .if3 .left)) (passed _ _ (ok-is _ (c .before .before .before .before .before .before .before .before .before .before .before .before .before .before .before .load .result) (c .before .before .before .before .before .before .before .before .before .before .before .before .before .before .before .load .ensures) (c .before .before .before .before .before .before .before .before .before .before .before .before .before .if4 .left)) (taken-by (now (c .before .before .before .before .before .before .before .before .before .before .before .before .before .before .before .before .before .before .before .before .before .before .before .args .state)) (c .before .before .before .before .before .before .before .before .before .before .before .before .before .before .before .load .result) (c .before .before .before .before .before .before .before .before .before .before .before .before .before .before .before .load .ensures) (λ (s : State). lift peripheral s (P.taken (s .peripheral))) (c .before .before .before .before .before .before .before .before .before .before .take-write .result) _ _ _ (c .before .before .before .before .before .before .before .before .before .before .take-write .ensures) (c .before .before .before .before .before .before .before .pack .ensures) (c .before .before .before .put-write .ensures)))))
 
 pub espi-take-write-spec : {M : Type 1} → statement M
 espi-take-write-spec =

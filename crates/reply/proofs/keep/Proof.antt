@@ -2,7 +2,7 @@ use denote.Ref.{now}
 use mathlib.Core.Path.{sym, subst}
 use lib.ListN.{length}
 use Rattle.base.specs.Bytes.{over-none}
-use Rattle.rules.specs.Fits.{KeptFits}
+use Rattle.rules.specs.Rules.Fits.{KeptFits}
 use Rattle.rules.specs.declared.Kept.{Kept}
 use Rattle.reply.specs.Written.{by-kept}
 use borrow.Author.Needs.{needs}

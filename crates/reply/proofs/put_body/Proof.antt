@@ -1,7 +1,7 @@
 use mathlib.Core.Path.{refl, subst, _∙_}
 use native.Mathlib.Omega.{arith}
 use Rattle.base.specs.Bytes.{put-first}
-use Rattle.rules.specs.Fits.{BodyFits}
+use Rattle.rules.specs.Rules.Fits.{BodyFits}
 use Rattle.reply.specs.Written.{by-body, piece-length}
 use native.Mathlib.Omega.{arith}
 use borrow.Author.Needs.{needs}

@@ -2,7 +2,7 @@ use denote.Ref.{now}
 use mathlib.Core.Path.{sym, ap, _∙_}
 use Rattle.base.specs.Bytes.{over, over-none}
 use Rattle.peripheral.specs.declared.Write.{Write}
-use Rattle.rules.specs.Board.{takeReport}
+use Rattle.rules.specs.Rules.Peripheral.{takeReport}
 use borrow.Author.Needs.{needs}
 use Rattle.reply.proofs.put_write.Statement.{statement}
 use Rattle.reply.proofs.put_write.Tie as tie

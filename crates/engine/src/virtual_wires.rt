@@ -1,0 +1,98 @@
+// Channel 1: its commands and the board's setting of a wire, over the configuration and the channel's own part.
+use crate::out;
+use command::WiresCommand;
+use registers::Config;
+use rules::Body;
+use rules::Kept;
+use rules::WiresChange;
+use wires::Wires;
+ghost use mathlib.Core.Path.{_≡_};
+ghost use mathlib.Core.Bool.{true};
+ghost use Prim.Native.Nat.{_+_, _*_, _≤_};
+ghost use lib.ListN.{length, take, drop};
+ghost use Rattle.registers.specs.Registers.{reachable, on1};
+ghost use Rattle.wires.specs.Groups.{soundWires};
+ghost use Rattle.command.specs.Facts.{WiresFits};
+ghost use Rattle.rules.specs.Rules.Out as O;
+ghost use Rattle.rules.specs.Rules.Wires as W;
+
+fn fatally(w: Wires) -> WiresChange
+    ensures { λ r. ⌜ r ≡ W.change w O.fatal ⌝ }
+{
+    WiresChange {
+        next: w,
+        out: out::fatal(),
+    }
+}
+
+// The pairs stand from the command's third byte on.
+fn put_vwire(c: Config, w: Wires, n: u32, b: &[u8]) -> WiresChange
+    requires { ⌜ 2 + n * 2 ≤ length (now b) ⌝ }
+    ensures { λ r. ⌜ r ≡ W.putVwire c w n (take (n * 2) (drop 2 (now (b .entry)))) ⌝ }
+{
+    let r = c.r020;
+    if r.operating_count() < n {
+        return fatally(w);
+    }
+    WiresChange {
+        next: w.put(&b[2..], n as usize),
+        out: out::accept(Body::Nothing, Kept::Nothing),
+    }
+}
+
+fn get_vwire(c: Config, w: Wires) -> WiresChange
+    requires { ⌜ (reachable c ≡ true) × (soundWires (on1 (c .r020)) w ≡ true) ⌝ }
+    ensures { λ r. ⌜ r ≡ W.getVwire c w ⌝ }
+{
+    let r = c.r020;
+    let count = r.operating_count();
+    if !w.any_pending() {
+        return fatally(w);
+    }
+    let o = w.send(count);
+    let packet = o.packet;
+    let next = o.next;
+    WiresChange {
+        next,
+        out: out::accept(Body::Groups(packet), Kept::Nothing),
+    }
+}
+
+pub(crate) fn decide(c: Config, w: Wires, o: WiresCommand, b: &[u8]) -> WiresChange
+    requires { ⌜ (reachable c ≡ true) × (soundWires (on1 (c .r020)) w ≡ true) × WiresFits o (now b) ⌝ }
+    ensures { λ r. ⌜ r ≡ W.decide c w o (now (b .entry)) ⌝ }
+{
+    match o {
+        WiresCommand::PutVwire(n) => put_vwire(c, w, n, b),
+        WiresCommand::GetVwire => get_vwire(c, w),
+    }
+}
+
+// The board sets one wire.
+pub(crate) fn setting(c: Config, w: Wires, index: u32, bit: u32, value: u32) -> WiresChange
+    ensures { λ r. ⌜ r ≡ W.setting c w index bit value ⌝ }
+{
+    if !wires::settable(index, bit, value) {
+        return WiresChange {
+            next: w,
+            out: out::number(22),
+        };
+    }
+    let r = c.r020;
+    WiresChange {
+        next: w.set(r.on(), index, bit, value),
+        out: out::keep(Kept::Nothing),
+    }
+}
+
+pub(crate) fn edge(was: bool, is: bool, w: Wires) -> Wires
+    ensures { λ r. ⌜ r ≡ W.edge was is w ⌝ }
+{
+    if was & !is {
+        return w.disabled();
+    }
+    if !was & is {
+        return w.enabled();
+    }
+    w
+}
