@@ -14,7 +14,6 @@ ghost use Prim.Native.Nat.{_+_, _*_, _≤_};
 ghost use lib.ListN.{length, take, drop};
 ghost use Rattle.base.specs.Bytes.{over};
 ghost use Rattle.wires.specs.Groups.{packetBytes};
-ghost use Rattle.peripheral.specs.Layout.{kindNumber};
 ghost use Rattle.rules.specs.Rules.Out.{responseByte};
 ghost use Rattle.rules.specs.Rules.Peripheral.{requestReport, postedReport, takeReport};
 ghost use Rattle.rules.specs.Rules.Reply.{headerBytes, dataBytes, bodyBytes, closed, replyBytes, keptBytes};
