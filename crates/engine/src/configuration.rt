@@ -1,6 +1,6 @@
 // The configuration, above all channels: each channel gets the edge of its enable bit.
-use crate::peripheral;
-use crate::virtual_wires;
+use crate::peripheral_channel;
+use crate::wires_channel;
 use command::Channels;
 use registers::Config;
 use registers::Reg008;
@@ -33,8 +33,8 @@ fn reconfigure(s: State, c: Config) -> State
     let is = channels(c);
     State {
         config: c,
-        peripheral: peripheral::edge(was.peripheral, is.peripheral, s.peripheral),
-        wires: virtual_wires::edge(was.wires, is.wires, s.wires),
+        peripheral: peripheral_channel::edge(was.peripheral, is.peripheral, s.peripheral),
+        wires: wires_channel::edge(was.wires, is.wires, s.wires),
     }
 }
 

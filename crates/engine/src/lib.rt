@@ -1,8 +1,8 @@
 // Every command and board call by value, a state in and a plan out: the channel decides over its own part, and a lift puts that back.
 mod configuration;
 mod out;
-mod peripheral;
-mod virtual_wires;
+mod peripheral_channel;
+mod wires_channel;
 
 use command::Command;
 use command::Decoded;
@@ -118,8 +118,8 @@ fn decided(s: State, o: Command, b: &[u8]) -> Plan
 {
     let c = s.config;
     match o {
-        Command::Peripheral(k) => lift_peripheral(s, peripheral::decide(c, s.peripheral, k, b)),
-        Command::Wires(k) => lift_wires(s, virtual_wires::decide(c, s.wires, k, b)),
+        Command::Peripheral(k) => lift_peripheral(s, peripheral_channel::decide(c, s.peripheral, k, b)),
+        Command::Wires(k) => lift_wires(s, wires_channel::decide(c, s.wires, k, b)),
         Command::GetConfiguration(a) => shown(Body::Word(c.read(a)), s),
         Command::SetConfiguration(a, v) => configuration::set(s, a, v),
         Command::GetStatus => shown(Body::Nothing, s),
@@ -191,14 +191,14 @@ pub fn platform_reset(s: State) -> State
 pub fn answer(s: State, serial: u32, success: bool, n: usize) -> Plan
     ensures { λ r. ⌜ r ≡ lift peripheral s (answerTo (s .peripheral) serial success n) ⌝ }
 {
-    lift_peripheral(s, peripheral::answer_to(s.peripheral, serial, success, n))
+    lift_peripheral(s, peripheral_channel::answer_to(s.peripheral, serial, success, n))
 }
 
 // The board takes the held write.
 pub fn take_write(s: State) -> Plan
     ensures { λ r. ⌜ r ≡ lift peripheral s (taken (s .peripheral)) ⌝ }
 {
-    lift_peripheral(s, peripheral::taken(s.peripheral))
+    lift_peripheral(s, peripheral_channel::taken(s.peripheral))
 }
 
 // The board sets one wire.
@@ -207,6 +207,6 @@ pub fn set_wire(s: State, index: u32, bit: u32, value: u32) -> Plan
 {
     lift_wires(
         s,
-        virtual_wires::setting(s.config, s.wires, index, bit, value),
+        wires_channel::setting(s.config, s.wires, index, bit, value),
     )
 }
