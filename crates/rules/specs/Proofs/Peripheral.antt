@@ -3,6 +3,7 @@ pub mod Effects
 pub mod Lawful
 pub mod Shape
 pub mod Sound
+pub mod Rows
 use Prim.Native.Nat.{ℕ}
 use mathlib.Core.Bool.{Bool, true, false, _&&_, not}
 use mathlib.Core.List.{List, [], _∷_}
