@@ -23,4 +23,5 @@ pub mod Effects
 pub mod ConfigWrites
 pub mod Replies
 pub mod Sizes
+pub mod Status
 pub mod StatusSays

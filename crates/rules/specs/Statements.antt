@@ -16,4 +16,5 @@ pub mod Vectors
 pub mod Sizes
 pub mod Effects
 pub mod ConfigWrites
+pub mod Status
 pub mod StatusSays

@@ -4,6 +4,7 @@ pub mod Lawful
 pub mod Shape
 pub mod Sound
 pub mod Rows
+pub mod Status
 use Prim.Native.Nat.{ℕ}
 use mathlib.Core.Bool.{Bool, true, false, _&&_, not}
 use mathlib.Core.List.{List, [], _∷_}

@@ -2,6 +2,7 @@
 -- this law and unfold no decision.
 pub mod Effects
 pub mod Rows
+pub mod Status
 use Prim.Native.Nat.{ℕ}
 use mathlib.Core.Bool.{Bool, true, false, _&&_}
 use mathlib.Core.List.{List, [], _∷_}
