@@ -4,6 +4,9 @@ pub mod Cases
 pub mod Channels
 pub mod Fields
 pub mod Reads
+pub mod Rows
+pub mod FirstApplies
+pub mod WholeFirstApplies
 pub mod Plans
 pub mod Lift
 pub mod Refusals
@@ -20,3 +23,6 @@ pub mod Effects
 pub mod ConfigWrites
 pub mod Replies
 pub mod Fits
+pub mod Sizes
+pub mod Status
+pub mod StatusSays

@@ -5,6 +5,8 @@ pub mod Channels
 pub mod Fields
 pub mod Reads
 pub mod Events
+pub mod Rows
+pub mod FirstApplies
 pub mod Plans
 pub mod Refusals
 pub mod Shape
@@ -14,3 +16,5 @@ pub mod Vectors
 pub mod Sizes
 pub mod Effects
 pub mod ConfigWrites
+pub mod Status
+pub mod StatusSays

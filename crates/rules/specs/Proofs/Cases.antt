@@ -3,12 +3,13 @@ use Prim.Native.Nat.{ℕ}
 use mathlib.Core.List.{List}
 use mathlib.Core.Path.{_≡_, refl, subst}
 use native.Mathlib.Omega.{arith}
-use Rattle.base.specs.Pick.{pick-ind}
+use Rattle.base.specs.Pick.{pick, pick-ind}
 use Rattle.base.specs.Bytes.{over}
 use Rattle.rules.specs.Rules.Lift.{silent}
 use Rattle.rules.specs.Rules.Reply.{replyBytes}
+use Rattle.rules.specs.Rules.Exchange as E
 use Rattle.rules.specs.Rules.Step as S
-use Rattle.rules.specs.Rules.Step.{World, Call, Outcome, exchange, board, reset, short, lend, only, shortStores, shortFor, exchanged}
+use Rattle.rules.specs.Rules.Step.{World, exchange, board, reset, short, lend, only, shortStores, shortFor, exchanged}
 use Rattle.rules.specs.Statements.Plans as N
 use Rattle.rules.specs.Statements.Plans.{Silent, Planned}
 use Rattle.rules.specs.Statements.Cases.{Case, idle, shown, acted, settles, forbidden, configured, cleared, wiped, lent, Cases}
@@ -25,7 +26,7 @@ unfolding exchanged replyBytes over
 silent-only w b n = refl
 
 exchange-case : (w : World) (b r : List ℕ) {p : Plan} → Planned (w .state) b p → Case w (exchange b r) (exchanged w b p)
-exchange-case w b r (N.turned n q) = subst (Case w (exchange b r)) (silent-only w b n) (idle n q)
+exchange-case w b r (N.turned n q) = subst (Case w (exchange b r)) (silent-only w b n) (idle n (record { least = omega (arith, q .least); most = q .most }))
 exchange-case w b r (N.shows q) = shown q
 exchange-case w b r (N.acts k o x e d) = acted k o x e d
 exchange-case w b r (N.forbids a v e f) = forbidden a v e f
@@ -39,3 +40,8 @@ cases w (exchange b r) = pick-ind (Case w (exchange b r)) (shortStores r w) (λ 
 cases w (board k o) = pick-ind (Case w (board k o)) (shortFor k o w) (λ _. idle 10 too-short) (λ e. settles k o _ e (settled k _ _ o))
 cases w (short state c) = idle 10 too-short
 cases w (lend write read) = lent
+
+-- an exchange's plan is carried out where the stores are long enough
+pub exchange-step : (w : World) (b r : List ℕ) → S.step w (exchange b r) ≡ pick (shortStores r w) (only 10 w) (exchanged w b (E.exchange (w .state) b))
+unfolding S.step
+exchange-step w b r = refl

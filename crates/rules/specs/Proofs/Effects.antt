@@ -28,6 +28,7 @@ use Rattle.rules.specs.Proofs.Cases.{cases}
 use Rattle.rules.specs.Proofs.Refusals.{refusals-change-nothing}
 use Rattle.rules.specs.Proofs.Reads.{reads, one-of}
 use Rattle.rules.specs.Proofs.Lift.{put-config, put-each}
+use Rattle.rules.specs.Proofs.Sizes.{on-as}
 use Rattle.rules.specs.Proofs.Becomes.{Becomes}
 use Rattle.rules.specs.Proofs.Peripheral.Effects as P
 use Rattle.rules.specs.Proofs.Wires.Effects as W
@@ -83,10 +84,6 @@ no-edge k {was} {is} p e = edge-row k was is p ∙ ap (λ (t : Bool). switched k
 
 enables : (v : ℕ) → eqb (v % 2) 1 ≡ valueEnables v
 enables v = ap (λ (x : ℕ). eqb x 1) (sym (bit-zero v))
-
-on-as : (k : Channel) (c : Config) → on k c ≡ isEnabled k c
-on-as peripheral c = enables (c .r010 .value)
-on-as wires c = enables (c .r020 .value)
 
 -- a channel's register enables it by the value's bit 0, and no other
 on-written : (k : Channel) (c : Config) (v : ℕ) → on k (writeAt c (registerOf k) v) ≡ valueEnables v

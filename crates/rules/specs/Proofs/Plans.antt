@@ -2,7 +2,6 @@
 use Prim.Native.Nat.{ℕ}
 use mathlib.Core.List.{List}
 use mathlib.Core.Path.{_≡_, refl}
-use native.Mathlib.Omega.{arith}
 use Rattle.base.specs.Pick.{pick-ind}
 use Rattle.registers.specs.Registers.{crcChecked, forbiddenAt}
 use Rattle.registers.specs.declared.Config.{Config}
@@ -44,7 +43,7 @@ module _ (s : State) (b : List ℕ) where
   known-planned C.Reset e = clears e
 
   decoded-planned : (d : Decoded) → admit (channelsOf (s .config)) (crcChecked (s .config .r008)) b ≡ d → Planned s b (byDecoded s b d)
-  decoded-planned (Refused n) e = let t = refused-number _ _ b n e in turned n (record { least = omega (arith, t .0); most = t .1 })
+  decoded-planned (Refused n) e = let t = refused-number _ _ b n e in turned n (record { given = e; least = t .0; most = t .1 })
   decoded-planned (Known o) e = known-planned o e
 
 pub plans : Plans

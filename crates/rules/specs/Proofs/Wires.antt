@@ -3,6 +3,8 @@ pub mod Effects
 pub mod Lawful
 pub mod Shape
 pub mod Sound
+pub mod Rows
+pub mod Status
 use Prim.Native.Nat.{ℕ}
 use mathlib.Core.Bool.{Bool, true, false, not}
 use mathlib.Core.List.{List, [], _∷_}

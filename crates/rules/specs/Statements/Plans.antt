@@ -9,7 +9,7 @@ use Rattle.registers.specs.declared.Config.{Config}
 use Rattle.command.specs.Decode.{admit}
 use Rattle.command.specs.declared.Command as C₀
 use Rattle.command.specs.declared.Command.the-variants as C
-use Rattle.command.specs.declared.Decoded.the-variants.{Known}
+use Rattle.command.specs.declared.Decoded.the-variants.{Known, Refused}
 use Rattle.state.specs.declared.State.{State}
 use Rattle.rules.specs.Rules.Channel.{Channel, peripheral, wires, Part, Command, Act, Board, Change, part, actOf}
 use Rattle.rules.specs.Rules.Lift.{lift, silent, show, nonFatal, acceptThen, quietly}
@@ -50,8 +50,14 @@ pub record Silent (n : ℕ) : Type 0 where
   pub least : 10 ≤ n
   pub most : n ≤ 16
 
+-- the decoder's refusal
+pub record Refuses (s : State) (b : List ℕ) (n : ℕ) : Type 0 where
+  pub given : admit (channelsOf (s .config)) (crcChecked (s .config .r008)) b ≡ Refused n
+  pub least : 12 ≤ n
+  pub most : n ≤ 16
+
 pub data Planned (s : State) (b : List ℕ) : Plan → Type 0 where
-  turned : (n : ℕ) → Silent n → Planned s b (silent n s)
+  turned : (n : ℕ) → Refuses s b n → Planned s b (silent n s)
   shows : {body : Body} → Shows s b body → Planned s b (show body s)
   acts : (k : Channel) (o : Command k) (x : Change k) → Admits s b (commandOf k o) → Did k (s .config) (part k s) (actOf k (s .config) o b) x
       → Planned s b (lift k s x)

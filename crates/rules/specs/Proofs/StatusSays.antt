@@ -1,0 +1,120 @@
+-- Proof of P9: the bits from the rows of P6, the status shown from the plan's law.
+use Prim.Native.Nat.{ℕ, _+_, _-_, _*_, _/_, _%_}
+use mathlib.Core.Bool.{Bool, true, false, true≢false}
+use mathlib.Core.List.{List, [], _∷_, _++_, append-assoc}
+use mathlib.Core.Logic.{_≢_}
+use mathlib.Core.Path.{_≡_, refl, sym, ap, _∙_, subst}
+use native.Mathlib.Omega.{arith}
+use lib.Dec.{eqb}
+use lib.ListN.{length, length-append}
+use lib.Seq.{getD-append-seam, getD-append-add}
+use borrow.Author.Tests.{le-ltb}
+use Rattle.base.specs.Pick.{pick, pick-ind, taken, passed}
+use Rattle.base.specs.Bytes.{low2}
+use Rattle.crc.specs.Crc.{crc}
+use Rattle.state.specs.Status.{status}
+use Rattle.state.specs.declared.State.{State}
+use Rattle.sound.specs.Sound.{Sound}
+use Rattle.rules.specs.Rules.Channel.{Channel, peripheral, wires, Command, nextOf, outOf, put}
+use Rattle.rules.specs.Rules.Lift.{lift, withStatus}
+use Rattle.rules.specs.Rules.Exchange as E
+use Rattle.rules.specs.Rules.Reply.{replyBytes, closed}
+use Rattle.rules.specs.Rules.Step.{World, exchanged, shortStores, only, Outcome, replyLength, writeLength, readLength}
+use Rattle.rules.specs.Statements.Fields.{byte}
+use Rattle.rules.specs.Statements.Sizes.{isOf}
+use Rattle.rules.specs.Statements.Plans as N
+use Rattle.rules.specs.Statements.Plans.{Admits, Planned, commandOf}
+use Rattle.rules.specs.Statements.Shape.{statusShown}
+use Rattle.rules.specs.Statements.Status.{LongEnough}
+use Rattle.rules.specs.Statements.StatusSays.{BitsOf, StatusBits, statusIn, ShowsStatus, StatusSays}
+use Rattle.rules.specs.Proofs.Fields.{one}
+use Rattle.rules.specs.Proofs.Reads.{reads}
+use Rattle.rules.specs.Proofs.Plans.{plans}
+use Rattle.rules.specs.Proofs.Cases.{exchange-step}
+use Rattle.rules.specs.Proofs.FirstApplies.{command-number}
+use Rattle.rules.specs.Proofs.Status.{word-bits, ByRows}
+use Rattle.rules.specs.Proofs.Peripheral.Status as P
+use Rattle.rules.specs.Proofs.Wires.Status as W
+use Rattle.rules.specs.Proofs.Effects.{command-own, above}
+use Rattle.rules.specs.declared.Say.{Say}
+use Rattle.rules.specs.declared.Say.the-variants as Y
+use Rattle.rules.specs.declared.Plan.{Plan}
+
+-- ---- the bits
+
+module _ (w : World) (lent : List ℕ) (sound : Sound (w .state)) (long : LongEnough w lent) where
+  abbrev s : State
+  s = w .state
+
+  enough : shortStores lent w ≡ false
+  enough = rw (le-ltb (length lent) replyLength (long .forReply), le-ltb _ writeLength (long .forWrite), le-ltb _ readLength (long .forRead))
+
+  -- the number is that of the first row
+  by-rows : ByRows w lent
+  unfolding exchanged
+  by-rows b =
+      ap (λ (o : Outcome). o .number) (exchange-step w b lent)
+      ∙ ap (λ (t : Bool). pick t (only 10 w) (exchanged w b (E.exchange s b)) .number) enough ∙ command-number s (sound .isSound) b
+
+  of-channel : (k : Channel) → BitsOf w lent k
+  of-channel peripheral = P.status-bits w lent sound by-rows
+  of-channel wires = W.get-vwire w lent sound by-rows
+
+  status-bits : StatusBits w lent
+  status-bits = record { word = word-bits s .is; ofChannel = of-channel }
+
+-- ---- the status in a reply
+
+-- the two bytes after what stands first
+status-at : (p : List ℕ) (lo hi last : ℕ) (r : List ℕ) → r ≡ (p ++ (lo ∷ hi ∷ [])) ++ (last ∷ []) → statusIn r ≡ lo + 256 * hi
+status-at p lo hi last r e =
+    let f : r ≡ p ++ (lo ∷ hi ∷ last ∷ []) = e ∙ append-assoc p (lo ∷ hi ∷ []) (last ∷ []) in
+    let n : length r ≡ length p + 3 = ap length f ∙ length-append p (lo ∷ hi ∷ last ∷ []) in
+    let at-lo : length r - 3 ≡ length p = omega arith in
+    let at-hi : length r - 2 ≡ length p + 1 = omega arith in
+    let first : byte r (length r - 3) ≡ lo = rw (at-lo, f) (getD-append-seam p lo (hi ∷ last ∷ []) 0) in
+    let second : byte r (length r - 2) ≡ hi = rw (at-hi, f) (getD-append-add p (lo ∷ hi ∷ last ∷ []) 1 0) in
+    omega arith
+
+status-in : (m : List ℕ) (s : State) → statusIn (closed m (status s)) ≡ status s
+unfolding closed
+status-in m s =
+    status-at m (status s % 256) (status s / 256 % 256) (crc (m ++ low2 (status s))) (closed m (status s)) refl ∙ omega (arith, word-bits s .small)
+
+-- a state that is not changed has one status
+shown-same : (op : ℕ) (s : State) → status s ≡ statusShown op s s
+shown-same op s = pick-ind (λ (n : ℕ). status s ≡ n) (eqb op 0x22) (λ _. refl) (λ _. refl)
+
+module _ (s : State) (b store : List ℕ) where
+  abbrev Shown : Plan → Type 0
+  Shown p = replyBytes (p .reply) store ≢ [] → statusIn (replyBytes (p .reply) store) ≡ statusShown (byte b 0) s (p .next)
+
+  -- no channel's command is a SET_CONFIGURATION
+  not-set : (k : Channel) (o : Command k) → Admits s b (commandOf k o) → eqb (byte b 0) 0x22 ≡ false
+  not-set k o e =
+      one (λ (op : ℕ). isOf k op ≡ true → eqb op 0x22 ≡ false) (byte b 0) 0x22 (λ h. absurd (true≢false (sym h ∙ above k .at22))) (λ n _. n)
+      (command-own k s b o e)
+
+  said : (say : Say) (t : State) → replyBytes (withStatus say (status t)) store ≢ [] → statusIn (replyBytes (withStatus say (status t)) store) ≡ status t
+  unfolding replyBytes
+  said Y.Silent t some = absurd (some refl)
+  said (Y.Said response body) t some = status-in _ t
+
+  plan-shows : {p : Plan} → Planned s b p → Shown p
+  unfolding replyBytes lift
+  plan-shows (N.turned n q) some = absurd (some refl)
+  plan-shows (N.shows q) some = status-in _ s ∙ shown-same (byte b 0) s
+  plan-shows (N.acts k o x e d) some = passed _ _ (not-set k o e) (said (outOf k x .say) (put k (nextOf k x) s) some)
+  plan-shows (N.forbids a v e f) some = status-in _ s ∙ shown-same (byte b 0) s
+  plan-shows (N.configures a v e f) some = taken _ _ (ap (λ (op : ℕ). eqb op 0x22) (reads s b _ e .opcode)) (status-in _ s)
+  plan-shows (N.clears e) some = absurd (some refl)
+
+shows-status : (w : World) (reply : List ℕ) → ShowsStatus w reply
+unfolding exchanged
+shows-status w reply b =
+    let Of : Outcome → Type 0 = λ o. o .reply ≢ [] → statusIn (o .reply) ≡ statusShown (byte b 0) (w .state) (o .next .state) in
+    subst Of (sym (exchange-step w b reply))
+    (pick-ind Of (shortStores reply w) {x = only 10 w} (λ _ some. absurd (some refl)) (λ _. plan-shows (w .state) b (w .read) (plans (w .state) b)))
+
+pub status-says : StatusSays
+status-says = record { bits = status-bits; shown = shows-status }

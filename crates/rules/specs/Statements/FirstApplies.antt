@@ -1,0 +1,166 @@
+-- P6. "The first that applies counts" (01, Replies and refusals): for each call a list of rows, in document 01's order and words; the call's
+-- number is that of the first row that applies, and 0 exactly where none does. No row is a test of the engine's definitions. A channel's
+-- own rows are its Rows.
+use Prim.Native.Nat.{ℕ, _%_}
+use mathlib.Core.Bool.{Bool, _&&_, _||_, not}
+use mathlib.Core.List.{List, [], _∷_, _++_}
+use lib.Dec.{eqb, ltb}
+use lib.ListN.{length}
+use Rattle.registers.specs.Registers.{bits}
+use Rattle.registers.specs.declared.Config.{Config}
+use Rattle.state.specs.declared.State.{State}
+use Rattle.layout.specs.Layout.{stateLength, unpacked, holds}
+use Rattle.rules.specs.Rules.Peripheral.{look, answer, takeWrite}
+use Rattle.rules.specs.Rules.Wires.{setWire, readWire}
+use Rattle.rules.specs.Rules.Channel.{Channel, peripheral, wires, Part, Board, part}
+use Rattle.rules.specs.Rules.Calls.{startCall, espiResetCall, platformResetCall, exchangeCall, lookCall, answerCall, takeWriteCall, setWireCall, readWireCall}
+use Rattle.rules.specs.Statements.Fields.{byte, isListed, isReset, registerAt, registerValue, wholeLength, crcRight}
+use Rattle.rules.specs.Statements.Sizes.{isOf, isEnabled}
+use Rattle.rules.specs.Statements.Rows.{Row, row, First}
+use Rattle.rules.specs.Statements.Peripheral.Rows as P
+use Rattle.rules.specs.Statements.Wires.Rows as W
+
+-- ---- by channel
+
+abbrev pub creditRows : (k : Channel) → Part k → List ℕ → List Row
+creditRows peripheral p b = P.creditRows p b
+creditRows wires p b = W.creditRows p b
+
+abbrev pub sizeRows : (k : Channel) → Config → List ℕ → List Row
+sizeRows peripheral c b = P.sizeRows c b
+sizeRows wires c b = W.sizeRows c b
+
+abbrev pub boardRows : (k : Channel) → Part k → Board k → List Row
+boardRows peripheral p o = P.boardRows p o
+boardRows wires p o = W.boardRows o
+
+-- the rows of all channels
+abbrev pub byChannel : ((k : Channel) → List Row) → List Row
+byChannel rows = rows peripheral ++ rows wires
+
+-- ---- 10, 11
+
+-- "a lent store too short"
+abbrev pub tooShort : List ℕ → ℕ → Row
+tooShort store least = row 10 (ltb (length store) least)
+
+-- "bytes that pack no state are 11"
+abbrev pub packsNone : List ℕ → Row
+packsNone st = row 11 (not (holds st))
+
+-- ---- 12 to 16
+
+-- "unknown opcode, or FFh not a RESET"
+abbrev pub unknownOpcode : List ℕ → Bool
+unknownOpcode b = not (isListed (byte b 0)) || (eqb (byte b 0) 0xFF && not (isReset b))
+
+-- "channel disabled"
+abbrev pub disabledRows : Config → List ℕ → List Row
+disabledRows c b = byChannel (λ (k : Channel). row 14 (isOf k (byte b 0) && not (isEnabled k c)) ∷ [])
+
+-- "a missing header byte needed next (12)": the cycle type
+abbrev pub cycleMissing : List ℕ → Bool
+cycleMissing b = (eqb (byte b 0) 0x00 || eqb (byte b 0) 0x02) && ltb (length b) 2
+
+-- "cycle type not listed"
+abbrev pub cycleUnlisted : List ℕ → Bool
+cycleUnlisted b =
+    eqb (byte b 0) 0x00 && not (eqb (byte b 1) 0x01 || eqb (byte b 1) 0x03)
+    || eqb (byte b 0) 0x02 && not (eqb (byte b 1) 0x00 || eqb (byte b 1) 0x02)
+
+-- the length bytes of PUT_PC, the count of PUT_VWIRE
+abbrev pub headerMissing : List ℕ → Bool
+headerMissing b = eqb (byte b 0) 0x00 && ltb (length b) 4 || eqb (byte b 0) 0x04 && ltb (length b) 2
+
+-- "exact length": RESET has none
+abbrev pub lengthWrong : List ℕ → Bool
+lengthWrong b = not (eqb (byte b 0) 0xFF) && not (eqb (length b) (wholeLength b))
+
+-- "CRC wrong while checked": "checked only while register 008h bit 31 is 1"; RESET has none
+abbrev pub crcWrong : Config → List ℕ → Bool
+crcWrong c b = not (eqb (byte b 0) 0xFF) && (eqb (bits 31 31 (c .r008 .value)) 1 && not (crcRight b))
+
+-- "empty (12), 13, 14, a missing header byte needed next (12) or 15, exact length (12), 16"
+abbrev pub formRows : Config → List ℕ → List Row
+formRows c b =
+    row 12 (eqb (length b) 0)
+    ∷ row 13 (unknownOpcode b)
+    ∷ (disabledRows c b
+    ++ (row 12 (cycleMissing b)
+    ∷ row 15 (cycleUnlisted b)
+    ∷ row 12 (headerMissing b)
+    ∷ row 12 (lengthWrong b)
+    ∷ row 16 (crcWrong c b)
+    ∷ []))
+
+-- ---- 2
+
+-- 008h: "bits 27:26 = 11; 22:20 above 100"; 010h: "14:12 = 000; 10:8 = 000 or above 011"; 020h: "21:16 above 7"
+abbrev pub valueForbidden : ℕ → ℕ → Bool
+valueForbidden a v =
+    eqb a 0x008 && (eqb (bits 27 26 v) 3 || ltb 4 (bits 22 20 v))
+    || (eqb a 0x010 && (eqb (bits 14 12 v) 0 || (eqb (bits 10 8 v) 0 || ltb 3 (bits 10 8 v)))
+    || eqb a 0x020 && ltb 7 (bits 21 16 v))
+
+abbrev pub valueRows : List ℕ → List Row
+valueRows b = row 2 (eqb (byte b 0) 0x22 && valueForbidden (registerAt b) (registerValue b)) ∷ []
+
+-- ---- an exchange: "10, 11, empty (12), 13, 14, a missing header byte needed next (12) or 15, exact length (12), 16, credit (1), size (1), 2"
+
+abbrev pub allSizes : Config → List ℕ → List Row
+allSizes c b = byChannel (λ (k : Channel). sizeRows k c b)
+
+-- after the decoder: credit, size, 2
+abbrev pub laterRows : State → List ℕ → List Row
+laterRows s b = byChannel (λ (k : Channel). creditRows k (part k s) b) ++ (allSizes (s .config) b ++ valueRows b)
+
+abbrev pub commandRows : State → List ℕ → List Row
+commandRows s b = formRows (s .config) b ++ laterRows s b
+
+-- "reply at least 263 bytes, write store at least 256, read store at least 4,096"; "an exchange uses all three"
+abbrev pub exchangeRows : (st command reply write read : List ℕ) → List Row
+exchangeRows st command reply write read =
+    tooShort st stateLength ∷ tooShort reply 263 ∷ tooShort write 256 ∷ tooShort read 4096 ∷ packsNone st ∷ commandRows (unpacked st) command
+
+-- ---- the board's calls: "10, 11, then their own from 20 up"
+
+-- "Start takes no state": 10 alone
+abbrev pub startRows : List ℕ → List Row
+startRows st = tooShort st stateLength ∷ []
+
+abbrev pub resetRows : List ℕ → List Row
+resetRows st = tooShort st stateLength ∷ packsNone st ∷ []
+
+-- 11, then the channel's own
+abbrev pub ownRows : (k : Channel) → List ℕ → Board k → List Row
+ownRows k st o = packsNone st ∷ boardRows k (part k (unpacked st)) o
+
+-- a report has 19 bytes, a take's 10; "an answer [uses] the read store, a take the write store"
+abbrev pub lookRows : (st report : List ℕ) → List Row
+lookRows st report = tooShort st stateLength ∷ tooShort report 19 ∷ ownRows peripheral st (look report)
+
+abbrev pub answerRows : (st read : List ℕ) (serial success : ℕ) (bytes : List ℕ) → List Row
+answerRows st read serial success bytes = tooShort st stateLength ∷ tooShort read 4096 ∷ ownRows peripheral st (answer serial success bytes)
+
+abbrev pub takeRows : (st write report : List ℕ) → List Row
+takeRows st write report = tooShort st stateLength ∷ tooShort write 256 ∷ tooShort report 10 ∷ ownRows peripheral st (takeWrite report)
+
+abbrev pub setRows : (st : List ℕ) (index bit value : ℕ) → List Row
+setRows st index bit value = tooShort st stateLength ∷ ownRows wires st (setWire index bit value)
+
+abbrev pub readRows : (st : List ℕ) (index bit : ℕ) → List Row
+readRows st index bit = tooShort st stateLength ∷ ownRows wires st (readWire index bit)
+
+-- ---- the statement; the number is in the word's bits 7:0
+
+pub record FirstApplies : Type 0 where
+  pub exchange : (st command reply write read : List ℕ) → First (exchangeCall st command reply write read .word % 256) (exchangeRows st command reply write read)
+  pub start : (st : List ℕ) → First (startCall st .word % 256) (startRows st)
+  pub espiReset : (st : List ℕ) → First (espiResetCall st .word % 256) (resetRows st)
+  pub platformReset : (st : List ℕ) → First (platformResetCall st .word % 256) (resetRows st)
+  pub look : (st report : List ℕ) → First (lookCall st report .word % 256) (lookRows st report)
+  pub answer : (st read : List ℕ) (serial success : ℕ) (bytes : List ℕ)
+      → First (answerCall st read serial success bytes .word % 256) (answerRows st read serial success bytes)
+  pub takeWrite : (st write report : List ℕ) → First (takeWriteCall st write report .word % 256) (takeRows st write report)
+  pub setWire : (st : List ℕ) (index bit value : ℕ) → First (setWireCall st index bit value .word % 256) (setRows st index bit value)
+  pub readWire : (st : List ℕ) (index bit : ℕ) → First (readWireCall st index bit % 256) (readRows st index bit)

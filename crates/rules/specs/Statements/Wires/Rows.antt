@@ -1,0 +1,40 @@
+-- Channel 1's rows, in document 01's order and words: credit (1), size (1), and its board calls' own (22).
+use Prim.Native.Nat.{ℕ, _+_}
+use mathlib.Core.Bool.{Bool, false, _&&_, _||_, not}
+use mathlib.Core.List.{List, [], _∷_}
+use lib.Dec.{eqb, ltb}
+use lib.ListN.{getD}
+use Rattle.registers.specs.Registers.{bits}
+use Rattle.registers.specs.declared.Config.{Config}
+use Rattle.wires.specs.declared.Wires.{Wires}
+use Rattle.rules.specs.Rules.Wires.{Board, setWire, readWire}
+use Rattle.rules.specs.Statements.Fields.{byte, groups}
+use Rattle.rules.specs.Statements.Rows.{Row, row}
+
+-- the marks of groups 4, 5 and 6; group 2 stands first
+abbrev pub groupPending : Wires → Bool
+groupPending w = getD (w .pending) 2 false || (getD (w .pending) 3 false || getD (w .pending) 4 false)
+
+-- "GET_VWIRE with nothing pending"
+abbrev pub creditRows : Wires → List ℕ → List Row
+creditRows w b = row 1 (eqb (byte b 0) 0x05 && not (groupPending w)) ∷ []
+
+-- "PUT_VWIRE over the operating count is 1"
+abbrev pub sizeRows : Config → List ℕ → List Row
+sizeRows c b = row 1 (eqb (byte b 0) 0x04 && ltb (bits 21 16 (c .r020 .value) + 1) (groups b)) ∷ []
+
+-- the defined bits of the table: 2, 3 and 7 have 7h, 4 has Dh, 5 and 6 have Fh
+abbrev pub wireDefined : ℕ → ℕ → Bool
+wireDefined index bit =
+    (eqb index 2 || (eqb index 3 || eqb index 7)) && ltb bit 3
+    || (eqb index 4 && (eqb bit 0 || (eqb bit 2 || eqb bit 3))
+    || (eqb index 5 || eqb index 6) && ltb bit 4)
+
+-- the board's: a defined bit of 4, 5 or 6
+abbrev pub wireOfBoard : ℕ → ℕ → Bool
+wireOfBoard index bit = (eqb index 4 || (eqb index 5 || eqb index 6)) && wireDefined index bit
+
+-- "set: wire not the board's, or value above 1; read: no such defined wire"
+abbrev pub boardRows : Board → List Row
+boardRows (setWire index bit value) = row 22 (not (wireOfBoard index bit) || ltb 1 value) ∷ []
+boardRows (readWire index bit) = row 22 (not (wireDefined index bit)) ∷ []
