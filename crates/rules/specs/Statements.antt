@@ -5,3 +5,4 @@ pub mod Channels
 pub mod Fields
 pub mod Reads
 pub mod Events
+pub mod Apart
