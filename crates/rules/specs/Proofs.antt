@@ -4,3 +4,8 @@ pub mod Cases
 pub mod Channels
 pub mod Fields
 pub mod Reads
+pub mod Plans
+pub mod Lift
+pub mod Refusals
+pub mod WholeRefusals
+pub mod Both

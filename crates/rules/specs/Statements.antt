@@ -5,4 +5,7 @@ pub mod Channels
 pub mod Fields
 pub mod Reads
 pub mod Events
+pub mod Plans
+pub mod Refusals
+pub mod Both
 pub mod Apart
