@@ -9,3 +9,7 @@ pub mod Lift
 pub mod Refusals
 pub mod WholeRefusals
 pub mod Both
+pub mod Reply
+pub mod PeripheralApart
+pub mod WiresApart
+pub mod Apart

@@ -13,7 +13,6 @@ use Rattle.command.specs.declared.Command.the-variants as C
 use Rattle.command.specs.declared.Decoded.{Decoded}
 use Rattle.command.specs.declared.Decoded.the-variants.{Known, Refused}
 use Rattle.rules.specs.Rules.Channel.{peripheral, wires}
-use Rattle.rules.specs.Rules.Lift.{silent}
 use Rattle.rules.specs.Rules.Reply.{replyBytes}
 use Rattle.rules.specs.Rules.Exchange as E
 use Rattle.rules.specs.Rules.Exchange.{channelsOf, byDecoded}

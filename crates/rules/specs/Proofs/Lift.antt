@@ -1,9 +1,12 @@
 -- A change put back: what `lift` and `put` do, whatever the channel.
-use mathlib.Core.Bool.{Bool, true, false, true≢false}
+use Prim.Native.Nat.{ℕ, zero, suc}
+use mathlib.Core.Bool.{true}
 use mathlib.Core.Path.{_≡_, refl, sym, ap, _∙_}
+use borrow.Author.Tests.{eq-eqb, eqb-true}
+use Rattle.registers.specs.declared.Config.{Config}
 use Rattle.state.specs.Status.{status}
 use Rattle.state.specs.declared.State.{State}
-use Rattle.rules.specs.Rules.Channel.{Channel, peripheral, wires, Part, Change, change, part, put, same}
+use Rattle.rules.specs.Rules.Channel.{Channel, peripheral, wires, Part, change, part, put, each, channelNumber, same}
 use Rattle.rules.specs.Rules.Lift.{lift, withStatus}
 use Rattle.rules.specs.declared.Out.{Out}
 use Rattle.rules.specs.declared.Plan.{Plan}
@@ -28,3 +31,31 @@ lift-stays k s out = lift-change k s (part k s) out ∙ ap (λ (t : State). plan
 pub put-config : (k : Channel) (q : Part k) (s : State) → put k q s .config ≡ s .config
 put-config peripheral q s = refl
 put-config wires q s = refl
+
+-- the one place where two channels meet: the parts of two states, one channel's replaced in both, stay related if the new ones are
+pub put-both : (Q : (y : Channel) → Part y → Part y → Type 0) (k : Channel) (p q : Part k) (s t : State)
+    → Q k p q → ((y : Channel) → Q y (part y s) (part y t)) → (y : Channel) → Q y (part y (put k p s)) (part y (put k q t))
+put-both Q peripheral p q s t h g peripheral = h
+put-both Q peripheral p q s t h g wires = g wires
+put-both Q wires p q s t h g peripheral = g peripheral
+put-both Q wires p q s t h g wires = h
+
+pub part-each : (f : (k : Channel) → Part k → Part k) (c : Config) (s : State) (k : Channel) → part k (each f c s) ≡ f k (part k s)
+part-each f c s peripheral = refl
+part-each f c s wires = refl
+
+-- ---- which channel: told by its number
+
+abbrev channelAt : ℕ → Channel
+channelAt zero = peripheral
+channelAt (suc n) = wires
+
+number-back : (x : Channel) → channelAt (channelNumber x) ≡ x
+number-back peripheral = refl
+number-back wires = refl
+
+pub same-self : (x : Channel) → same x x ≡ true
+same-self x = eq-eqb (channelNumber x) (channelNumber x) refl
+
+pub same-is : (x y : Channel) → same x y ≡ true → y ≡ x
+same-is x y e = sym (number-back y) ∙ ap channelAt (sym (eqb-true (channelNumber x) (channelNumber y) e)) ∙ number-back x

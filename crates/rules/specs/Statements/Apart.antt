@@ -8,6 +8,7 @@ use mathlib.Core.Path.{_≡_}
 use lib.Dec.{eqb}
 use lib.ListN.{getD, length, take}
 use Rattle.base.specs.Pick.{pick}
+use Rattle.state.specs.declared.State.{State}
 use Rattle.rules.specs.Rules.Channel.{Channel, peripheral, wires, part, same}
 use Rattle.rules.specs.Rules.Step.{World, Call, reset, exchange, board, short, lend, Outcome, step, run, shortStores}
 use Rattle.rules.specs.Statements.Fields.{isChannel0, isChannel1}
@@ -76,10 +77,13 @@ pub record RunsAlike (x : Channel) (Same : World → World → Type 0) (w v : Wo
 
 -- ---- the statement
 
+pub record StatesAlike (x : Channel) (s t : State) : Type 0 where
+  pub config : s .config ≡ t .config
+  pub parts : (y : Channel) → same x y ≡ false → part y s ≡ part y t
+
 -- alike but for x. Of x's own stores only this is asked: they are long enough for an exchange (10) in both worlds, or in neither
 pub record Alike (x : Channel) (w v : World) : Type 0 where
-  pub config : w .state .config ≡ v .state .config
-  pub parts : (y : Channel) → same x y ≡ false → part y (w .state) ≡ part y (v .state)
+  pub state : StatesAlike x (w .state) (v .state)
   pub stores : (y : Channel) → same x y ≡ false → storesOf y (w .write) (w .read) ≡ storesOf y (v .write) (v .read)
   pub room : (reply : List ℕ) → shortStores reply w ≡ shortStores reply v
 
