@@ -13,3 +13,11 @@ pub mod Reply
 pub mod PeripheralApart
 pub mod WiresApart
 pub mod Apart
+pub mod Shape
+pub mod SoundBytes
+pub mod SoundPeripheral
+pub mod SoundWires
+pub mod SoundParts
+pub mod Sound
+pub mod SoundRegisters
+pub mod SoundMeans

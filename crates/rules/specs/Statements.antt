@@ -9,3 +9,6 @@ pub mod Plans
 pub mod Refusals
 pub mod Both
 pub mod Apart
+pub mod Shape
+pub mod Sound
+pub mod SoundMeans
