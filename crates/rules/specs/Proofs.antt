@@ -10,8 +10,6 @@ pub mod Refusals
 pub mod WholeRefusals
 pub mod Both
 pub mod Reply
-pub mod PeripheralApart
-pub mod WiresApart
 pub mod Apart
 pub mod Shape
 pub mod SoundBytes

@@ -38,8 +38,8 @@ use Rattle.rules.specs.Statements.Both.{Both, SameRoom}
 use Rattle.rules.specs.Statements.Apart.{isOpcodeOf, storesOf, clear, isCommandOf, isOf, others, replyBut, Seen, seen, seeing, RunsAlike, StatesAlike, Alike, NoneTells, SameButWires, WiresApart, SameButPeripheral, PeripheralApart}
 use Rattle.rules.specs.Proofs.Plans as Q
 use Rattle.rules.specs.Proofs.Channels as L₁
-use Rattle.rules.specs.Proofs.PeripheralApart as P₁
-use Rattle.rules.specs.Proofs.WiresApart as W₁
+use Rattle.rules.specs.Proofs.Peripheral.Apart as P₁
+use Rattle.rules.specs.Proofs.Wires.Apart as W₁
 use Rattle.rules.specs.Proofs.Both.{both}
 use Rattle.rules.specs.Proofs.Lift.{lift-change, put-same, put-config, put-both, part-each, same-self, same-is, planned}
 use Rattle.rules.specs.Proofs.Reads.{one-of, reads}

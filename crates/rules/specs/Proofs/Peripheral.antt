@@ -1,4 +1,5 @@
 -- Channel 0's law: the one file that unfolds its decisions.
+pub mod Apart
 use Prim.Native.Nat.{ℕ}
 use mathlib.Core.Bool.{Bool, true, false, _&&_, not}
 use mathlib.Core.List.{List, [], _∷_}
