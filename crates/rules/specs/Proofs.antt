@@ -4,3 +4,6 @@ pub mod Cases
 pub mod Channels
 pub mod Fields
 pub mod Reads
+pub mod Events
+pub mod Others
+pub mod View

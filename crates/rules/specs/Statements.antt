@@ -5,3 +5,5 @@ pub mod Channels
 pub mod Fields
 pub mod Reads
 pub mod Events
+pub mod Requests
+pub mod View

@@ -11,7 +11,7 @@ use Rattle.command.specs.declared.Access.{Access}
 use Rattle.command.specs.declared.Access.the-variants.{IoRead, IoWrite, MemoryRead, MemoryWrite}
 use Rattle.command.specs.declared.Opcode.{Opcode}
 use Rattle.command.specs.declared.Opcode.the-variants as O
-use Rattle.rules.specs.Statements.Fields.{isListed, isPosted, isNonPosted}
+use Rattle.rules.specs.Statements.Fields.{shortAt, isListed}
 
 pub one : (Q : ℕ → Type 0) (op k : ℕ) → Q k → (eqb op k ≡ false → Q op) → Q op
 one Q op k q else = go (eqb op k) refl
@@ -19,6 +19,11 @@ one Q op k q else = go (eqb op k) refl
     go : (t : Bool) → eqb op k ≡ t → Q op
     go true e = subst Q (sym (eqb-true op k e)) q
     go false e = else e
+
+-- a short opcode is one of three
+pub by-short : (Q : ℕ → Type 0) (base op : ℕ) → Q base → Q (base + 1) → Q (base + 3) → shortAt base op ≡ true → Q op
+by-short Q base op a b c h =
+    one Q op base a λ e. one Q op (base + 1) b λ f. one Q op (base + 3) c λ g. absurd (true≢false (sym h ∙ rw (e, f, g)))
 
 -- four values from a multiple of 4 on, without three of them
 no-short : (a : Access) (op q : ℕ) (rest : Opcode) → eqb op (4 * q) ≡ false → eqb op (4 * q + 1) ≡ false → eqb op (4 * q + 3) ≡ false
