@@ -7,3 +7,5 @@ pub mod Reads
 pub mod Events
 pub mod Others
 pub mod View
+pub mod Requests
+pub mod AfterEnd

@@ -7,3 +7,4 @@ pub mod Reads
 pub mod Events
 pub mod Requests
 pub mod View
+pub mod Demand3

@@ -65,6 +65,14 @@ isAsk gets = false
 isAsk ends = false
 isAsk lends = false
 
+abbrev pub isEnd : Event → Bool
+isEnd idle = false
+isEnd asks = false
+isEnd tells = false
+isEnd gets = false
+isEnd ends = true
+isEnd lends = false
+
 abbrev pub startsAll : Reset → Bool
 startsAll start = true
 startsAll espiReset = false
@@ -76,6 +84,10 @@ isStart (exchange command reply) = false
 isStart (board k o) = false
 isStart (short state c) = false
 isStart (lend write read) = false
+
+-- the device's answer
+abbrev pub answersWith : (serial success : ℕ) → List ℕ → Call
+answersWith serial success d = board peripheral (P.answer serial success d)
 
 -- ---- runs
 

@@ -14,12 +14,12 @@ use Rattle.state.specs.declared.Completion.{Completion}
 use Rattle.state.specs.declared.Np.{Np}
 use Rattle.state.specs.declared.Np.the-variants.{Free, Waiting, Ready, Failed}
 use Rattle.state.specs.declared.Request.{Request}
-use Rattle.rules.specs.Rules.Peripheral.{nextSerial, succeeded, bytesFor, answer}
+use Rattle.rules.specs.Rules.Peripheral.{nextSerial, succeeded, bytesFor}
 use Rattle.rules.specs.Rules.Channel.{peripheral}
 use Rattle.rules.specs.Rules.Reply.{closed, headerBytes, dataBytes}
 use Rattle.rules.specs.Rules.Step.{World, Call, exchange, board, lend, Outcome, step}
 use Rattle.rules.specs.Statements.Reads.{requestIn}
-use Rattle.rules.specs.Statements.Requests.{Event, idle, asks, tells, gets, ends, lends, event, isStart, held, serialOf, showsBit}
+use Rattle.rules.specs.Statements.Requests.{Event, idle, asks, tells, gets, ends, lends, event, isStart, answersWith, held, serialOf, showsBit}
 
 -- the status of a held request: bit 1, NP_FREE, and bit 4, PC_AVAIL
 pub record Shown (n : Np) (reply : List ℕ) : Type 0 where
@@ -36,7 +36,7 @@ pub data Move (w : World) (c : Call) (o : Outcome) : Event → Type 0 where
   asked : (b r : List ℕ) → c ≡ exchange b r → held w ≡ Free → held (o .next) ≡ Waiting (requestIn (w .state .config) b)
       → serialOf (o .next) ≡ nextSerial (serialOf w) → o .next .read ≡ w .read
       → o .reply ≡ closed (0x01 ∷ []) (status (o .next .state)) → Shown (held (o .next)) (o .reply) → Move w c o asks
-  told : (q : Request) (serial success : ℕ) (d : List ℕ) → c ≡ board peripheral (answer serial success d) → held w ≡ Waiting q → serial ≡ serialOf w
+  told : (q : Request) (serial success : ℕ) (d : List ℕ) → c ≡ answersWith serial success d → held w ≡ Waiting q → serial ≡ serialOf w
       → length d ≡ bytesFor q (succeeded success) → held (o .next) ≡ answeredAs q (succeeded success)
       → serialOf (o .next) ≡ serialOf w → o .next .read ≡ over d (w .read) → o .reply ≡ [] → Move w c o tells
   sent : (k : Completion) (ks : List Completion) → upward (held w) ≡ k ∷ ks → held (o .next) ≡ handed (held w)
