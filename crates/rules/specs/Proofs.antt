@@ -9,3 +9,4 @@ pub mod Others
 pub mod View
 pub mod Requests
 pub mod AfterEnd
+pub mod Owed

@@ -9,6 +9,7 @@ use lib.Dec.{ltb}
 use lib.ListN.{length}
 use borrow.Author.Tests.{eqb-true, ltb-true}
 use Rattle.base.specs.Pick.{and-left, and-right}
+use Rattle.state.specs.Fresh as F
 use Rattle.state.specs.Status.{bit, pcAvail, some}
 use Rattle.state.specs.Upward.{upward}
 use Rattle.state.specs.declared.Np.{Np}
@@ -24,8 +25,11 @@ use Rattle.rules.specs.Proofs.View.{view, view-as}
 
 -- ---- the event itself: nothing is held after it
 
+pub dropped-free : {p : Peripheral} {serial : ℕ} → p ≡ F.idle serial → p .request ≡ Free
+dropped-free e = ap (λ (p : Peripheral). p .request) e
+
 pub end-free : {w : World} {c : Call} {o : Outcome} → Move w c o ends → held (o .next) ≡ Free
-end-free (dropped a d x) = ap (λ (p : Peripheral). p .request) a
+end-free (dropped a d x) = dropped-free a
 
 -- ---- what a run's tail has, the run has
 
@@ -58,7 +62,7 @@ module _ (w : World) (c : Call) (cs : List Call) (s : Story (step w c .next) cs)
   free-story k e h (told q n t d f a b l m x r y) = absurd (true≢false (cc))
   free-story k e h (sent p ps u a b d r x) = absurd (true≢false (cc))
   free-story k e h (lent write read f a b d x) = asked-later (s .fromFree (a ∙ h))
-  free-story k e h (dropped a d x) = asked-later (s .fromFree (ap (λ (p : Peripheral). p .request) a))
+  free-story k e h (dropped a d x) = asked-later (s .fromFree (dropped-free a))
 
   still : (n : ℕ) → serialOf (step w c .next) ≡ n → ToldIn (serialOf (step w c .next)) (step w c .next) cs ⊎ AskedIn (step w c .next) cs → ToldIn n w (c ∷ cs) ⊎ AskedIn w (c ∷ cs)
   still n e (inl t) = inl (told-later (rw e at t))
@@ -73,7 +77,7 @@ module _ (w : World) (c : Call) (cs : List Call) (s : Story (step w c .next) cs)
       inl (record { ys = []; success = t; bytes = d; zs = cs; split = ap (λ (x : Call). x ∷ cs) named; accepted = ap (event w) (sym named) ∙ e })
   waiting-story k e q h (sent p ps u a b d r x) = absurd (true≢false (cc))
   waiting-story k e q h (lent write read f a b d x) = still _ b (s .fromWaiting q (a ∙ h))
-  waiting-story k e q h (dropped a d x) = inr (asked-later (s .fromFree (ap (λ (p : Peripheral). p .request) a)))
+  waiting-story k e q h (dropped a d x) = inr (asked-later (s .fromFree (dropped-free a)))
 
 not-ready : (n : Np) → pcAvail n ≡ true → n ≡ Free → ⊥
 unfolding upward

@@ -16,8 +16,8 @@ use Rattle.command.specs.declared.Decoded.{Decoded}
 use Rattle.command.specs.declared.Decoded.the-variants.{Known, Refused}
 use Rattle.state.specs.declared.State.{State}
 use Rattle.rules.specs.Rules.Channel as N
-use Rattle.rules.specs.Rules.Channel.{Channel, peripheral, wires, Part, Act, Board, acting}
-use Rattle.rules.specs.Rules.Lift.{silent}
+use Rattle.rules.specs.Rules.Channel.{Channel, peripheral, wires, Part, Command, Act, Board, part, actOf, acting}
+use Rattle.rules.specs.Rules.Lift.{lift, silent}
 use Rattle.rules.specs.Rules.Reply.{replyBytes}
 use Rattle.rules.specs.Rules.Exchange as E
 use Rattle.rules.specs.Rules.Exchange.{channelsOf, byDecoded}
@@ -25,7 +25,7 @@ use Rattle.rules.specs.Rules.Step as S
 use Rattle.rules.specs.Rules.Step.{World, Call, Outcome, exchange, board, reset, short, lend, only, shortStores, shortFor, exchanged}
 use Rattle.rules.specs.Proofs.Peripheral as P
 use Rattle.rules.specs.Proofs.Wires as W
-use Rattle.rules.specs.Statements.Cases.{Did, Settled, Admits, Silent, Case, idle, shown, status, register, acted, settles, forbidden, configured, cleared, wiped, lent, Cases}
+use Rattle.rules.specs.Statements.Cases.{Did, Settled, commandOf, Admits, Silent, Case, idle, shown, status, register, acted, settles, forbidden, configured, cleared, wiped, lent, Cases}
 use Rattle.rules.specs.declared.Plan.{Plan}
 
 pub did : (k : Channel) (c : Config) (p : Part k) (a : Act k) → Did k c p a (acting k c p a)
@@ -76,3 +76,16 @@ cases w (exchange b r) = pick-ind (Case w (exchange b r)) (shortStores r w) (λ 
 cases w (board k o) = pick-ind (Case w (board k o)) (shortFor k o w) (λ _. idle 10 too-short) (λ e. settles k o _ e (settled k _ _ o))
 cases w (short state c) = idle 10 too-short
 cases w (lend write read) = lent
+
+-- ---- with long enough slices: an admitted command of a channel, and a call of the board, are carried out
+
+pub exchange-carried : (k : Channel) (w : World) (b r : List ℕ) (o : Command k) → shortStores r w ≡ false → Admits (w .state) b (commandOf k o)
+    → S.step w (exchange b r) ≡ exchanged w b (lift k (w .state) (acting k (w .state .config) (part k (w .state)) (actOf k (w .state .config) o b)))
+unfolding S.step E.exchange E.decide
+exchange-carried peripheral w b r o l e = rw (l, e)
+exchange-carried wires w b r o l e = rw (l, e)
+
+pub board-carried : (k : Channel) (w : World) (o : Board k) → shortFor k o w ≡ false
+    → S.step w (board k o) ≡ S.settled k w o (lift k (w .state) (N.settle k (w .state .config) (part k (w .state)) o))
+unfolding S.step
+board-carried k w o l = rw l
