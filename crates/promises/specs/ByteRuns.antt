@@ -1,8 +1,13 @@
 -- The nine calls on the bytes that a caller in C keeps, and runs of them: each call gets the state bytes and the stores that the last one left.
 use Prim.Native.Nat.{ℕ}
 use mathlib.Core.List.{List, [], _∷_}
-use Rattle.rules.specs.Step.{Call, start, espiReset, platformReset, exchange, look, answer, takeWrite, setWire, readWire, lend}
-use Rattle.rules.specs.Calls.{Done, Exchanged, Stored, Looked, startCall, espiResetCall, platformResetCall, exchangeCall, lookCall, answerCall, takeWriteCall, setWireCall, readWireCall}
+use Rattle.rules.specs.Rules.Reset as R
+use Rattle.rules.specs.Rules.Reset.{Reset}
+use Rattle.rules.specs.Rules.Peripheral as P
+use Rattle.rules.specs.Rules.Wires as W
+use Rattle.rules.specs.Rules.Channel.{Channel, peripheral, wires, Board}
+use Rattle.rules.specs.Rules.Step.{Call, reset, exchange, board, short, lend}
+use Rattle.rules.specs.Rules.Calls.{Done, Exchanged, Stored, Looked, startCall, espiResetCall, platformResetCall, exchangeCall, lookCall, answerCall, takeWriteCall, setWireCall, readWireCall}
 
 pub record ByteWorld : Type 0 where
   pub state : List ℕ
@@ -35,16 +40,38 @@ afterTake v x = record { word = x .word; reply = []; report = x .store; next = r
 abbrev pub afterWord : ByteWorld → ℕ → ByteOutcome
 afterWord v word = record { word = word; reply = []; report = []; next = v }
 
+-- the board's calls, channel by channel
+abbrev pub peripheralBytes : ByteWorld → P.Board → ByteOutcome
+peripheralBytes v (P.look report) = afterLook v (lookCall (v .state) report)
+peripheralBytes v (P.answer serial success bytes) = afterAnswer v (answerCall (v .state) (v .read) serial success bytes)
+peripheralBytes v (P.takeWrite report) = afterTake v (takeWriteCall (v .state) (v .write) report)
+
+abbrev pub wiresBytes : ByteWorld → W.Board → ByteOutcome
+wiresBytes v (W.setWire index bit value) = afterState v (setWireCall (v .state) index bit value)
+wiresBytes v (W.readWire index bit) = afterWord v (readWireCall (v .state) index bit)
+
+abbrev pub boardBytes : (k : Channel) → ByteWorld → Board k → ByteOutcome
+boardBytes peripheral v o = peripheralBytes v o
+boardBytes wires v o = wiresBytes v o
+
+abbrev pub resetBytes : Reset → List ℕ → Done
+resetBytes R.start st = startCall st
+resetBytes R.espiReset st = espiResetCall st
+resetBytes R.platformReset st = platformResetCall st
+
+-- these state bytes were lent instead
+abbrev pub lent : ByteWorld → List ℕ → ByteWorld
+lent v st = record { state = st; write = v .write; read = v .read }
+
+-- and the caller's own are as they were
+abbrev pub back : ByteWorld → ByteOutcome → ByteOutcome
+back v x = record { word = x .word; reply = x .reply; report = x .report; next = record { state = v .state; write = x .next .write; read = x .next .read } }
+
 unfoldable pub byteStep : ByteWorld → Call → ByteOutcome
-byteStep v start = afterState v (startCall (v .state))
-byteStep v espiReset = afterState v (espiResetCall (v .state))
-byteStep v platformReset = afterState v (platformResetCall (v .state))
+byteStep v (reset r) = afterState v (resetBytes r (v .state))
 byteStep v (exchange command reply) = afterExchange v (exchangeCall (v .state) command reply (v .write) (v .read))
-byteStep v (look report) = afterLook v (lookCall (v .state) report)
-byteStep v (answer serial success bytes) = afterAnswer v (answerCall (v .state) (v .read) serial success bytes)
-byteStep v (takeWrite report) = afterTake v (takeWriteCall (v .state) (v .write) report)
-byteStep v (setWire index bit value) = afterState v (setWireCall (v .state) index bit value)
-byteStep v (readWire index bit) = afterWord v (readWireCall (v .state) index bit)
+byteStep v (board k o) = boardBytes k v o
+byteStep v (short state c) = back v (byteStep (lent v state) c)
 byteStep v (lend write read) = afterWord (record { state = v .state; write = write; read = read }) 0
 
 unfoldable pub byteRun : ByteWorld → List Call → ByteWorld

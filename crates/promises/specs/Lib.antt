@@ -2,7 +2,3 @@ pub mod ByteRuns
 pub mod Lifted
 pub mod LiftedProof
 pub mod Coincide
-pub mod Words
-pub mod Promises
-pub mod Bridge
-pub mod PromisesProof

@@ -7,9 +7,12 @@ use lib.ListN.{length, take}
 use Rattle.base.specs.Bytes.{over}
 use Rattle.state.specs.Fresh.{freshState}
 use Rattle.layout.specs.Layout.{stateLength, unpacked, holds}
-use Rattle.rules.specs.Step.{World, Call, start, espiReset, platformReset, exchange, look, answer, takeWrite, setWire, readWire, lend, Outcome, step, run, handedOver, allHanded}
-use Rattle.rules.specs.Calls.{word}
-use Rattle.rules.specs.Refusals.{numberOf}
+use Rattle.rules.specs.Rules.Reset.{start}
+use Rattle.rules.specs.Rules.Peripheral as P
+use Rattle.rules.specs.Rules.Channel.{Channel, peripheral, wires, Board}
+use Rattle.rules.specs.Rules.Step.{World, Call, reset, exchange, board, short, lend, Outcome, step, run, handedOver, allHanded}
+use Rattle.rules.specs.Rules.Calls.{word}
+use Rattle.rules.specs.Statements.Refusals.{numberOf}
 use Rattle.promises.specs.ByteRuns.{ByteWorld, ByteOutcome, byteStep, byteRun}
 
 -- long enough, and bytes of a sound state (`holds-sound`, `exactly` of Packing say what a pass means)
@@ -22,27 +25,26 @@ abbrev pub worldOf : ByteWorld → World
 worldOf v = record { state = unpacked (v .state); write = v .write; read = v .read }
 
 abbrev pub lentReply : Call → List ℕ
-lentReply start = []
-lentReply espiReset = []
-lentReply platformReset = []
+lentReply (reset r) = []
 lentReply (exchange command reply) = reply
-lentReply (look report) = []
-lentReply (answer serial success bytes) = []
-lentReply (takeWrite report) = []
-lentReply (setWire index bit value) = []
-lentReply (readWire index bit) = []
+lentReply (board k o) = []
+lentReply (short state c) = lentReply c
 lentReply (lend write read) = []
 
+abbrev pub peripheralReport : P.Board → List ℕ
+peripheralReport (P.look report) = report
+peripheralReport (P.answer serial success bytes) = []
+peripheralReport (P.takeWrite report) = report
+
+abbrev pub boardReport : (k : Channel) → Board k → List ℕ
+boardReport peripheral o = peripheralReport o
+boardReport wires o = []
+
 abbrev pub lentReport : Call → List ℕ
-lentReport start = []
-lentReport espiReset = []
-lentReport platformReset = []
+lentReport (reset r) = []
 lentReport (exchange command reply) = []
-lentReport (look report) = report
-lentReport (answer serial success bytes) = []
-lentReport (takeWrite report) = report
-lentReport (setWire index bit value) = []
-lentReport (readWire index bit) = []
+lentReport (board k o) = boardReport k o
+lentReport (short state c) = lentReport c
 lentReport (lend write read) = []
 
 -- a word's bits 31:8
@@ -73,8 +75,8 @@ pub record RunHolds (v : ByteWorld) (cs : List Call) : Type 0 where
 
 -- start takes no state: any bytes, if there are enough of them
 pub record Starts (v : ByteWorld) : Type 0 where
-  pub agrees : Agrees v start
-  pub fresh : unpacked (byteStep v start .next .state) ≡ freshState
+  pub agrees : Agrees v (reset start)
+  pub fresh : unpacked (byteStep v (reset start) .next .state) ≡ freshState
 
 -- `handedOver`: a command's bytes are below 256
 pub record Lifted : Type 0 where

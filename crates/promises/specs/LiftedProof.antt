@@ -1,6 +1,6 @@
 -- The lifting proved: one law a call, then runs by induction.
 use Prim.Native.Nat.{ℕ, zero, suc, _%_, _≤_}
-use mathlib.Core.Bool.{Bool, true, false, _||_, not}
+use mathlib.Core.Bool.{Bool, true, false, _||_, not, true≢false}
 use mathlib.Core.List.{List, [], _∷_}
 use mathlib.Core.Path.{_≡_, refl, sym, ap, _∙_, subst}
 use native.Mathlib.Omega.{arith}
@@ -10,30 +10,35 @@ use borrow.Author.Tests.{le-ltb, ltb-true}
 use Rattle.base.specs.Pick.{pick, and-left, and-right}
 use Rattle.base.specs.Bytes.{over, over-none, take-over, length-over}
 use Rattle.wires.specs.Groups.{definedBit}
+use Rattle.state.specs.Fresh.{freshState}
 use Rattle.state.specs.declared.Np.{Np}
 use Rattle.state.specs.declared.Np.the-variants.{Free, Waiting, Ready, Failed}
-use Rattle.state.specs.declared.Write.{Write}
-use Rattle.state.specs.declared.Write.the-variants.{Empty, Held}
 use Rattle.state.specs.declared.State.{State}
 use Rattle.sound.specs.Sound.{Sound}
 use Rattle.layout.specs.Layout.{stateLength, packed, unpacked, holds}
 use Rattle.layout.specs.Packing.{packed-length, unpacked-over, holds-packed, holds-sound}
-use Rattle.rules.specs.Decide as D
-use Rattle.rules.specs.Board as B
-use Rattle.rules.specs.declared.Answer.the-variants.{Silent}
+use Rattle.rules.specs.Rules.Reset as R
+use Rattle.rules.specs.Rules.Reset.{Reset}
+use Rattle.rules.specs.Rules.Peripheral as P
+use Rattle.rules.specs.Rules.Wires as W
+use Rattle.rules.specs.Rules.Channel.{Channel, peripheral, wires, Board, part, reportOf}
+use Rattle.rules.specs.Rules.Lift as L
+use Rattle.rules.specs.Rules.Exchange as E
+use Rattle.rules.specs.Rules.Reply.{replyBytes, keptBytes}
+use Rattle.rules.specs.Rules.Step as S
+use Rattle.rules.specs.Rules.Step.{World, Call, Outcome, step, run, handedOver, allHanded, ofEngine}
+use Rattle.rules.specs.Rules.Calls as X
+use Rattle.rules.specs.Rules.Calls.{word, kept, Done, Exchanged, Stored, Looked}
+use Rattle.rules.specs.Proofs.Peripheral.{look-is}
+use Rattle.rules.specs.Proofs.Wires.{read-is}
+use Rattle.rules.specs.Proofs.Sound.{exchange-sound, board-sound, reset-sound, fresh-sound}
+use Rattle.rules.specs.Proofs.Refusals.{SettledAs, exchange-turned, board-settled}
+use Rattle.rules.specs.Proofs.WholeRefusals.{number-word, planned-small}
 use Rattle.rules.specs.declared.Kept.{Kept}
 use Rattle.rules.specs.declared.Kept.the-variants as K
 use Rattle.rules.specs.declared.Plan.{Plan}
-use Rattle.rules.specs.Reply.{replyBytes, keptBytes}
-use Rattle.rules.specs.Step as S
-use Rattle.rules.specs.Step.{World, Call, Outcome, step, run, handedOver, allHanded, succeeded}
-use Rattle.rules.specs.Calls as X
-use Rattle.rules.specs.Calls.{word, kept, Exchanged, Stored, Looked}
-use Rattle.rules.specs.KeptProof.{exchange-sound, answer-sound, take-sound, set-sound, espi-reset-sound, platform-reset-sound, fresh-sound}
-use Rattle.rules.specs.RefusalsProof.{SettledAs, exchange-planned, answer-settled, set-settled}
-use Rattle.rules.specs.WholeRefusalsProof.{number-word, planned-small}
-use Rattle.promises.specs.ByteRuns.{ByteWorld, ByteOutcome, afterState, afterExchange, afterLook, afterAnswer, afterTake, byteStep, byteRun}
-use Rattle.promises.specs.Lifted.{Holding, worldOf, valueOf, Meets, Agrees, RunHolds, Starts, Lifted}
+use Rattle.promises.specs.ByteRuns.{ByteWorld, ByteOutcome, afterState, afterExchange, afterLook, afterAnswer, afterTake, peripheralBytes, wiresBytes, boardBytes, resetBytes, lent, byteStep, byteRun}
+use Rattle.promises.specs.Lifted.{Holding, worldOf, valueOf, lentReply, lentReport, Meets, Agrees, RunHolds, Starts, Lifted}
 
 -- ---- two chains of the same guards
 
@@ -100,24 +105,18 @@ settled-small (suc (suc (suc n))) s p h = h .1
 -- a board call's plan or a reset carried out on bytes: no reply, the value 0
 board : (st : List ℕ) → stateLength ≤ length st → (write read form report : List ℕ) (n : ℕ) (s : State) → ltb n 256 ≡ true → Sound s
     → Meets [] form (record { word = n; reply = []; report = over report form; next = record { state = kept s st; write = write; read = read } })
-    (record { number = n; value = 0; answer = Silent; reply = []; report = report; next = record { state = s; write = write; read = read } })
+    (record { number = n; value = 0; reply = []; report = report; next = record { state = s; write = write; read = read } })
 board st long write read form report n s small good =
     meets (plain n) small (sym (over-none [])) refl refl (world-after st write read s good) (held-after st write read s long good)
 
 -- a plan without data leaves the read store
-settled-as : (w : World) (report : List ℕ) (p : Plan)
-    → S.settled w [] report p
-    ≡ record { number = p .number; value = 0; answer = Silent; reply = []; report = report; next = record { state = p .next; write = w .write; read = w .read } }
-unfolding S.settled over
-settled-as w report p = rw (none (p .kept))
-  where
-    none : (k : Kept) → keptBytes k [] ≡ []
-    none K.Nothing = refl
-    none (K.Data at n) = ap (take n) (drop-none at) ∙ no-bytes n
+none-kept : (k : Kept) (l : List ℕ) → over (keptBytes k []) l ≡ l
+none-kept K.Nothing l = over-none l
+none-kept (K.Data at n) l = ap (λ (x : List ℕ). over x l) (ap (take n) (drop-none at) ∙ no-bytes n) ∙ over-none l
 
-start-lifts : (v : ByteWorld) → stateLength ≤ length (v .state) → Agrees v S.start
+start-lifts : (v : ByteWorld) → stateLength ≤ length (v .state) → Agrees v (S.reset R.start)
 unfolding byteStep step X.startCall over
-start-lifts v long = rw (le-ltb _ _ long) (board (v .state) long (v .write) (v .read) [] [] 0 B.started refl fresh-sound)
+start-lifts v long = rw (le-ltb _ _ long) (board (v .state) long (v .write) (v .read) [] [] 0 freshState refl fresh-sound)
 
 -- ---- one call
 
@@ -138,85 +137,80 @@ module _ (v : ByteWorld) (h : Holding v) where
   same = record { long = h .long; passes = h .passes }
 
   -- a refusal before the call's own rules
-  short : (reply report : List ℕ) → Meets reply report (record { word = 10; reply = reply; report = report; next = v }) (S.refused 10 (worldOf v))
+  short : (reply report : List ℕ) → Meets reply report (record { word = 10; reply = reply; report = report; next = v }) (S.only 10 (worldOf v))
   short reply report = meets refl refl (sym (over-none reply)) refl (sym (over-none report)) refl same
 
   exchange-lifts : (command reply : List ℕ) → S.areBytes command ≡ true → Agrees v (S.exchange command reply)
   unfolding byteStep step X.exchangeCall X.exchangePlanned S.exchanged
   exchange-lifts command reply b =
-      let p = D.exchange (unpacked st) command in
-      let r = replyBytes (p .answer) (v .read) in
+      let p = E.exchange (unpacked st) command in
+      let r = replyBytes (p .reply) (v .read) in
       let sound : Sound (p .next) = exchange-sound good command b in
       let w = over (keptBytes (p .kept) command) (v .write) in
       rw (long, pass)
       (three (λ (x : Exchanged) (o : Outcome). Meets reply [] (afterExchange v x) o)
       (short reply [])
-      (meets refl (planned-small (p .number) (unpacked st) p (exchange-planned (unpacked st) command)) refl (take-over r reply (length r) refl) (sym (over-none []))
+      (meets refl (planned-small (p .number) (unpacked st) p (exchange-turned (unpacked st) command)) refl (take-over r reply (length r) refl) (sym (over-none []))
       (world-after st w (v .read) (p .next) sound) (held-after st w (v .read) (p .next) (h .long) sound))
       (ltb (length reply) S.replyLength) (ltb (length (v .write)) S.writeLength) (ltb (length (v .read)) S.readLength))
 
   -- ---- resets and the board's calls
 
-  change-lifts : (f : State → State) → Sound (f (unpacked st)) → Meets [] [] (afterState v (X.changeCall f st)) (S.became (worldOf v) (f (unpacked st)))
-  unfolding X.changeCall over
-  change-lifts f sound = rw (long, pass) (board st (h .long) (v .write) (v .read) [] [] 0 (f (unpacked st)) refl sound)
+  reset-lifts : (r : Reset) → Meets [] [] (afterState v (X.resetCall r st)) (S.only 0 (S.withState (worldOf v) (E.wasReset r (unpacked st))))
+  unfolding X.resetCall over
+  reset-lifts r = rw (long, pass) (board st (h .long) (v .write) (v .read) [] [] 0 (E.wasReset r (unpacked st)) refl (reset-sound good r))
 
-  looked : (report : List ℕ) (n : ℕ) (r : List ℕ) → ltb n 256 ≡ true
-      → Meets [] report (afterLook v (X.looked n (over r report))) (S.looked (worldOf v) n r)
-  looked report n r small = meets (plain n) small (sym (over-none [])) refl refl refl same
+  small : (k : Channel) (o : Board k) → ltb (L.settled k (unpacked st) o .number) 256 ≡ true
+  small k o = let p = L.settled k (unpacked st) o in settled-small (p .number) (unpacked st) p (board-settled k (unpacked st) o)
 
-  look-lifts : (report : List ℕ) → Agrees v (S.look report)
-  unfolding byteStep step X.lookCall
+  look-lifts : (report : List ℕ) → Agrees v (S.board peripheral (P.look report))
+  unfolding byteStep step X.lookCall S.settled L.lift
   look-lifts report =
-      rw (long, pass)
+      let q = unpacked st .peripheral in
+      rw (long, pass, look-is (unpacked st .config) q report)
       (one (λ (x : Looked) (o : Outcome). Meets [] report (afterLook v x) o) (short [] report)
-      (looked report _ _ (by-request (unpacked st .peripheral .request)))
+      (meets (plain _) (by-request (q .request)) (sym (over-none [])) refl refl (ap (λ (l : List ℕ). record { state = unpacked st; write = v .write; read = l }) (sym (over-none (v .read)))) same)
       (ltb (length report) S.lookLength))
     where
-      by-request : (np : Np) → ltb (B.lookNumber np) 256 ≡ true
+      by-request : (np : Np) → ltb (P.lookNumber np) 256 ≡ true
       by-request Free = refl
       by-request (Waiting q) = refl
       by-request (Ready q k) = refl
       by-request (Failed q) = refl
 
-  answer-lifts : (serial success : ℕ) (bytes : List ℕ) → Agrees v (S.answer serial success bytes)
+  answer-lifts : (serial success : ℕ) (bytes : List ℕ) → Agrees v (S.board peripheral (P.answer serial success bytes))
   unfolding byteStep step X.answerCall S.settled over
   answer-lifts serial success bytes =
-      let p = B.answer (unpacked st) serial (succeeded success) (length bytes) in
+      let o = P.answer serial success bytes in
+      let p = L.settled peripheral (unpacked st) o in
       rw (long, pass)
-      (one (λ (x : Stored) (o : Outcome). Meets [] [] (afterAnswer v x) o) (short [] [])
-      (board st (h .long) (v .write) (over (keptBytes (p .kept) bytes) (v .read)) [] [] (p .number) (p .next)
-      (settled-small (p .number) (unpacked st) p (answer-settled (unpacked st) serial (succeeded success) (length bytes)))
-      (answer-sound good serial (succeeded success) (length bytes)))
+      (one (λ (x : Stored) (z : Outcome). Meets [] [] (afterAnswer v x) z) (short [] [])
+      (board st (h .long) (v .write) (over (keptBytes (p .kept) bytes) (v .read)) [] [] (p .number) (p .next) (small peripheral o) (board-sound good peripheral o))
       (ltb (length (v .read)) S.readLength))
 
-  take-lifts : (report : List ℕ) → Agrees v (S.takeWrite report)
-  unfolding byteStep step X.takeWriteCall B.takeWrite
+  take-lifts : (report : List ℕ) → Agrees v (S.board peripheral (P.takeWrite report))
+  unfolding byteStep step X.takeWriteCall S.settled
   take-lifts report =
-      let p = B.takeWrite (unpacked st) in
-      rw (long, pass, settled-as (worldOf v) (B.takeReport (unpacked st .peripheral .write)) p)
-      (two (λ (x : Stored) (o : Outcome). Meets [] report (afterTake v x) o) (short [] report)
-      (board st (h .long) (v .write) (v .read) report (B.takeReport (unpacked st .peripheral .write)) (p .number) (p .next) (by-write (unpacked st .peripheral .write)) (take-sound good))
+      let o = P.takeWrite report in
+      let p = L.settled peripheral (unpacked st) o in
+      rw (long, pass, none-kept (p .kept) (v .read))
+      (two (λ (x : Stored) (z : Outcome). Meets [] report (afterTake v x) z) (short [] report)
+      (board st (h .long) (v .write) (v .read) report (P.takeReport (unpacked st .peripheral .write)) (p .number) (p .next) (small peripheral o) (board-sound good peripheral o))
       (ltb (length (v .write)) S.writeLength) (ltb (length report) S.takeLength))
-    where
-      by-write : (x : Write) → ltb (B.taking (unpacked st) x .number) 256 ≡ true
-      by-write Empty = refl
-      by-write (Held x) = refl
 
-  set-lifts : (index bit value : ℕ) → Agrees v (S.setWire index bit value)
-  unfolding byteStep step X.setWireCall over
+  set-lifts : (index bit value : ℕ) → Agrees v (S.board wires (W.setWire index bit value))
+  unfolding byteStep step X.setWireCall S.settled over
   set-lifts index bit value =
-      let p = B.setWireCall (unpacked st) index bit value in
-      rw (long, pass, settled-as (worldOf v) [] p)
-      (board st (h .long) (v .write) (v .read) [] [] (p .number) (p .next) (settled-small (p .number) (unpacked st) p (set-settled (unpacked st) index bit value))
-      (set-sound good index bit value))
+      let o = W.setWire index bit value in
+      let p = L.settled wires (unpacked st) o in
+      rw (long, pass, none-kept (p .kept) (v .read))
+      (board st (h .long) (v .write) (v .read) [] [] (p .number) (p .next) (small wires o) (board-sound good wires o))
 
-  read-lifts : (index bit : ℕ) → Agrees v (S.readWire index bit)
-  unfolding byteStep step X.readWireCall over
+  read-lifts : (index bit : ℕ) → Agrees v (S.board wires (W.readWire index bit))
+  unfolding byteStep step X.readWireCall S.settled L.lift over
   read-lifts index bit =
-      let n = B.readNumber index bit in
-      let value = B.readValue (unpacked st) index bit in
-      rw (long, pass) (meets refl (by-test (definedBit index bit)) refl (no-bytes value) refl refl same)
+      let value = W.readValue (unpacked st .wires) index bit in
+      rw (long, pass, read-is (unpacked st .config) (unpacked st .wires) index bit) (meets refl (by-test (definedBit index bit)) refl (no-bytes value) refl refl same)
     where
       by-test : (t : Bool) → ltb (pick t 0 22) 256 ≡ true
       by-test true = refl
@@ -226,17 +220,76 @@ module _ (v : ByteWorld) (h : Holding v) where
   unfolding byteStep step over
   lend-lifts write read = meets refl refl refl refl refl refl (record { long = h .long; passes = h .passes })
 
+  peripheral-lifts : (o : P.Board) → Agrees v (S.board peripheral o)
+  peripheral-lifts (P.look report) = look-lifts report
+  peripheral-lifts (P.answer serial success bytes) = answer-lifts serial success bytes
+  peripheral-lifts (P.takeWrite report) = take-lifts report
+
+  wires-lifts : (o : W.Board) → Agrees v (S.board wires o)
+  wires-lifts (W.setWire index bit value) = set-lifts index bit value
+  wires-lifts (W.readWire index bit) = read-lifts index bit
+
+  board-lifts : (k : Channel) (o : Board k) → Agrees v (S.board k o)
+  board-lifts peripheral o = peripheral-lifts o
+  board-lifts wires o = wires-lifts o
+
+  -- ---- a state slice that is too short: every call is 10 then, and leaves all else
+
+  record Ten (c : Call) (x : ByteOutcome) : Type 0 where
+    isTen : x .word ≡ 10
+    replySame : x .reply ≡ lentReply c
+    reportSame : x .report ≡ lentReport c
+    writeSame : x .next .write ≡ v .write
+    readSame : x .next .read ≡ v .read
+
+  ten : {c : Call} {st : List ℕ} → Ten c (record { word = 10; reply = lentReply c; report = lentReport c; next = record { state = st; write = v .write; read = v .read } })
+  ten = record { isTen = refl; replySame = refl; reportSame = refl; writeSame = refl; readSame = refl }
+
+  module _ (state : List ℕ) (few : ltb (length state) stateLength ≡ true) where
+    short-reset : (r : Reset) → Ten (S.reset r) (afterState (lent v state) (resetBytes r state))
+    unfolding X.startCall X.resetCall X.espiResetCall X.platformResetCall
+    short-reset R.start = rw few ten
+    short-reset R.espiReset = rw few ten
+    short-reset R.platformReset = rw few ten
+
+    short-peripheral : (o : P.Board) → Ten (S.board peripheral o) (peripheralBytes (lent v state) o)
+    unfolding X.lookCall X.answerCall X.takeWriteCall
+    short-peripheral (P.look report) = rw few ten
+    short-peripheral (P.answer serial success bytes) = rw few ten
+    short-peripheral (P.takeWrite report) = rw few ten
+
+    short-wires : (o : W.Board) → Ten (S.board wires o) (wiresBytes (lent v state) o)
+    unfolding X.setWireCall X.readWireCall
+    short-wires (W.setWire index bit value) = rw few ten
+    short-wires (W.readWire index bit) = rw few ten
+
+    short-board : (k : Channel) (o : Board k) → Ten (S.board k o) (boardBytes k (lent v state) o)
+    short-board peripheral o = short-peripheral o
+    short-board wires o = short-wires o
+
+    short-call : (c : Call) → ofEngine c ≡ true → Ten c (byteStep (lent v state) c)
+    unfolding byteStep X.exchangeCall
+    short-call (S.reset r) e = short-reset r
+    short-call (S.exchange command reply) e = rw few ten
+    short-call (S.board k o) e = short-board k o
+    short-call (S.short s c) e = absurd (true≢false (sym e))
+    short-call (S.lend write read) e = absurd (true≢false (sym e))
+
+  short-lifts : (state : List ℕ) (c : Call) → ofEngine c ≡ true → ltb (length state) stateLength ≡ true → Agrees v (S.short state c)
+  unfolding byteStep step
+  short-lifts state c e f =
+      let t = short-call state f c e in
+      meets (t .isTen) refl (t .replySame ∙ sym (over-none (lentReply c))) refl (t .reportSame ∙ sym (over-none (lentReport c)))
+      (rw (t .writeSame, t .readSame)) (record { long = h .long; passes = h .passes })
+
   pub call-lifts : (c : Call) → handedOver c ≡ true → Agrees v c
   unfolding byteStep step X.espiResetCall X.platformResetCall
-  call-lifts S.start b = start-lifts v (h .long)
-  call-lifts S.espiReset b = change-lifts B.espiReset (espi-reset-sound good)
-  call-lifts S.platformReset b = change-lifts B.platformReset (platform-reset-sound good)
+  call-lifts (S.reset R.start) b = start-lifts v (h .long)
+  call-lifts (S.reset R.espiReset) b = reset-lifts R.espiReset
+  call-lifts (S.reset R.platformReset) b = reset-lifts R.platformReset
   call-lifts (S.exchange command reply) b = exchange-lifts command reply b
-  call-lifts (S.look report) b = look-lifts report
-  call-lifts (S.answer serial success bytes) b = answer-lifts serial success bytes
-  call-lifts (S.takeWrite report) b = take-lifts report
-  call-lifts (S.setWire index bit value) b = set-lifts index bit value
-  call-lifts (S.readWire index bit) b = read-lifts index bit
+  call-lifts (S.board k o) b = board-lifts k o
+  call-lifts (S.short state c) b = short-lifts state c (and-left (ofEngine c) _ b) (and-right (ofEngine c) _ b)
   call-lifts (S.lend write read) b = lend-lifts write read
 
 -- ---- runs

@@ -10,3 +10,15 @@ pub mod View
 pub mod Requests
 pub mod AfterEnd
 pub mod Owed
+pub mod Plans
+pub mod Lift
+pub mod Refusals
+pub mod WholeRefusals
+pub mod Shape
+pub mod SoundBytes
+pub mod SoundPeripheral
+pub mod SoundWires
+pub mod SoundParts
+pub mod Sound
+pub mod SoundRegisters
+pub mod SoundMeans

@@ -8,3 +8,8 @@ pub mod Events
 pub mod Requests
 pub mod View
 pub mod Demand3
+pub mod Plans
+pub mod Refusals
+pub mod Shape
+pub mod Sound
+pub mod SoundMeans

@@ -11,7 +11,7 @@ use Rattle.command.specs.declared.Access.{Access}
 use Rattle.command.specs.declared.Access.the-variants.{IoRead, IoWrite, MemoryRead, MemoryWrite}
 use Rattle.command.specs.declared.Opcode.{Opcode}
 use Rattle.command.specs.declared.Opcode.the-variants as O
-use Rattle.rules.specs.Statements.Fields.{shortAt, isListed}
+use Rattle.rules.specs.Statements.Fields.{isListed, isPosted, isNonPosted}
 
 pub one : (Q : ℕ → Type 0) (op k : ℕ) → Q k → (eqb op k ≡ false → Q op) → Q op
 one Q op k q else = go (eqb op k) refl
@@ -19,11 +19,6 @@ one Q op k q else = go (eqb op k) refl
     go : (t : Bool) → eqb op k ≡ t → Q op
     go true e = subst Q (sym (eqb-true op k e)) q
     go false e = else e
-
--- a short opcode is one of three
-pub by-short : (Q : ℕ → Type 0) (base op : ℕ) → Q base → Q (base + 1) → Q (base + 3) → shortAt base op ≡ true → Q op
-by-short Q base op a b c h =
-    one Q op base a λ e. one Q op (base + 1) b λ f. one Q op (base + 3) c λ g. absurd (true≢false (sym h ∙ rw (e, f, g)))
 
 -- four values from a multiple of 4 on, without three of them
 no-short : (a : Access) (op q : ℕ) (rest : Opcode) → eqb op (4 * q) ≡ false → eqb op (4 * q + 1) ≡ false → eqb op (4 * q + 3) ≡ false
@@ -53,3 +48,13 @@ by-opcode Q q00 q01 q02 q04 q05 q21 q22 q25 qFF q40 q41 q43 q44 q45 q47 q48 q49 
     (no-short IoWrite op 0x11 _ e44 e45 e47
     (no-short MemoryRead op 0x12 _ e48 e49 e4B
     (no-short MemoryWrite op 0x13 _ e4C e4D e4F refl))))))))))))))
+
+-- ---- the opcodes of a kind
+
+pub by-posted : (Q : ℕ → Type 0) → Q 0x00 → Q 0x4C → Q 0x4D → Q 0x4F → (op : ℕ) → isPosted op ≡ true → Q op
+by-posted Q a b c d op h = one Q op 0x00 a λ e0. one Q op 0x4C b λ e1. one Q op 0x4D c λ e2. one Q op 0x4F d λ e3. absurd (true≢false (sym h ∙ simp (e0, e1, e2, e3)))
+
+pub by-asked : (Q : ℕ → Type 0) → Q 0x02 → Q 0x40 → Q 0x41 → Q 0x43 → Q 0x44 → Q 0x45 → Q 0x47 → Q 0x48 → Q 0x49 → Q 0x4B → (op : ℕ) → isNonPosted op ≡ true → Q op
+by-asked Q a b c d e f g i j k op h =
+    one Q op 0x02 a λ e0. one Q op 0x40 b λ e1. one Q op 0x41 c λ e2. one Q op 0x43 d λ e3. one Q op 0x44 e λ e4. one Q op 0x45 f λ e5. one Q op 0x47 g λ e6.
+    one Q op 0x48 i λ e7. one Q op 0x49 j λ e8. one Q op 0x4B k λ e9. absurd (true≢false (sym h ∙ simp (e0, e1, e2, e3, e4, e5, e6, e7, e8, e9)))

@@ -42,9 +42,9 @@ pub acts-other : (k : Channel) → same k peripheral ≡ false → (p : Part k) 
 acts-other k e p a x L.Acts.refused = ap (λ (out : Out). out .kept) (out-change k p fatal)
 acts-other k e p a x (L.Acts.accepted q body kept f g) = ap (λ (out : Out). out .kept) (out-change k q (accepts (responseFor k a) body kept)) ∙ own-other k e kept g
 
-pub settles-other : (k : Channel) → same k peripheral ≡ false → (p : Part k) (x : Change k) → Settles k p x → outOf k x .kept ≡ K.Nothing
-settles-other k e p x (L.Settles.refused n f g) = ap (λ (out : Out). out .kept) (out-change k p (number n))
-settles-other k e p x (L.Settles.accepted q kept f) = ap (λ (out : Out). out .kept) (out-change k q (keep kept)) ∙ own-other k e kept f
+pub settles-other : (k : Channel) → same k peripheral ≡ false → (p : Part k) (o : Board k) (x : Change k) → Settles k p o x → outOf k x .kept ≡ K.Nothing
+settles-other k e p o x (L.Settles.refused n f g h i) = ap (λ (out : Out). out .kept) (out-change k p (number n))
+settles-other k e p o x (L.Settles.accepted q kept f) = ap (λ (out : Out). out .kept) (out-change k q (keep kept)) ∙ own-other k e kept f
 
 -- ---- its commands and calls are no event of channel 0
 

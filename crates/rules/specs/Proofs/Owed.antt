@@ -24,18 +24,19 @@ use Rattle.state.specs.declared.State.{State}
 use Rattle.sound.specs.Facts.{sound-off}
 use Rattle.sound.specs.Sound.{Sound}
 use Rattle.rules.specs.Rules.Peripheral as P₀
-use Rattle.rules.specs.Rules.Channel.{peripheral, on, acting}
+use Rattle.rules.specs.Rules.Channel.{peripheral, on}
 use Rattle.rules.specs.Rules.Lift.{lift}
 use Rattle.rules.specs.Rules.Reply.{closed, headerBytes, dataBytes}
 use Rattle.rules.specs.Rules.Step.{World, Call, exchange, Outcome, step, run, exchanged, shortStores}
 use Rattle.rules.specs.Statements.Cases.{Admits}
 use Rattle.rules.specs.Statements.Peripheral.{Did, noneReady, handedOver}
 use Rattle.rules.specs.Statements.Fields.{crcRight}
-use Rattle.rules.specs.Statements.Events.{ends, unended}
+use Rattle.rules.specs.Statements.Events.{unended}
 use Rattle.rules.specs.Statements.Requests.{Event, gets, event, isEnd, isTell, isAsk, without, answers, requests, got, gotBy, completionIn, held, showsBit, sameStore, storeHandedOn, readHandedOn}
 use Rattle.rules.specs.Statements.View.{Shown, Move, same, asked, told, sent, lent, dropped}
 use Rattle.rules.specs.Statements.Demand3.{crcFine, Over, joinedData, dataIn}
-use Rattle.rules.specs.Proofs.Cases.{did, exchange-carried}
+use Rattle.rules.specs.Proofs.Plans.{did, plan-admitted}
+use Rattle.rules.specs.Proofs.Cases.{exchange-long}
 use Rattle.rules.specs.Proofs.Events.{head-unended, tail-unended, head-without, tail-without}
 use Rattle.rules.specs.Proofs.Requests.{end-is}
 use Rattle.rules.specs.Proofs.View.{view}
@@ -78,8 +79,9 @@ pub get-accepted : (w : World) (check : ℕ) (reply : List ℕ) (k : Completion)
     → shortStores reply w ≡ false → crcFine (w .state) (0x01 ∷ check ∷ []) ≡ true → step w (exchange (0x01 ∷ check ∷ []) reply) .number ≡ 0
 unfolding exchanged lift
 get-accepted w check reply k ks d u long fine =
+    let b : List ℕ = 0x01 ∷ check ∷ [] in
     ap (λ (o : Outcome). o .number)
-    (exchange-carried peripheral w (0x01 ∷ check ∷ []) reply GetPc long (get-admitted (w .state) check (held-on (w .state) d (ready-taken (held w) k ks u)) fine))
+    (exchange-long w b reply long ∙ ap (exchanged w b) (plan-admitted peripheral (w .state) b GetPc (get-admitted (w .state) check (held-on (w .state) d (ready-taken (held w) k ks u)) fine)))
     ∙ ready-number k ks u (did peripheral (w .state .config) (w .state .peripheral) P₀.gets)
 
 -- ---- completions owed

@@ -91,3 +91,8 @@ unfolding P.settle P.answerTo P.taken
 settles c p (look report) = look-settled p report (p .request) refl
 settles c p (answer serial success d) = answer-settled p serial success d (p .request) refl
 settles c p (takeWrite report) = take-settled p report (p .write) refl
+
+-- a look is its number and changes nothing
+pub look-is : (c : Config) (p : Peripheral) (report : List ℕ) → P.settle c p (look report) ≡ P.change p (number (P.lookNumber (p .request)))
+unfolding P.settle
+look-is c p report = refl

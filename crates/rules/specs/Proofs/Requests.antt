@@ -1,16 +1,14 @@
 -- Events of channel 0: what is read off them at once.
-use Prim.Native.Nat.{ℕ}
-use mathlib.Core.Bool.{Bool, true, false, _&&_}
-use mathlib.Core.List.{List, []}
-use mathlib.Core.Path.{_≡_, refl, sym, ap, _∙_}
+use mathlib.Core.Bool.{Bool, true, false}
+use mathlib.Core.Path.{_≡_, refl, ap}
 use lib.Dec.{eqb}
 use Rattle.base.specs.Pick.{pick, pick-ind}
 use Rattle.rules.specs.Rules.Peripheral as P
 use Rattle.rules.specs.Rules.Channel.{peripheral, wires}
-use Rattle.rules.specs.Rules.Step.{World, Call, reset, exchange, board, short, lend, Outcome, step}
+use Rattle.rules.specs.Rules.Step.{World, Call, reset, exchange, board, short, lend, step}
 use Rattle.rules.specs.Statements.Fields.{byte, isNonPosted}
 use Rattle.rules.specs.Statements.Events.{accepted, ends}
-use Rattle.rules.specs.Statements.Requests.{Event, idle, asks, gets, peripheralEvent, acceptedEvent, eventOf, event, isEnd}
+use Rattle.rules.specs.Statements.Requests.{Event, idle, acceptedEvent, eventOf, event, isEnd}
 use Rattle.rules.specs.Statements.Requests as R
 
 accepted-unended : (c : Call) → isEnd (acceptedEvent c) ≡ false

@@ -7,9 +7,8 @@ use native.Mathlib.Omega.{arith}
 use lib.Dec.{eqb}
 use lib.ListN.{length, take, length-append}
 use lib.Seq.{getD-append-add, take-length}
-use borrow.Author.Tests.{eqb-true, ne-eqb}
-use mathlib.Core.Logic.{_⊎_, inl, inr}
-use Rattle.base.specs.Pick.{pick, or-either}
+use borrow.Author.Tests.{ne-eqb}
+use Rattle.base.specs.Pick.{pick}
 use Rattle.base.specs.Bytes.{over, low2}
 use Rattle.crc.specs.Crc.{crc}
 use Rattle.registers.specs.Registers.{writeAt}
@@ -34,14 +33,14 @@ use Rattle.rules.specs.Statements.Cases as C
 use Rattle.rules.specs.Statements.Cases.{Did, Settled, Admits, commandOf, Case}
 use Rattle.rules.specs.Statements.Channels.{Settles}
 use Rattle.rules.specs.Statements.Events.{accepted, ending, disables, registerOf}
-use Rattle.rules.specs.Statements.Fields.{byte, isMemoryWrite, isPosted, isNonPosted, registerAt, registerValue}
+use Rattle.rules.specs.Statements.Fields.{byte, isPosted, isNonPosted, registerAt, registerValue}
 use Rattle.rules.specs.Statements.Reads as R
 use Rattle.rules.specs.Statements.Reads.{Writes}
 use Rattle.rules.specs.Statements.Requests.{Event, idle, asks, gets, ends, commandEvent, acceptedEvent, eventOf, event, held, statusIn}
 use Rattle.rules.specs.Statements.View.{Shown, Move, same as stays, asked, told, sent, lent, dropped, View}
 use Rattle.rules.specs.Proofs.Cases.{cases}
 use Rattle.rules.specs.Proofs.Channels as N
-use Rattle.rules.specs.Proofs.Fields.{one, by-short}
+use Rattle.rules.specs.Proofs.Fields.{one, by-posted}
 use Rattle.rules.specs.Proofs.Reads.{reads}
 use Rattle.rules.specs.Proofs.Events.{falling-edge}
 use Rattle.rules.specs.Proofs.Others.{by-channel, part-other, settles-other, Plain, plain, command-other, board-other}
@@ -126,12 +125,9 @@ outside : (p : ℕ → Bool) (op n : ℕ) → p n ≡ false → p op ≡ true �
 outside p op n f = one (λ (x : ℕ). p x ≡ true → eqb x n ≡ false) op n (λ t. absurd (true≢false (sym t ∙ f))) (λ e _. e)
 
 posted-plain : (b : List ℕ) → isPosted (byte b 0) ≡ true → Plain b
-posted-plain b h = by (byte b 0) refl (or-either (eqb (byte b 0) 0x00) (isMemoryWrite (byte b 0)) h)
-  where
-    by : (op : ℕ) → byte b 0 ≡ op → (eqb op 0x00 ≡ true) ⊎ (isMemoryWrite op ≡ true) → Plain b
-    by op e (inl f) = plain b 0x00 (e ∙ eqb-true op 0x00 f) refl refl
-    by op e (inr f) =
-        by-short (λ (x : ℕ). byte b 0 ≡ x → Plain b) 0x4C op (λ g. plain b 0x4C g refl refl) (λ g. plain b 0x4D g refl refl) (λ g. plain b 0x4F g refl refl) f e
+posted-plain b h =
+    by-posted (λ (op : ℕ). byte b 0 ≡ op → Plain b) (λ e. plain b 0x00 e refl refl) (λ e. plain b 0x4C e refl refl) (λ e. plain b 0x4D e refl refl)
+    (λ e. plain b 0x4F e refl refl) (byte b 0) h refl
 
 asked-event : (s : State) (b r : List ℕ) (o : Outcome) → accepted o ≡ true → isNonPosted (byte b 0) ≡ true → eventOf s (exchange b r) o ≡ asks
 asked-event s b r o e h =
@@ -219,12 +215,12 @@ module _ (w : World) where
         go true e = accepted-event (w .state) (board k o) x e ∙ board-other k other o
         go false e = refused-event (w .state) (board k o) x e
 
-    settled-beside : (o : Board k) (x : Change k) → Settles k (part k (w .state)) x → Seen (board k o) (settled k w o (lift k (w .state) x))
+    settled-beside : (o : Board k) (x : Change k) → Settles k (part k (w .state)) o x → Seen (board k o) (settled k w o (lift k (w .state) x))
     unfolding settled lift over
     settled-beside o x d =
         seen idle (board-event o _)
         (stays (ap (λ (q : Peripheral). q .request) (kept-part x)) (ap (λ (q : Peripheral). q .serial) (kept-part x))
-        (ap (λ (kept : Kept). over (keptBytes kept (given k o)) (w .read)) (settles-other k other (part k (w .state)) x d)) quiet)
+        (ap (λ (kept : Kept). over (keptBytes kept (given k o)) (w .read)) (settles-other k other (part k (w .state)) o x d)) quiet)
 
   -- ---- above all channels
 

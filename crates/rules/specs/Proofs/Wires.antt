@@ -33,3 +33,8 @@ unfolding W.settle W.setting
 settles c w (setWire index bit value) =
     pick-ind (Settled c w (setWire index bit value)) (not (settable index bit value)) (λ e. notBoards (not-true _ e)) (λ e. set (not-false _ e))
 settles c w (readWire index bit) = read-settled c w index bit (definedBit index bit) refl
+
+-- a read is its number and changes nothing
+pub read-is : (c : Config) (w : Wires) (index bit : ℕ) → W.settle c w (readWire index bit) ≡ W.change w (number (W.readNumber index bit))
+unfolding W.settle
+read-is c w index bit = refl

@@ -1,57 +1,21 @@
 -- What a call does: the one case law for `step`. A call is idle, a channel acted on a command or settled a call of the board, the
 -- configuration was written, all channels were reset, or stores were lent. The statements go by these cases and unfold no decision.
-use Prim.Native.Nat.{ℕ, _≤_}
-use mathlib.Core.Bool.{Bool, true, false}
+use Prim.Native.Nat.{ℕ}
+use mathlib.Core.Bool.{true, false}
 use mathlib.Core.List.{List}
 use mathlib.Core.Path.{_≡_}
-use Rattle.registers.specs.Registers.{crcChecked, readAt, forbiddenAt, writeAt}
-use Rattle.registers.specs.declared.Config.{Config}
-use Rattle.command.specs.Decode.{admit}
-use Rattle.command.specs.declared.Command as C₀
+use Rattle.registers.specs.Registers.{forbiddenAt, writeAt}
 use Rattle.command.specs.declared.Command.the-variants as C
-use Rattle.command.specs.declared.Decoded.the-variants.{Known}
-use Rattle.state.specs.declared.State.{State}
 use Rattle.rules.specs.Rules.Reset.{Reset}
-use Rattle.rules.specs.Rules.Channel.{Channel, peripheral, wires, Part, Command, Act, Board, Change, part, actOf}
+use Rattle.rules.specs.Rules.Channel.{Channel, Command, Board, Change, part, actOf}
 use Rattle.rules.specs.Rules.Lift.{lift, show, nonFatal, acceptThen, quietly}
-use Rattle.rules.specs.Rules.Exchange.{channelsOf, reconfigured, reset008h, wasReset}
+use Rattle.rules.specs.Rules.Exchange.{reconfigured, reset008h, wasReset}
 use Rattle.rules.specs.Rules.Step as S
 use Rattle.rules.specs.Rules.Step.{World, Call, Outcome, exchange, board, reset, lend, only, withState, shortFor, exchanged, settled}
-use Rattle.rules.specs.Statements.Peripheral as P
-use Rattle.rules.specs.Statements.Wires as W
+pub use Rattle.rules.specs.Statements.Plans.{Did, Settled, commandOf, Admits, Shows, status, register, Silent}
 use Rattle.rules.specs.declared.Body.{Body}
-use Rattle.rules.specs.declared.Body.the-variants as B
-
--- ---- a channel's law, by channel
-
-abbrev pub Did : (k : Channel) → Config → Part k → Act k → Change k → Type 0
-Did peripheral = P.Did
-Did wires = W.Did
-
-abbrev pub Settled : (k : Channel) → Config → Part k → Board k → Change k → Type 0
-Settled peripheral c p o x = P.Settled p o x
-Settled wires c p o x = W.Settled c p o x
-
--- a channel's command among all commands
-abbrev pub commandOf : (k : Channel) → Command k → C₀.Command
-commandOf peripheral o = C.Peripheral o
-commandOf wires o = C.Wires o
-
--- the decoder gave this command, and its CRC was good or not checked
-abbrev pub Admits : State → List ℕ → C₀.Command → Type 0
-Admits s b o = admit (channelsOf (s .config)) (crcChecked (s .config .r008)) b ≡ Known o
-
--- GET_STATUS and GET_CONFIGURATION: accepted, and nothing changes
-pub data Shows (s : State) (b : List ℕ) : Body → Type 0 where
-  status : Admits s b C.GetStatus → Shows s b B.Nothing
-  register : (a : ℕ) → Admits s b (C.GetConfiguration a) → Shows s b (B.Word (readAt (s .config) a))
 
 -- ---- the cases
-
--- stores too short, or the decoder gave no command
-pub record Silent (n : ℕ) : Type 0 where
-  pub least : 10 ≤ n
-  pub most : n ≤ 16
 
 pub data Case (w : World) : Call → Outcome → Type 0 where
   idle : {c : Call} (n : ℕ) → Silent n → Case w c (only n w)

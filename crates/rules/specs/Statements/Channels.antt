@@ -3,11 +3,12 @@
 -- follows from it holds for every channel.
 use Prim.Native.Nat.{ℕ, _≤_, _<_}
 use mathlib.Core.Bool.{Bool, true}
+use mathlib.Core.List.{[]}
 use mathlib.Core.Path.{_≡_}
 use Rattle.registers.specs.declared.Config.{Config}
 use Rattle.rules.specs.Rules.Out.{fatal, number, keep}
 use Rattle.rules.specs.Rules.Peripheral as P
-use Rattle.rules.specs.Rules.Channel.{Channel, peripheral, wires, Part, Act, Board, Change, change, ownBody, ownKept}
+use Rattle.rules.specs.Rules.Channel.{Channel, peripheral, wires, Part, Act, Board, Change, change, reportOf, valueOf, ownBody, ownKept}
 use Rattle.rules.specs.Statements.Cases.{Did, Settled}
 use Rattle.rules.specs.declared.Response.{Response}
 use Rattle.rules.specs.declared.Response.the-variants.{Accept, Defer}
@@ -34,10 +35,11 @@ pub data Acts (k : Channel) (p : Part k) (a : Act k) : Change k → Type 0 where
   accepted : (q : Part k) (body : Body) (kept : Kept) → ownBody k body ≡ true → ownKept k kept ≡ true
       → Acts k p a (change k q (accepts (responseFor k a) body kept))
 
-pub data Settles (k : Channel) (p : Part k) : Change k → Type 0 where
-  refused : (n : ℕ) → 20 ≤ n → n < 256 → Settles k p (change k p (number n))
-  accepted : (q : Part k) (kept : Kept) → ownKept k kept ≡ true → Settles k p (change k q (keep kept))
+-- "a refused one yields only its number"
+pub data Settles (k : Channel) (p : Part k) (o : Board k) : Change k → Type 0 where
+  refused : (n : ℕ) → 20 ≤ n → n < 256 → reportOf k p o ≡ [] → valueOf k p o ≡ 0 → Settles k p o (change k p (number n))
+  accepted : (q : Part k) (kept : Kept) → ownKept k kept ≡ true → Settles k p o (change k q (keep kept))
 
 pub record Lawful : Type 1 where
   pub acts : (k : Channel) (c : Config) (p : Part k) (a : Act k) (x : Change k) → Did k c p a x → Acts k p a x
-  pub settles : (k : Channel) (c : Config) (p : Part k) (o : Board k) (x : Change k) → Settled k c p o x → Settles k p x
+  pub settles : (k : Channel) (c : Config) (p : Part k) (o : Board k) (x : Change k) → Settled k c p o x → Settles k p o x
