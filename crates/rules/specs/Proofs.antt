@@ -4,6 +4,12 @@ pub mod Cases
 pub mod Channels
 pub mod Fields
 pub mod Reads
+pub mod Events
+pub mod Others
+pub mod View
+pub mod Requests
+pub mod AfterEnd
+pub mod Owed
 pub mod Plans
 pub mod Lift
 pub mod Refusals

@@ -5,6 +5,9 @@ pub mod Channels
 pub mod Fields
 pub mod Reads
 pub mod Events
+pub mod Requests
+pub mod View
+pub mod Demand3
 pub mod Plans
 pub mod Refusals
 pub mod Both

@@ -1,14 +1,17 @@
 -- The case law for `step`.
 use Prim.Native.Nat.{ℕ}
+use mathlib.Core.Bool.{false}
 use mathlib.Core.List.{List}
 use mathlib.Core.Path.{_≡_, refl, subst}
 use native.Mathlib.Omega.{arith}
 use Rattle.base.specs.Pick.{pick-ind}
 use Rattle.base.specs.Bytes.{over}
-use Rattle.rules.specs.Rules.Lift.{silent}
+use Rattle.rules.specs.Rules.Channel.{Channel, Board, part, settle}
+use Rattle.rules.specs.Rules.Lift.{lift, silent}
+use Rattle.rules.specs.Rules.Exchange as E
 use Rattle.rules.specs.Rules.Reply.{replyBytes}
 use Rattle.rules.specs.Rules.Step as S
-use Rattle.rules.specs.Rules.Step.{World, Call, Outcome, exchange, board, reset, short, lend, only, shortStores, shortFor, exchanged}
+use Rattle.rules.specs.Rules.Step.{World, exchange, board, reset, short, lend, only, shortStores, shortFor, exchanged}
 use Rattle.rules.specs.Statements.Plans as N
 use Rattle.rules.specs.Statements.Plans.{Silent, Planned}
 use Rattle.rules.specs.Statements.Cases.{Case, idle, shown, acted, settles, forbidden, configured, cleared, wiped, lent, Cases}
@@ -39,3 +42,14 @@ cases w (exchange b r) = pick-ind (Case w (exchange b r)) (shortStores r w) (λ 
 cases w (board k o) = pick-ind (Case w (board k o)) (shortFor k o w) (λ _. idle 10 too-short) (λ e. settles k o _ e (settled k _ _ o))
 cases w (short state c) = idle 10 too-short
 cases w (lend write read) = lent
+
+-- ---- with long enough slices
+
+pub exchange-long : (w : World) (b r : List ℕ) → shortStores r w ≡ false → S.step w (exchange b r) ≡ exchanged w b (E.exchange (w .state) b)
+unfolding S.step
+exchange-long w b r l = rw l
+
+pub board-long : (k : Channel) (w : World) (o : Board k) → shortFor k o w ≡ false
+    → S.step w (board k o) ≡ S.settled k w o (lift k (w .state) (settle k (w .state .config) (part k (w .state)) o))
+unfolding S.step
+board-long k w o l = rw l
