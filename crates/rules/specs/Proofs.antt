@@ -16,6 +16,7 @@ pub mod Refusals
 pub mod WholeRefusals
 pub mod Both
 pub mod Reply
+pub mod Whose
 pub mod Apart
 pub mod Shape
 pub mod SoundBytes

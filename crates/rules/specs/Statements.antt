@@ -15,3 +15,5 @@ pub mod Apart
 pub mod Shape
 pub mod Sound
 pub mod SoundMeans
+pub mod WireEvents
+pub mod WireView

@@ -1,6 +1,6 @@
 -- No channel tells on another: one argument for every channel. A call of x's own leaves all that is not x's; any other call goes the same way in two
 -- worlds that are alike but for x, for its channel sees its own part and stores alone. So a run shows what it shows without x's calls.
-use Prim.Native.Nat.{ℕ, _+_, _-_, _/_, _%_, _≤_}
+use Prim.Native.Nat.{ℕ, _+_, _-_, _/_, _%_}
 use mathlib.Core.Bool.{Bool, true, false, _||_, true≢false}
 use mathlib.Core.List.{List, [], _∷_, _++_}
 use mathlib.Core.Path.{_≡_, refl, sym, ap, subst, _∙_}
@@ -8,31 +8,29 @@ use native.Mathlib.Omega.{arith}
 use lib.Dec.{ltb}
 use lib.ListN.{getD, length, take, length-append}
 use lib.Seq.{take-at, getD-at, getD-append-add}
-use borrow.Author.Tests.{eq-eqb, ne-eqb}
-use Rattle.base.specs.Pick.{pick, pick-ind}
+use borrow.Author.Tests.{ne-eqb}
 use Rattle.base.specs.Bytes.{low2, over}
 use Rattle.crc.specs.Crc.{crc}
-use Rattle.registers.specs.Registers.{crcChecked, fresh008, readAt, writeAt}
+use Rattle.registers.specs.Registers.{fresh008, readAt, writeAt}
 use Rattle.registers.specs.declared.Config.{Config}
 use Rattle.wires.specs.Groups.{anyPending}
-use Rattle.command.specs.Facts.{admit-decodes}
 use Rattle.command.specs.declared.Command as C₀
 use Rattle.state.specs.Status.{status, peripheralStatus, wiresStatus, pcFree, npFree, pcAvail}
 use Rattle.state.specs.declared.Peripheral.{Peripheral}
 use Rattle.state.specs.declared.State.{State}
 use Rattle.rules.specs.Rules.Out.{responseByte}
-use Rattle.rules.specs.Rules.Channel.{Channel, peripheral, wires, Part, Command, Act, Board, Change, change, nextOf, outOf, actOf, acting, settle, reportOf, valueOf, given, ownBody, ownKept, part, put, each, on, edge, channelNumber, same}
+use Rattle.rules.specs.Rules.Channel.{Channel, peripheral, wires, Part, Command, Act, Board, Change, change, nextOf, outOf, actOf, acting, settle, reportOf, valueOf, given, ownBody, ownKept, part, put, each, on, edge, same}
 use Rattle.rules.specs.Rules.Channel as N
 use Rattle.rules.specs.Rules.Lift as L₀
 use Rattle.rules.specs.Rules.Lift.{lift, withStatus, show}
 use Rattle.rules.specs.Rules.Exchange as E
-use Rattle.rules.specs.Rules.Exchange.{channelsOf, reconfigured, configReset}
+use Rattle.rules.specs.Rules.Exchange.{reconfigured, configReset}
 use Rattle.rules.specs.Rules.Reply.{closed, replyBytes, bodyBytes, keptBytes}
 use Rattle.rules.specs.Rules.Step.{World, Call, Outcome, exchange, board, reset, short, lend, step, run, exchanged, settled, shortStores, shortFor, writeLength, readLength, replyLength}
-use Rattle.rules.specs.Statements.Plans.{Settled, Admits, commandOf}
+use Rattle.rules.specs.Statements.Plans.{Settled, Admits}
 use Rattle.rules.specs.Statements.Channels.{Acts, Settles}
 use Rattle.rules.specs.Statements.Channels as L
-use Rattle.rules.specs.Statements.Fields.{byte, isChannel0, isChannel1}
+use Rattle.rules.specs.Statements.Fields.{byte}
 use Rattle.rules.specs.Statements.Both as T
 use Rattle.rules.specs.Statements.Both.{Both, SameRoom}
 use Rattle.rules.specs.Statements.Apart.{isOpcodeOf, storesOf, clear, isCommandOf, isOf, others, replyBut, Seen, seen, seeing, RunsAlike, StatesAlike, Alike, NoneTells, SameButWires, WiresApart, SameButPeripheral, PeripheralApart}
@@ -40,9 +38,10 @@ use Rattle.rules.specs.Proofs.Plans as Q
 use Rattle.rules.specs.Proofs.Channels as L₁
 use Rattle.rules.specs.Proofs.Peripheral.Apart as P₁
 use Rattle.rules.specs.Proofs.Wires.Apart as W₁
+use Rattle.rules.specs.Proofs.Whose.{begins, own-command, no-set, no-reset}
 use Rattle.rules.specs.Proofs.Both.{both}
-use Rattle.rules.specs.Proofs.Lift.{lift-change, put-same, put-config, put-both, part-each, same-self, same-is, planned}
-use Rattle.rules.specs.Proofs.Reads.{one-of, reads}
+use Rattle.rules.specs.Proofs.Lift.{part-stays, lift-change, put-config, put-both, part-each, same-is, planned}
+use Rattle.rules.specs.Proofs.Reads.{reads}
 use Rattle.rules.specs.Proofs.Reply.{closed-as, closed-length, bit-below, status-small, over-long}
 use Rattle.rules.specs.declared.Body.{Body}
 use Rattle.rules.specs.declared.Body.the-variants as B
@@ -53,48 +52,6 @@ use Rattle.rules.specs.declared.Kept.the-variants as K
 use Rattle.rules.specs.declared.Out.{Out}
 use Rattle.rules.specs.declared.Plan.{Plan}
 use Rattle.rules.specs.declared.Response.the-variants.{Accept, NonFatal}
-
--- ---- whose an exchange is: a channel's command begins with an opcode of that channel's, and of no other's
-
-abbrev owner : ℕ → ℕ
-owner op = pick (isChannel1 op) 1 0
-
-owner-is : (k : Channel) (op : ℕ) → isOpcodeOf k op ≡ true → owner op ≡ channelNumber k
-owner-is peripheral op e =
-    pick-ind (λ (n : ℕ). n ≡ 0) (isChannel1 op)
-    (λ f. absurd (one-of (λ (t : ℕ). isChannel0 t ≡ true → ⊥) op 0x04 0x05 (λ g. true≢false (sym g)) (λ g. true≢false (sym g)) f e)) (λ _. refl)
-owner-is wires op e = ap (λ (t : Bool). pick t 1 0) e
-
-opcode-of : (k : Channel) (s : State) (b : List ℕ) (o : Command k) → Admits s b (commandOf k o) → isOpcodeOf k (byte b 0) ≡ true
-opcode-of peripheral s b o e = P₁.opcode (reads s b _ e)
-opcode-of wires s b o e = W₁.opcode (reads s b _ e)
-
-begins : (x : Channel) (s : State) (b : List ℕ) (o : C₀.Command) → Admits s b o → isCommandOf x b ≡ isOpcodeOf x (byte b 0)
-begins x s b o e = go b (admit-decodes (channelsOf (s .config)) (crcChecked (s .config .r008)) b o e .some)
-  where
-    go : (l : List ℕ) → 1 ≤ length l → isCommandOf x l ≡ isOpcodeOf x (byte l 0)
-    go [] h = absurd (omega (arith, h))
-    go (op ∷ r) h = refl
-
-own-opcode : (x k : Channel) (op : ℕ) → isOpcodeOf k op ≡ true → isOpcodeOf x op ≡ same x k
-own-opcode x k op e = go (isOpcodeOf x op) refl (same x k) refl
-  where
-    go : (t : Bool) → isOpcodeOf x op ≡ t → (u : Bool) → same x k ≡ u → t ≡ u
-    go true f u g = sym (eq-eqb (channelNumber x) (channelNumber k) (sym (owner-is x op f) ∙ owner-is k op e)) ∙ g
-    go false f true g = sym f ∙ ap (λ (z : Channel). isOpcodeOf z op) (sym (same-is x k g)) ∙ e
-    go false f false g = refl
-
-own-command : (x k : Channel) (s : State) (b : List ℕ) (o : Command k) → Admits s b (commandOf k o) → isCommandOf x b ≡ same x k
-own-command x k s b o e = begins x s b (commandOf k o) e ∙ own-opcode x k (byte b 0) (opcode-of k s b o e)
-
--- SET_CONFIGURATION and RESET are no channel's
-no-set : (x : Channel) → isOpcodeOf x 0x22 ≡ false
-no-set peripheral = refl
-no-set wires = refl
-
-no-reset : (x : Channel) → isOpcodeOf x 0xFF ≡ false
-no-reset peripheral = refl
-no-reset wires = refl
 
 -- ---- the status without x's bits: the others' are left
 
@@ -189,9 +146,7 @@ put-own : (x : Channel) (p : Part x) (s : State) → StatesAlike x (put x p s) s
 put-own x p s =
     record {
       config = put-config x p s;
-      parts = λ y e.
-          put-both (λ (z : Channel) (a b : Part z). same x z ≡ false → a ≡ b) x p (part x s) s s (λ f. absurd (true≢false (sym (same-self x) ∙ f))) (λ z f. refl) y e
-          ∙ ap (part y) (put-same x s);
+      parts = λ y e. part-stays x y p s e;
     }
 
 -- every part by the same function

@@ -1,7 +1,7 @@
 -- A change put back: what `lift` and `put` do, whatever the channel.
 use Prim.Native.Nat.{ℕ, zero, suc}
-use mathlib.Core.Bool.{true}
-use mathlib.Core.Path.{_≡_, refl, sym, ap, _∙_}
+use mathlib.Core.Bool.{Bool, true, false, true≢false}
+use mathlib.Core.Path.{_≡_, refl, sym, ap, subst, _∙_}
 use borrow.Author.Tests.{eq-eqb, eqb-true}
 use Rattle.registers.specs.declared.Config.{Config}
 use Rattle.state.specs.Status.{status}
@@ -63,3 +63,17 @@ same-self x = eq-eqb (channelNumber x) (channelNumber x) refl
 
 pub same-is : (x y : Channel) → same x y ≡ true → y ≡ x
 same-is x y e = sym (number-back y) ∙ ap channelAt (sym (eqb-true (channelNumber x) (channelNumber y) e)) ∙ number-back x
+
+-- a channel, or another
+pub own-or-other : (x : Channel) (Q : Channel → Type 0) → Q x → ((k : Channel) → same x k ≡ false → Q k) → (k : Channel) → Q k
+own-or-other x Q q other k = go (same x k) refl
+  where
+    go : (t : Bool) → same x k ≡ t → Q k
+    go true e = subst Q (sym (same-is x k e)) q
+    go false e = other k e
+
+-- another channel's part stays
+pub part-stays : (k j : Channel) (q : Part k) (s : State) → same k j ≡ false → part j (put k q s) ≡ part j s
+part-stays k j q s e =
+    put-both (λ (z : Channel) (a b : Part z). same k z ≡ false → a ≡ b) k q (part k s) s s (λ f. absurd (true≢false (sym (same-self k) ∙ f))) (λ z f. refl) j e
+    ∙ ap (part j) (put-same k s)
