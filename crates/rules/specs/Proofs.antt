@@ -26,3 +26,4 @@ pub mod SoundParts
 pub mod Sound
 pub mod SoundRegisters
 pub mod SoundMeans
+pub mod WireView

@@ -2,7 +2,7 @@
 use Prim.Native.Nat.{ℕ, _%_}
 use mathlib.Core.Bool.{Bool, true, false, _&&_, not}
 use mathlib.Core.List.{List, _∷_}
-use mathlib.Core.Path.{_≡_, refl, ap, _∙_}
+use mathlib.Core.Path.{_≡_, refl, sym, ap, ap₂, _∙_}
 use native.Mathlib.Omega.{arith}
 use lib.Dec.{eqb}
 use borrow.Author.Tests.{eqb-true, eqb-false, not-true}
@@ -10,9 +10,12 @@ use Rattle.base.specs.Pick.{pick, and-left, and-right}
 use Rattle.registers.specs.Registers.{on0, on1, writeAt}
 use Rattle.registers.specs.Laws.{by-address, on0-written, on1-written}
 use Rattle.registers.specs.declared.Config.{Config}
+use Rattle.state.specs.declared.State.{State}
 use Rattle.rules.specs.Rules.Channel.{Channel, peripheral, wires, on}
 use Rattle.rules.specs.Rules.Step.{World, Call, step}
-use Rattle.rules.specs.Statements.Events.{registerOf, ends, unended}
+use Rattle.rules.specs.Statements.Events.{registerOf, disables, ends, unended}
+use Rattle.rules.specs.Statements.Fields.{registerAt, registerValue}
+use Rattle.rules.specs.Statements.Reads.{Writes}
 use Rattle.rules.specs.Statements.Requests.{without}
 
 -- ---- the edge of an enable bit
@@ -42,6 +45,21 @@ falling-edge k c a v = ap (λ (t : Bool). on k c && not t) (enable-written k c a
     go true false = refl
     go false true = refl
     go false false = refl
+
+pub rising-edge : (k : Channel) (c : Config) (a v : ℕ) → not (on k c) && on k (writeAt c a v) ≡ eqb a (registerOf k) && (not (on k c) && eqb (v % 2) 1)
+rising-edge k c a v = ap (λ (t : Bool). not (on k c) && t) (enable-written k c a v) ∙ go (eqb a (registerOf k)) (on k c)
+  where
+    go : (t was : Bool) → not was && pick t (eqb (v % 2) 1) was ≡ t && (not was && eqb (v % 2) 1)
+    go true was = refl
+    go false true = refl
+    go false false = refl
+
+-- a written register's edge, by the command's bytes
+pub disabling : (k : Channel) (s : State) (b : List ℕ) (a v : ℕ) → Writes b a v → disables k s b ≡ on k (s .config) && not (on k (writeAt (s .config) a v))
+disabling k s b a v h =
+    ap (λ (op : ℕ). eqb op 0x22 && (eqb (registerAt b) (registerOf k) && (on k (s .config) && eqb (registerValue b % 2) 0))) (h .opcode)
+    ∙ ap₂ (λ (x y : ℕ). eqb x (registerOf k) && (on k (s .config) && eqb (y % 2) 0)) (sym (h .address)) (sym (h .value))
+    ∙ sym (falling-edge k (s .config) a v)
 
 -- ---- a run without an event, call by call
 
