@@ -27,3 +27,4 @@ pub mod Sound
 pub mod SoundRegisters
 pub mod SoundMeans
 pub mod WireView
+pub mod Bound

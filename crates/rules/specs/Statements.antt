@@ -17,3 +17,4 @@ pub mod Sound
 pub mod SoundMeans
 pub mod WireEvents
 pub mod WireView
+pub mod Bound

@@ -1,15 +1,20 @@
 -- The wires' view: one sweep over the case law, reading channel 1's law; whatever another channel does leaves the wires.
-use Prim.Native.Nat.{ℕ, _%_, _≤_}
+use Prim.Native.Nat.{ℕ, _-_, _%_, _≤_}
 use mathlib.Core.Bool.{Bool, true, false, _&&_, _||_, not, true≢false}
 use mathlib.Core.List.{List, _∷_}
 use mathlib.Core.Path.{_≡_, refl, sym, ap, ap₂, subst, _∙_}
 use native.Mathlib.Omega.{arith}
 use lib.Dec.{eqb}
+use lib.ListN.{length}
 use borrow.Author.Tests.{ne-eqb, eqb-true, eqb-false}
 use Rattle.base.specs.Pick.{pick}
 use Rattle.registers.specs.Registers.{writeAt}
 use Rattle.wires.specs.Groups as G
-use Rattle.wires.specs.Groups.{packetOf, packetBytes, afterSent}
+use Rattle.wires.specs.Groups.{packetOf, packetBytes, afterSent, anyPending, wholeWires}
+use Rattle.wires.specs.Kept as K
+use Rattle.wires.specs.Sent.{pairBytes, sent-bytes, sent-none}
+use Rattle.wires.specs.declared.Wires.{Wires}
+use Rattle.sound.specs.Sound.{Sound}
 use Rattle.state.specs.Status.{status}
 use Rattle.state.specs.declared.State.{State}
 use Rattle.rules.specs.Rules.Reset.{Reset, start, espiReset, platformReset}
@@ -31,6 +36,7 @@ use Rattle.rules.specs.Statements.Apart.{isOpcodeOf}
 use Rattle.rules.specs.Statements.WireEvents.{WireEvent, idle, puts, gets, enables, ends, switchesOn, commandWire, boardWire, acceptedWire, wireEventOf, wiresOf}
 use Rattle.rules.specs.Statements.WireView.{WireMove, still, put, sent, set, enabled, disabled, wiped, platformWiped, WireView}
 use Rattle.rules.specs.Proofs.Cases.{cases}
+use Rattle.rules.specs.Proofs.SoundParts.{parts}
 use Rattle.rules.specs.Proofs.Reads.{reads}
 use Rattle.rules.specs.Proofs.Events.{rising-edge, disabling}
 use Rattle.rules.specs.Proofs.Lift.{own-or-other, part-stays}
@@ -231,3 +237,20 @@ module _ (w : World) where
 
 pub wire-view : WireView
 wire-view w c = seen-case w (cases w c)
+
+-- ---- what a sound state says of its wires
+
+pub wires-sound : (w : World) → Sound (w .state) → K.Sound (on wires (w .state .config)) (wiresOf w)
+wires-sound w s = K.sound-view (on wires (w .state .config)) (wiresOf w) (parts s .each wires .right)
+
+pub wires-whole : (w : World) → Sound (w .state) → wholeWires (wiresOf w) ≡ true
+wires-whole w s = parts s .each wires .fit
+
+-- what is sent is not empty, so something is pending and the body is the count less one and the pairs
+pub sent-body : (v : Wires) (n k : ℕ) (ks : List ℕ) → 4 ≤ v .place → v .place ≤ 6 → 1 ≤ n → G.sent v n ≡ k ∷ ks
+    → packetBytes (packetOf v (G.sent v n)) ≡ (length (G.sent v n) - 1) ∷ pairBytes v (G.sent v n)
+sent-body v n k ks h l c e = go (anyPending v) refl
+  where
+    go : (t : Bool) → anyPending v ≡ t → packetBytes (packetOf v (G.sent v n)) ≡ (length (G.sent v n) - 1) ∷ pairBytes v (G.sent v n)
+    go true q = sent-bytes v n c h l q
+    go false q = let z : _≡_ {A = ℕ} 0 1 = cc (sent-none v n h l q) in absurd (omega arith)
