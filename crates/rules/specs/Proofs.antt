@@ -28,3 +28,4 @@ pub mod SoundRegisters
 pub mod SoundMeans
 pub mod WireView
 pub mod Bound
+pub mod WireSteps

@@ -18,3 +18,4 @@ pub mod SoundMeans
 pub mod WireEvents
 pub mod WireView
 pub mod Bound
+pub mod WireSteps

@@ -40,7 +40,7 @@ use Rattle.rules.specs.Proofs.Peripheral.Apart as P₁
 use Rattle.rules.specs.Proofs.Wires.Apart as W₁
 use Rattle.rules.specs.Proofs.Whose.{begins, own-command, no-set, no-reset}
 use Rattle.rules.specs.Proofs.Both.{both}
-use Rattle.rules.specs.Proofs.Lift.{part-stays, lift-change, put-config, put-both, part-each, same-is, planned}
+use Rattle.rules.specs.Proofs.Lift.{out-change, part-stays, lift-change, put-config, put-both, part-each, same-is, planned}
 use Rattle.rules.specs.Proofs.Reads.{reads}
 use Rattle.rules.specs.Proofs.Reply.{closed-as, closed-length, bit-below, status-small, over-long}
 use Rattle.rules.specs.declared.Body.{Body}
@@ -324,10 +324,6 @@ module _ (b write read : List ℕ) where
   stores-own k wires kept o e = (refl, refl)
   stores-own peripheral peripheral kept o e = absurd (true≢false e)
   stores-own wires peripheral kept o e = W₁.kept-none (StoresStay peripheral) kept b o (refl, refl)
-
-out-change : (k : Channel) (q : Part k) (out : Out) → outOf k (change k q out) ≡ out
-out-change peripheral q out = refl
-out-change wires q out = refl
 
 module _ (k : Channel) (w : World) where
   acts-own : (b r : List ℕ) {p : Part k} {a : Act k} {c : Change k} → Acts k p a c → shortStores r w ≡ false → Alike k (exchanged w b (lift k (w .state) c) .next) w

@@ -2,11 +2,11 @@
 use Prim.Native.Nat.{ℕ, zero, suc}
 use mathlib.Core.Bool.{Bool, true, false, true≢false}
 use mathlib.Core.Path.{_≡_, refl, sym, ap, subst, _∙_}
-use borrow.Author.Tests.{eq-eqb, eqb-true}
+use borrow.Author.Tests.{eq-eqb, ne-eqb, eqb-true, eqb-false}
 use Rattle.registers.specs.declared.Config.{Config}
 use Rattle.state.specs.Status.{status}
 use Rattle.state.specs.declared.State.{State}
-use Rattle.rules.specs.Rules.Channel.{Channel, peripheral, wires, Part, change, part, put, each, channelNumber, same}
+use Rattle.rules.specs.Rules.Channel.{Channel, peripheral, wires, Part, change, outOf, part, put, each, channelNumber, same}
 use Rattle.rules.specs.Rules.Lift.{lift, withStatus}
 use Rattle.rules.specs.declared.Out.{Out}
 use Rattle.rules.specs.declared.Plan.{Plan}
@@ -19,6 +19,10 @@ pub lift-change : (k : Channel) (s : State) (q : Part k) (out : Out) → lift k 
 unfolding lift
 lift-change peripheral s q out = refl
 lift-change wires s q out = refl
+
+pub out-change : (k : Channel) (q : Part k) (out : Out) → outOf k (change k q out) ≡ out
+out-change peripheral q out = refl
+out-change wires q out = refl
 
 -- a part that stays
 pub put-same : (k : Channel) (s : State) → put k (part k s) s ≡ s
@@ -63,6 +67,9 @@ same-self x = eq-eqb (channelNumber x) (channelNumber x) refl
 
 pub same-is : (x y : Channel) → same x y ≡ true → y ≡ x
 same-is x y e = sym (number-back y) ∙ ap channelAt (sym (eqb-true (channelNumber x) (channelNumber y) e)) ∙ number-back x
+
+pub same-turned : (x k : Channel) → same x k ≡ false → same k x ≡ false
+same-turned x k e = ne-eqb (channelNumber k) (channelNumber x) (λ q. eqb-false (channelNumber x) (channelNumber k) e (sym q))
 
 -- a channel, or another
 pub own-or-other : (x : Channel) (Q : Channel → Type 0) → Q x → ((k : Channel) → same x k ≡ false → Q k) → (k : Channel) → Q k

@@ -6,7 +6,7 @@ use mathlib.Core.Path.{_≡_, refl, sym, ap, ap₂, subst, _∙_}
 use native.Mathlib.Omega.{arith}
 use lib.Dec.{eqb}
 use lib.ListN.{length}
-use borrow.Author.Tests.{ne-eqb, eqb-true, eqb-false}
+use borrow.Author.Tests.{ne-eqb, eqb-true}
 use Rattle.base.specs.Pick.{pick}
 use Rattle.registers.specs.Registers.{writeAt}
 use Rattle.wires.specs.Groups as G
@@ -20,7 +20,7 @@ use Rattle.state.specs.declared.State.{State}
 use Rattle.rules.specs.Rules.Reset.{Reset, start, espiReset, platformReset}
 use Rattle.rules.specs.Rules.Wires as W₀
 use Rattle.rules.specs.Rules.Channel as N
-use Rattle.rules.specs.Rules.Channel.{Channel, peripheral, wires, Command, Board, Change, nextOf, part, on, actOf, channelNumber, same}
+use Rattle.rules.specs.Rules.Channel.{Channel, peripheral, wires, Command, Board, Change, nextOf, part, on, actOf, same}
 use Rattle.rules.specs.Rules.Lift.{lift, show, acceptThen}
 use Rattle.rules.specs.Rules.Exchange.{reconfigured, wasReset}
 use Rattle.rules.specs.Rules.Reply.{closed, replyBytes}
@@ -39,7 +39,7 @@ use Rattle.rules.specs.Proofs.Cases.{cases}
 use Rattle.rules.specs.Proofs.SoundParts.{parts}
 use Rattle.rules.specs.Proofs.Reads.{reads}
 use Rattle.rules.specs.Proofs.Events.{rising-edge, disabling}
-use Rattle.rules.specs.Proofs.Lift.{own-or-other, part-stays}
+use Rattle.rules.specs.Proofs.Lift.{same-turned, own-or-other, part-stays}
 use Rattle.rules.specs.Proofs.Whose.{opcode-of, own-opcode, no-set}
 use Rattle.rules.specs.declared.WiresChange.{WiresChange}
 use Rattle.rules.specs.declared.Body.{Body}
@@ -104,9 +104,6 @@ board-other : (k : Channel) → same wires k ≡ false → (o : Board k) → boa
 board-other peripheral n o = refl
 board-other wires n o = absurd (true≢false n)
 
-same-turned : (x k : Channel) → same x k ≡ false → same k x ≡ false
-same-turned x k e = ne-eqb (channelNumber k) (channelNumber x) (λ q. eqb-false (channelNumber x) (channelNumber k) e (sym q))
-
 module _ (w : World) where
   lift-wires : (k : Channel) → same wires k ≡ false → (b : List ℕ) (x : Change k) → wiresOf (exchanged w b (lift k (w .state) x) .next) ≡ wiresOf w
   unfolding exchanged lift
@@ -119,7 +116,7 @@ module _ (w : World) where
   abbrev Seen : Call → Outcome → Type 0
   Seen c o = WireMove w c o (wireEventOf (w .state) c o)
 
-  command-event : (b r : List ℕ) (op : ℕ) (e : WireEvent) → byte b 0 ≡ op → eqb op 0x22 ≡ false → pick (eqb op 0x04) puts (pick (eqb op 0x05) gets idle) ≡ e
+  pub command-event : (b r : List ℕ) (op : ℕ) (e : WireEvent) → byte b 0 ≡ op → eqb op 0x22 ≡ false → pick (eqb op 0x04) puts (pick (eqb op 0x05) gets idle) ≡ e
       → (o : Outcome) → accepted o ≡ true → wireEventOf (w .state) (exchange b r) o ≡ e
   command-event b r op e h n f o q =
       let k = not-22 b op h n in
