@@ -73,8 +73,8 @@ module _ (s : State) (b r : List ℕ) (write : eqb (byte b 0) 0x22 ≡ false) wh
 
   by-byte : commandWire s b ≡ pick (eqb (byte b 0) 0x04) puts (pick (eqb (byte b 0) 0x05) gets idle)
   by-byte =
-      ap (λ (t : Bool). pick (eqb (byte b 0) 0x04) puts (pick (eqb (byte b 0) 0x05) gets (pick (t && (eqb (registerAt b) (registerOf wires) && (not (on wires (s .config)) && eqb (registerValue b % 2) 1))) enables idle)))
-      write
+      ap (λ (t : Bool). pick (eqb (byte b 0) 0x04) puts (pick (eqb (byte b 0) 0x05) gets (pick t enables idle)))
+      (ap (λ (t : Bool). t && (eqb (registerAt b) (registerOf wires) && (not (on wires (s .config)) && eqb (registerValue b % 2) 1))) write)
 
   quiet-exchange : (o : Outcome) → isChannel1 (byte b 0) ≡ false → wireEventOf s (exchange b r) o ≡ idle
   quiet-exchange o e = quiet-wire s (exchange b r) o no-disabling (by-byte ∙ go (eqb (byte b 0) 0x04) (eqb (byte b 0) 0x05) e)
@@ -125,7 +125,8 @@ module _ (w : World) where
 
   -- ---- above all channels
 
-  quiet-seen : (b r : List ℕ) (o : Outcome) (op : ℕ) → byte b 0 ≡ op → eqb op 0x22 ≡ false → isChannel1 op ≡ false → wiresOf (o .next) ≡ wiresOf w → Seen (exchange b r) o
+  quiet-seen : (b r : List ℕ) (o : Outcome) (op : ℕ) → byte b 0 ≡ op → eqb op 0x22 ≡ false → isChannel1 op ≡ false → wiresOf (o .next) ≡ wiresOf w
+      → Seen (exchange b r) o
   quiet-seen b r o op e f g h = as-is (quiet-exchange (w .state) b r (not-22 b op e f) o (ap isChannel1 e ∙ g)) (still h)
 
   silent-seen : (c : Call) (n : ℕ) → 10 ≤ n → Seen c (only n w)
@@ -180,7 +181,8 @@ module _ (w : World) where
 
   -- ---- channel 1
 
-  acted-seen : (b r : List ℕ) {a : W₀.Act} {x : WiresChange} → W.Did (w .state .config) (wiresOf w) a x → R.Wires b a → Seen (exchange b r) (exchanged w b (lift wires (w .state) x))
+  acted-seen : (b r : List ℕ) {a : W₀.Act} {x : WiresChange} → W.Did (w .state .config) (wiresOf w) a x → R.Wires b a
+      → Seen (exchange b r) (exchanged w b (lift wires (w .state) x))
   unfolding exchanged lift replyBytes
   acted-seen b r (W.overCount e) h = as-is (refused-wire (w .state) (exchange b r) _ refl) (still refl)
   acted-seen b r (W.put e) (R.Wires.puts h) = as-is (command-event b r 0x04 puts h refl refl _ refl) (put b r refl refl)
@@ -191,7 +193,8 @@ module _ (w : World) where
       as-is (command-event b r 0x05 gets h refl refl _ refl)
       (sent k ks e (ap (afterSent v) (sym e)) (ap (λ (l : List ℕ). closed (0x08 ∷ packetBytes (packetOf v l)) t) (sym e)))
 
-  settled-seen : {o : W₀.Board} {x : WiresChange} → W.Settled (w .state .config) (wiresOf w) o x → Seen (board wires o) (settled wires w o (lift wires (w .state) x))
+  settled-seen : {o : W₀.Board} {x : WiresChange} → W.Settled (w .state .config) (wiresOf w) o x
+      → Seen (board wires o) (settled wires w o (lift wires (w .state) x))
   unfolding settled lift wireEventOf
   settled-seen (W.notBoards e) = still refl
   settled-seen (W.set {index = i} {bit = bit} {value = value} e) = set i bit value refl e refl
@@ -214,7 +217,8 @@ module _ (w : World) where
           let c = opcode-of k (w .state) b o e in
           as-is (quiet-exchange (w .state) b r (never-set k (byte b 0) c) _ (own-opcode wires k (byte b 0) c ∙ n)) (still (lift-wires k n b x))
 
-  any-settled : (k : Channel) (o : Board k) (x : Change k) → Settled k (w .state .config) (part k (w .state)) o x → Seen (board k o) (settled k w o (lift k (w .state) x))
+  any-settled : (k : Channel) (o : Board k) (x : Change k) → Settled k (w .state .config) (part k (w .state)) o x
+      → Seen (board k o) (settled k w o (lift k (w .state) x))
   any-settled =
       own-or-other wires (λ (k : Channel). (o : Board k) (x : Change k) → Settled k (w .state .config) (part k (w .state)) o x → Seen (board k o) (settled k w o (lift k (w .state) x)))
       (λ o x d. settled-seen d)

@@ -30,7 +30,8 @@ opcode {b = b} (R.Peripheral.asks h) = go (isPosted (byte b 0)) (isNonPosted (by
 opcode (R.Peripheral.gets e) = rw e
 
 -- number 10 of its calls goes by its own stores
-pub short-alike : (w v : World) (o : P₀.Board) → storesOf peripheral (w .write) (w .read) ≡ storesOf peripheral (v .write) (v .read) → shortPeripheral o w ≡ shortPeripheral o v
+pub short-alike : (w v : World) (o : P₀.Board) → storesOf peripheral (w .write) (w .read) ≡ storesOf peripheral (v .write) (v .read)
+    → shortPeripheral o w ≡ shortPeripheral o v
 short-alike w v (P₀.look report) e = refl
 short-alike w v (P₀.answer serial success d) e = ap (λ (l : List (List ℕ)). ltb (length (getD l 1 [])) readLength) e
 short-alike w v (P₀.takeWrite report) e = ap (λ (l : List (List ℕ)). ltb (length (getD l 0 [])) writeLength || ltb (length report) takeLength) e
