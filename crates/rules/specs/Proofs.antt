@@ -20,8 +20,6 @@ pub mod Whose
 pub mod Apart
 pub mod Shape
 pub mod SoundBytes
-pub mod SoundPeripheral
-pub mod SoundWires
 pub mod SoundParts
 pub mod Sound
 pub mod SoundRegisters
@@ -29,3 +27,8 @@ pub mod SoundMeans
 pub mod WireView
 pub mod Bound
 pub mod WireSteps
+pub mod Vectors
+pub mod Becomes
+pub mod Effects
+pub mod ConfigWrites
+pub mod Replies

@@ -1,5 +1,9 @@
 -- Channel 1's law: the one file that unfolds its decisions.
 pub mod Apart
+pub mod Effects
+pub mod Lawful
+pub mod Shape
+pub mod Sound
 use Prim.Native.Nat.{ℕ}
 use mathlib.Core.Bool.{Bool, true, false, not}
 use mathlib.Core.List.{List, [], _∷_}
