@@ -28,14 +28,16 @@ use Rattle.rules.specs.Statements.Plans.{Settled, Admits}
 use Rattle.rules.specs.Statements.Channels.{Acts, Settles}
 use Rattle.rules.specs.Statements.Channels as L
 use Rattle.rules.specs.Statements.Fields.{byte}
+use Rattle.rules.specs.Statements.Sizes.{isOf}
 use Rattle.rules.specs.Statements.Both as T
 use Rattle.rules.specs.Statements.Both.{Both, SameRoom}
-use Rattle.rules.specs.Statements.Apart.{isOpcodeOf, storesOf, clear, isCommandOf, isOf, others, replyBut, Seen, seen, seeing, RunsAlike, StatesAlike, Alike, NoneTells, SameButWires, WiresApart, SameButPeripheral, PeripheralApart}
+use Rattle.rules.specs.Statements.Apart.{storesOf, clear, isCommandOf, isCallOf, others, replyBut, Seen, seen, seeing, RunsAlike, StatesAlike, Alike, NoneTells, SameButWires, WiresApart, SameButPeripheral, PeripheralApart}
 use Rattle.rules.specs.Proofs.Plans as Q
 use Rattle.rules.specs.Proofs.Channels as L₁
 use Rattle.rules.specs.Proofs.Peripheral.Apart as P₁
 use Rattle.rules.specs.Proofs.Wires.Apart as W₁
-use Rattle.rules.specs.Proofs.Whose.{begins, own-command, no-set, no-reset}
+use Rattle.rules.specs.Proofs.Whose.{begins, own-command}
+use Rattle.rules.specs.Proofs.Effects.{above}
 use Rattle.rules.specs.Proofs.Both.{both}
 use Rattle.rules.specs.Proofs.Lift.{out-change, part-stays, lift-change, put-config, put-both, part-each, same-is, planned}
 use Rattle.rules.specs.Proofs.Reads.{reads}
@@ -281,7 +283,7 @@ module _ (x : Channel) (w v : World) (h : Alike x w v) where
       each-alike x _ _ _ _ (w .state) (v .state) (ap (λ (c : Config). writeAt c a n) (h .state .config))
       (λ k p. ap (λ (c : Config). edge k (on k c) (on k (writeAt c a n)) p) (h .state .config)) (h .state)
 
-  other-call : {c : Call} {o q : Outcome} → Both w v c o q → isOf x c ≡ false → Together x o q
+  other-call : {c : Call} {o q : Outcome} → Both w v c o q → isCallOf x c ≡ false → Together x o q
   unfolding seen
   other-call (T.idle n) e = record { shows = refl; next = h }
   other-call (T.status {b = b}) e = above-together b 0 (Y.Said Accept B.Nothing) (w .state) (v .state) (h .state) refl
@@ -367,10 +369,10 @@ module _ (k : Channel) (w : World) where
       kept-own (L.Settles.accepted q kept n) = ap (λ (out : Out). ownKept k (out .kept)) (out-change k q _) ∙ n
 
 module _ (x : Channel) (w : World) where
-  no-command : (b : List ℕ) (o : C₀.Command) (op : ℕ) → Admits (w .state) b o → byte b 0 ≡ op → isOpcodeOf x op ≡ false → isCommandOf x b ≡ true → ⊥
-  no-command b o op a e f g = true≢false (sym g ∙ begins x (w .state) b o a ∙ ap (isOpcodeOf x) e ∙ f)
+  no-command : (b : List ℕ) (o : C₀.Command) (op : ℕ) → Admits (w .state) b o → byte b 0 ≡ op → isOf x op ≡ false → isCommandOf x b ≡ true → ⊥
+  no-command b o op a e f g = true≢false (sym g ∙ begins x (w .state) b o a ∙ ap (isOf x) e ∙ f)
 
-  own-call : {c : Call} {o q : Outcome} → Both w w c o q → isOf x c ≡ true → Alike x (o .next) w
+  own-call : {c : Call} {o q : Outcome} → Both w w c o q → isCallOf x c ≡ true → Alike x (o .next) w
   unfolding exchanged over
   own-call (T.idle n) e = self x w
   own-call T.status e = self x w
@@ -381,14 +383,14 @@ module _ (x : Channel) (w : World) where
   own-call (T.settles k o s) e =
       subst (λ (z : Channel). Alike z (T.boarded k o w .next) w) (same-is x k e) (settled-own k w o _ (Q.settled k _ _ o) s)
   own-call T.forbidden e = self x w
-  own-call (T.configured {b = b} a n r) e = absurd (no-command b _ 0x22 r (reads (w .state) b _ r .opcode) (no-set x) e)
-  own-call (T.cleared {b = b} r) e = absurd (no-command b _ 0xFF r (reads (w .state) b _ r) (no-reset x) e)
+  own-call (T.configured {b = b} a n r) e = absurd (no-command b _ 0x22 r (reads (w .state) b _ r .opcode) (above x .at22) e)
+  own-call (T.cleared {b = b} r) e = absurd (no-command b _ 0xFF r (reads (w .state) b _ r) (above x .atFF) e)
   own-call T.wiped e = absurd (true≢false (sym e))
   own-call T.lent e = absurd (true≢false (sym e))
 
 -- ---- runs: a run shows what it shows without x's calls
 
-same-room : (x : Channel) (w v : World) → Alike x w v → (c : Call) → isOf x c ≡ false → SameRoom w v c
+same-room : (x : Channel) (w v : World) → Alike x w v → (c : Call) → isCallOf x c ≡ false → SameRoom w v c
 same-room x w v h (reset r) e = tt
 same-room x w v h (exchange b r) e = h .room r
 same-room x w v h (board k o) e = short-alike k o (h .stores k e)
@@ -400,19 +402,19 @@ same-room x w v h (short state c) e = tt
 same-room x w v h (lend write read) e = tt
 
 module _ (x : Channel) (w : World) (c : Call) (cs : List Call) where
-  others-own : isOf x c ≡ true → others x (c ∷ cs) ≡ others x cs
+  others-own : isCallOf x c ≡ true → others x (c ∷ cs) ≡ others x cs
   unfolding others
   others-own e = rw e
 
-  others-other : isOf x c ≡ false → others x (c ∷ cs) ≡ c ∷ others x cs
+  others-other : isCallOf x c ≡ false → others x (c ∷ cs) ≡ c ∷ others x cs
   unfolding others
   others-other e = rw e
 
-  seeing-own : isOf x c ≡ true → seeing x w (c ∷ cs) ≡ seeing x (step w c .next) cs
+  seeing-own : isCallOf x c ≡ true → seeing x w (c ∷ cs) ≡ seeing x (step w c .next) cs
   unfolding seeing
   seeing-own e = rw e
 
-  seeing-other : isOf x c ≡ false → seeing x w (c ∷ cs) ≡ seen x (step w c) ∷ seeing x (step w c .next) cs
+  seeing-other : isCallOf x c ≡ false → seeing x w (c ∷ cs) ≡ seen x (step w c) ∷ seeing x (step w c .next) cs
   unfolding seeing
   seeing-other e = rw e
 
@@ -426,9 +428,9 @@ self-room w (lend write read) = tt
 sifted : (x : Channel) (cs : List Call) (w v : World) → Alike x w v → RunsAlike x (Alike x) w v cs (others x cs)
 unfolding others seeing run
 sifted x [] w v h = record { calls = refl; after = h }
-sifted x (c ∷ cs) w v h = go (isOf x c) refl (sifted x cs)
+sifted x (c ∷ cs) w v h = go (isCallOf x c) refl (sifted x cs)
   where
-    go : (t : Bool) → isOf x c ≡ t → ((w v : World) → Alike x w v → RunsAlike x (Alike x) w v cs (others x cs))
+    go : (t : Bool) → isCallOf x c ≡ t → ((w v : World) → Alike x w v → RunsAlike x (Alike x) w v cs (others x cs))
         → RunsAlike x (Alike x) w v (c ∷ cs) (others x (c ∷ cs))
     go true e rest =
         let r = rest (step w c .next) v (joined (own-call x w (both w w c refl (self-room w c)) e) h) in

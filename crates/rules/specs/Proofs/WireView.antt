@@ -32,7 +32,7 @@ use Rattle.rules.specs.Statements.Cases.{Case}
 use Rattle.rules.specs.Statements.Events.{accepted, ending, disables, registerOf}
 use Rattle.rules.specs.Statements.Fields.{byte, isChannel1, registerAt, registerValue}
 use Rattle.rules.specs.Statements.Reads as R
-use Rattle.rules.specs.Statements.Apart.{isOpcodeOf}
+use Rattle.rules.specs.Statements.Sizes.{isOf}
 use Rattle.rules.specs.Statements.WireEvents.{WireEvent, idle, puts, gets, enables, ends, switchesOn, commandWire, boardWire, acceptedWire, wireEventOf, wiresOf}
 use Rattle.rules.specs.Statements.WireView.{WireMove, still, put, sent, set, enabled, disabled, wiped, platformWiped, WireView}
 use Rattle.rules.specs.Proofs.Cases.{cases}
@@ -40,7 +40,8 @@ use Rattle.rules.specs.Proofs.SoundParts.{parts}
 use Rattle.rules.specs.Proofs.Reads.{reads}
 use Rattle.rules.specs.Proofs.Events.{rising-edge, disabling}
 use Rattle.rules.specs.Proofs.Lift.{same-turned, own-or-other, part-stays}
-use Rattle.rules.specs.Proofs.Whose.{opcode-of, own-opcode, no-set}
+use Rattle.rules.specs.Proofs.Effects.{command-own, above}
+use Rattle.rules.specs.Proofs.Whose.{own-opcode}
 use Rattle.rules.specs.declared.WiresChange.{WiresChange}
 use Rattle.rules.specs.declared.Body.{Body}
 
@@ -93,11 +94,11 @@ as-is {w} {c} {o} q m = subst (WireMove w c o) (sym q) m
 
 -- ---- another channel's change
 
-never-set : (k : Channel) (op : ℕ) → isOpcodeOf k op ≡ true → eqb op 0x22 ≡ false
+never-set : (k : Channel) (op : ℕ) → isOf k op ≡ true → eqb op 0x22 ≡ false
 never-set k op e = go (eqb op 0x22) refl
   where
     go : (t : Bool) → eqb op 0x22 ≡ t → t ≡ false
-    go true f = absurd (true≢false (sym e ∙ ap (isOpcodeOf k) (eqb-true op 0x22 f) ∙ no-set k))
+    go true f = absurd (true≢false (sym e ∙ ap (isOf k) (eqb-true op 0x22 f) ∙ above k .at22))
     go false f = refl
 
 board-other : (k : Channel) → same wires k ≡ false → (o : Board k) → boardWire k o ≡ idle
@@ -214,7 +215,7 @@ module _ (w : World) where
       others : (k : Channel) → same wires k ≡ false → (o : Command k) (x : Change k) → Admits (w .state) b (commandOf k o)
           → Did k (w .state .config) (part k (w .state)) (actOf k (w .state .config) o b) x → Seen (exchange b r) (exchanged w b (lift k (w .state) x))
       others k n o x e d =
-          let c = opcode-of k (w .state) b o e in
+          let c = command-own k (w .state) b o e in
           as-is (quiet-exchange (w .state) b r (never-set k (byte b 0) c) _ (own-opcode wires k (byte b 0) c ∙ n)) (still (lift-wires k n b x))
 
   any-settled : (k : Channel) (o : Board k) (x : Change k) → Settled k (w .state .config) (part k (w .state)) o x
