@@ -21,8 +21,8 @@ use Rattle.command.specs.declared.Decoded.the-variants.{Known, Refused}
 use Rattle.command.specs.declared.Opcode.{Opcode}
 use Rattle.command.specs.declared.Opcode.the-variants as O
 use Rattle.state.specs.declared.State.{State}
-use Rattle.sound.specs.Facts.{sound-wires}
-use Rattle.sound.specs.Sound.{sound}
+use Rattle.state.specs.Facts.{sound-wires}
+use Rattle.state.specs.Sound.{sound}
 use Rattle.rules.specs.Rules.Channel.{Channel, peripheral, wires, on}
 use Rattle.rules.specs.Rules.Lift.{lift}
 use Rattle.rules.specs.Rules.Exchange as E

@@ -13,12 +13,13 @@ use Rattle.command.specs.declared.Decoded.{Decoded}
 use Rattle.command.specs.declared.Decoded.the-variants.{Known, Refused}
 use Rattle.state.specs.declared.State.{State}
 use Rattle.rules.specs.Rules.Channel as N
-use Rattle.rules.specs.Rules.Channel.{Channel, peripheral, wires, Part, Act, Board, acting}
+use Rattle.rules.specs.Rules.Channel.{Channel, peripheral, wires, Part, Command, Act, Board, part, actOf, acting}
+use Rattle.rules.specs.Rules.Lift.{lift}
 use Rattle.rules.specs.Rules.Exchange as E
 use Rattle.rules.specs.Rules.Exchange.{channelsOf, byDecoded}
 use Rattle.rules.specs.Proofs.Peripheral as P
 use Rattle.rules.specs.Proofs.Wires as W
-use Rattle.rules.specs.Statements.Plans.{Did, Settled, Admits, Planned, turned, shows, acts, forbids, configures, clears, status, register, Plans}
+use Rattle.rules.specs.Statements.Plans.{Did, Settled, commandOf, Admits, Planned, turned, shows, acts, forbids, configures, clears, status, register, Plans}
 
 pub did : (k : Channel) (c : Config) (p : Part k) (a : Act k) → Did k c p a (acting k c p a)
 did peripheral = P.did
@@ -49,3 +50,10 @@ module _ (s : State) (b : List ℕ) where
 pub plans : Plans
 unfolding E.exchange
 plans s b = decoded-planned s b _ refl
+
+-- an admitted command of a channel is planned by it
+pub plan-admitted : (k : Channel) (s : State) (b : List ℕ) (o : Command k) → Admits s b (commandOf k o)
+    → E.exchange s b ≡ lift k s (acting k (s .config) (part k s) (actOf k (s .config) o b))
+unfolding E.exchange E.decide
+plan-admitted peripheral s b o e = rw e
+plan-admitted wires s b o e = rw e

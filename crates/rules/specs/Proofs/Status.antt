@@ -6,9 +6,11 @@ use mathlib.Core.Logic.{_↔_}
 use mathlib.Core.Path.{_≡_, refl, sym, ap, _∙_}
 use native.Mathlib.Omega.{arith}
 use Rattle.base.specs.Pick.{pick}
+use Rattle.base.specs.Bytes.{bit}
 use Rattle.registers.specs.Registers.{field}
 use Rattle.wires.specs.Groups.{anyPending}
-use Rattle.state.specs.Status.{status, bit, pcFree, npFree, pcAvail}
+use Rattle.peripheral.specs.Status.{pcFree, npFree, pcAvail}
+use Rattle.state.specs.Status.{status}
 use Rattle.state.specs.declared.State.{State}
 use Rattle.rules.specs.Rules.Step.{World}
 use Rattle.rules.specs.Statements.Fields.{byte}

@@ -14,7 +14,7 @@ use Rattle.base.specs.Bytes.{low2}
 use Rattle.crc.specs.Crc.{crc}
 use Rattle.state.specs.Status.{status}
 use Rattle.state.specs.declared.State.{State}
-use Rattle.sound.specs.Sound.{Sound}
+use Rattle.state.specs.Sound.{Sound}
 use Rattle.rules.specs.Rules.Channel.{Channel, peripheral, wires, Command, nextOf, outOf, put}
 use Rattle.rules.specs.Rules.Lift.{lift, withStatus}
 use Rattle.rules.specs.Rules.Exchange as E

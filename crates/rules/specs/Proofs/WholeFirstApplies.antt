@@ -8,8 +8,8 @@ use lib.Dec.{ltb}
 use lib.ListN.{length}
 use borrow.Author.Tests.{not-false, ltb-false}
 use Rattle.registers.specs.declared.Config.{Config}
-use Rattle.layout.specs.Layout.{stateLength, unpacked, holds}
-use Rattle.layout.specs.Packing.{holds-sound}
+use Rattle.state.specs.Layout.{stateLength, unpacked, holds}
+use Rattle.state.specs.Packing.{holds-sound}
 use Rattle.rules.specs.Rules.Reset.{Reset, espiReset, platformReset}
 use Rattle.rules.specs.Rules.Peripheral.{look, answer, takeWrite}
 use Rattle.rules.specs.Rules.Wires.{setWire, readWire}

@@ -9,7 +9,7 @@ use lib.ListN.{length}
 use Rattle.registers.specs.Registers.{bits}
 use Rattle.registers.specs.declared.Config.{Config}
 use Rattle.state.specs.declared.State.{State}
-use Rattle.layout.specs.Layout.{stateLength, unpacked, holds}
+use Rattle.state.specs.Layout.{stateLength, unpacked, holds}
 use Rattle.rules.specs.Rules.Peripheral.{look, answer, takeWrite}
 use Rattle.rules.specs.Rules.Wires.{setWire, readWire}
 use Rattle.rules.specs.Rules.Channel.{Channel, peripheral, wires, Part, Board, part}

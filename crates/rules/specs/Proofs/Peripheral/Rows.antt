@@ -12,18 +12,18 @@ use borrow.Author.Tests.{eqb-false, leb-true, leb-false, eq-eqb, ne-eqb, le-leb,
 use Rattle.base.specs.Pick.{pick, pick-ind, and-true, taken, passed}
 use Rattle.registers.specs.Registers.{bits, sizeOf, payloadSize, readSize}
 use Rattle.registers.specs.declared.Config.{Config}
-use Rattle.state.specs.Status.{pcFree, npFree, pcAvail, some}
-use Rattle.state.specs.Upward.{upward}
-use Rattle.state.specs.declared.Kind.{Kind}
-use Rattle.state.specs.declared.Kind.the-variants as R
-use Rattle.state.specs.declared.Request.{Request}
-use Rattle.state.specs.declared.Np.{Np}
-use Rattle.state.specs.declared.Np.the-variants.{Free, Waiting, Ready, Failed}
-use Rattle.state.specs.declared.Write.{Write}
-use Rattle.state.specs.declared.Write.the-variants.{Empty, Held}
-use Rattle.state.specs.declared.Peripheral.{Peripheral}
+use Rattle.peripheral.specs.Status.{pcFree, npFree, pcAvail, some}
+use Rattle.peripheral.specs.Upward.{upward}
+use Rattle.peripheral.specs.declared.Kind.{Kind}
+use Rattle.peripheral.specs.declared.Kind.the-variants as R
+use Rattle.peripheral.specs.declared.Request.{Request}
+use Rattle.peripheral.specs.declared.Np.{Np}
+use Rattle.peripheral.specs.declared.Np.the-variants.{Free, Waiting, Ready, Failed}
+use Rattle.peripheral.specs.declared.Write.{Write}
+use Rattle.peripheral.specs.declared.Write.the-variants.{Empty, Held}
+use Rattle.peripheral.specs.declared.Peripheral.{Peripheral}
+use Rattle.peripheral.specs.Sound.{within}
 use Rattle.state.specs.declared.State.{State}
-use Rattle.sound.specs.Sound.{within}
 use Rattle.rules.specs.Rules.Peripheral.{Act, posts, asks, gets, Board, sizeFor, succeeded, answerLength, bytesFor}
 use Rattle.rules.specs.Statements.Fields.{byte, isPosted, isNonPosted, lengthField, shortSize, accessAddress, accessLength}
 use Rattle.rules.specs.Statements.Reads as Read

@@ -8,14 +8,15 @@ use lib.Dec.{eqb}
 use lib.Pow.{pow-pos}
 use borrow.Author.Tests.{eq-eqb, le-leb}
 use Rattle.base.specs.Pick.{pick}
+use Rattle.base.specs.Bytes.{bit}
 use Rattle.crc.specs.Crc.{crc}
 use Rattle.registers.specs.Registers.{field, bits}
-use Rattle.state.specs.Status.{status, bit}
-use Rattle.state.specs.declared.Np.{Np}
-use Rattle.state.specs.declared.Write.{Write}
+use Rattle.peripheral.specs.declared.Np.{Np}
+use Rattle.peripheral.specs.declared.Write.{Write}
+use Rattle.state.specs.Status.{status}
 use Rattle.state.specs.declared.State.{State}
-use Rattle.sound.specs.Facts.{sound-off}
-use Rattle.sound.specs.Sound.{Sound}
+use Rattle.state.specs.Facts.{sound-off}
+use Rattle.state.specs.Sound.{Sound}
 use Rattle.rules.specs.Rules.Channel.{peripheral}
 use Rattle.rules.specs.Rules.Step.{World}
 use Rattle.rules.specs.Statements.Fields.{isPosted, isNonPosted}

@@ -8,8 +8,8 @@ use Rattle.base.specs.Pick.{pick, and-left, and-right}
 use Rattle.registers.specs.Registers.{on1}
 use Rattle.wires.specs.Groups.{anyPending, undefinedZero, marksRight, placeRight, markAt}
 use Rattle.state.specs.declared.State.{State}
-use Rattle.sound.specs.Facts.{sound-wires}
-use Rattle.sound.specs.Sound.{Sound}
+use Rattle.state.specs.Facts.{sound-wires}
+use Rattle.state.specs.Sound.{Sound}
 use Rattle.rules.specs.Rules.Channel.{wires}
 use Rattle.rules.specs.Rules.Step.{World}
 use Rattle.rules.specs.Statements.Sizes.{isEnabled}

@@ -6,13 +6,13 @@ use lib.Dec.{eqb, leb}
 use lib.ListN.{length}
 use Rattle.base.specs.Pick.{pick}
 use Rattle.registers.specs.declared.Config.{Config}
-use Rattle.state.specs.declared.Kind.{Kind}
-use Rattle.state.specs.declared.Kind.the-variants.{MemoryRead, IoRead, IoWrite}
-use Rattle.state.specs.declared.Np.{Np}
-use Rattle.state.specs.declared.Np.the-variants.{Free, Waiting, Ready, Failed}
-use Rattle.state.specs.declared.Write.{Write}
-use Rattle.state.specs.declared.Write.the-variants.{Empty, Held}
-use Rattle.state.specs.declared.Peripheral.{Peripheral}
+use Rattle.peripheral.specs.declared.Kind.{Kind}
+use Rattle.peripheral.specs.declared.Kind.the-variants.{MemoryRead, IoRead, IoWrite}
+use Rattle.peripheral.specs.declared.Np.{Np}
+use Rattle.peripheral.specs.declared.Np.the-variants.{Free, Waiting, Ready, Failed}
+use Rattle.peripheral.specs.declared.Write.{Write}
+use Rattle.peripheral.specs.declared.Write.the-variants.{Empty, Held}
+use Rattle.peripheral.specs.declared.Peripheral.{Peripheral}
 use Rattle.rules.specs.Rules.Peripheral.{Board, look, answer, takeWrite}
 use Rattle.rules.specs.Statements.Fields.{byte, isPosted, isNonPosted, isRead, isIoWrite, accessAddress, accessLength}
 use Rattle.rules.specs.Statements.Peripheral.{unanswered}

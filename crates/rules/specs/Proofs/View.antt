@@ -1,0 +1,300 @@
+-- The view: one sweep over the case law, reading channel 0's law; whatever another channel does leaves channel 0's part.
+use Prim.Native.Nat.{ℕ, _+_, _-_, _*_, _/_, _%_, _^_, _<_, _≤_}
+use mathlib.Core.Bool.{Bool, true, false, _&&_, not, true≢false}
+use mathlib.Core.List.{List, [], _∷_, _++_, append-assoc}
+use mathlib.Core.Path.{_≡_, refl, sym, ap, ap₂, _∙_, subst}
+use native.Mathlib.Omega.{arith}
+use lib.Dec.{eqb}
+use lib.ListN.{length, take, length-append}
+use lib.Seq.{getD-append-add, take-length}
+use borrow.Author.Tests.{ne-eqb}
+use Rattle.base.specs.Pick.{pick}
+use Rattle.base.specs.Bytes.{over, low2, bit-below, bit}
+use Rattle.crc.specs.Crc.{crc}
+use Rattle.registers.specs.Registers.{writeAt}
+use Rattle.registers.specs.declared.Config.{Config}
+use Rattle.wires.specs.Groups.{anyPending}
+use Rattle.peripheral.specs.Status.{npFree, pcFree, pcAvail}
+use Rattle.peripheral.specs.declared.Np.{Np}
+use Rattle.peripheral.specs.declared.Peripheral.{Peripheral}
+use Rattle.peripheral.specs.Facts.{no-request}
+use Rattle.peripheral.specs.Queues as F
+use Rattle.state.specs.Status.{status}
+use Rattle.state.specs.declared.State.{State}
+use Rattle.rules.specs.Rules.Reset.{Reset, start, espiReset, platformReset}
+use Rattle.rules.specs.Rules.Out.{fatal, number}
+use Rattle.rules.specs.Rules.Peripheral as P₀
+use Rattle.rules.specs.Rules.Channel.{Channel, peripheral, Command, Board, Change, nextOf, outOf, part, put, on, actOf, given, same}
+use Rattle.rules.specs.Rules.Lift.{lift, withStatus, show, nonFatal, acceptThen, quietly}
+use Rattle.rules.specs.Rules.Exchange.{reconfigured, reset008h, wasReset}
+use Rattle.rules.specs.Rules.Reply.{closed, replyBytes, keptBytes}
+use Rattle.rules.specs.Rules.Step.{World, Call, reset, exchange, board, lend, Outcome, step, only, withState, exchanged, settled}
+use Rattle.rules.specs.Statements.Peripheral as P
+use Rattle.rules.specs.Statements.Cases as C
+use Rattle.rules.specs.Statements.Cases.{Did, Settled, Admits, commandOf, Case}
+use Rattle.rules.specs.Statements.Channels.{Settles}
+use Rattle.rules.specs.Statements.Events.{accepted, ending, disables, registerOf}
+use Rattle.rules.specs.Statements.Fields.{byte, isPosted, isNonPosted, registerAt, registerValue}
+use Rattle.rules.specs.Statements.Reads as R
+use Rattle.rules.specs.Statements.Reads.{Writes}
+use Rattle.rules.specs.Statements.Requests.{Event, idle, asks, gets, ends, commandEvent, acceptedEvent, eventOf, event, held, statusIn}
+use Rattle.rules.specs.Statements.View.{Shown, Move, same as stays, asked, told, sent, lent, dropped, View}
+use Rattle.rules.specs.Proofs.Cases.{cases}
+use Rattle.rules.specs.Proofs.Channels as N
+use Rattle.rules.specs.Proofs.Fields.{one, by-posted}
+use Rattle.rules.specs.Proofs.Reads.{reads}
+use Rattle.rules.specs.Proofs.Events.{falling-edge}
+use Rattle.rules.specs.Proofs.Others.{by-channel, part-other, settles-other, Plain, plain, command-other, board-other}
+use Rattle.rules.specs.declared.PeripheralChange.{PeripheralChange}
+use Rattle.rules.specs.declared.Say.{Say}
+use Rattle.rules.specs.declared.Say.the-variants as S
+use Rattle.rules.specs.declared.Kept.{Kept}
+use Rattle.rules.specs.declared.Response.the-variants.{Accept, NonFatal}
+use Rattle.rules.specs.declared.Body.{Body}
+use Rattle.rules.specs.declared.Body.the-variants as B
+use Rattle.rules.specs.declared.Plan.{Plan}
+
+-- ---- the status that a reply shows
+
+record Bits (s : State) : Type 0 where
+  np : status s / 2 ^ 1 % 2 ≡ bit (npFree (s .peripheral .request))
+  pc : status s / 2 ^ 4 % 2 ≡ bit (pcAvail (s .peripheral .request))
+  below : status s < 256
+
+bits : (s : State) → Bits s
+unfolding status
+bits s =
+    let a = bit-below (pcFree (s .peripheral .write)) in
+    let b = bit-below (npFree (s .peripheral .request)) in
+    let c = bit-below (pcAvail (s .peripheral .request)) in
+    let d = bit-below (anyPending (s .wires)) in
+    record { np = omega (arith, a, b, c, d); pc = omega (arith, a, b, c, d); below = omega (arith, a, b, c, d) }
+
+quiet : {n : Np} → Shown n []
+quiet = record { np = λ h. absurd (omega arith); pc = λ h. absurd (omega arith) }
+
+-- the status stands before the CRC byte
+status-at : (m : List ℕ) (a b x : ℕ) → statusIn (m ++ (a ∷ b ∷ x ∷ [])) ≡ a + b * 256
+status-at m a b x =
+    let t = a ∷ b ∷ x ∷ [] in
+    let n = length-append m t in
+    let low : length (m ++ t) - 3 ≡ length m + 0 = omega arith in
+    let high : length (m ++ t) - 2 ≡ length m + 1 = omega arith in
+    rw (low, high, getD-append-add m t 0 0, getD-append-add m t 1 0)
+
+status-in : (m : List ℕ) (st : ℕ) → st < 256 → statusIn (closed m st) ≡ st
+unfolding closed
+status-in m st h = rw (append-assoc m (low2 st) (crc (m ++ low2 st) ∷ [])) (status-at m (st % 256) (st / 256 % 256) (crc (m ++ low2 st)) ∙ omega arith)
+
+-- a reply, where there is one, that shows the status of a state
+shown : (s : State) (say : Say) (read : List ℕ) → Shown (s .peripheral .request) (replyBytes (withStatus say (status s)) read)
+unfolding replyBytes
+shown s S.Silent read = quiet
+shown s (S.Said response body) read =
+    record { np = λ _. rw (status-in _ (status s) (bits s .below)) (bits s .np); pc = λ _. rw (status-in _ (status s) (bits s .below)) (bits s .pc) }
+
+-- ---- events
+
+refused-event : (s : State) (c : Call) (o : Outcome) → accepted o ≡ false → eventOf s c o ≡ idle
+unfolding eventOf
+refused-event s c o e = ap (λ (t : Bool). pick (t && ending peripheral s c) ends (pick t (acceptedEvent c) idle)) e
+
+accepted-event : (s : State) (c : Call) (o : Outcome) → accepted o ≡ true → eventOf s c o ≡ pick (ending peripheral s c) ends (acceptedEvent c)
+unfolding eventOf
+accepted-event s c o e = ap (λ (t : Bool). pick (t && ending peripheral s c) ends (pick t (acceptedEvent c) idle)) e
+
+no-disabling : (s : State) (b : List ℕ) → eqb (byte b 0) 0x22 ≡ false → disables peripheral s b ≡ false
+no-disabling s b e =
+    ap (λ (t : Bool). t && (eqb (registerAt b) (registerOf peripheral) && (on peripheral (s .config) && eqb (registerValue b % 2) 0))) e
+
+exchange-event : (s : State) (b r : List ℕ) (o : Outcome) → accepted o ≡ true → eqb (byte b 0) 0x22 ≡ false → eventOf s (exchange b r) o ≡ commandEvent b
+exchange-event s b r o e f = accepted-event s (exchange b r) o e ∙ ap (λ (t : Bool). pick t ends (commandEvent b)) (no-disabling s b f)
+
+plain-event : (s : State) (b r : List ℕ) (o : Outcome) → Plain b → eventOf s (exchange b r) o ≡ idle
+plain-event s b r o p = go (accepted o) refl
+  where
+    go : (t : Bool) → accepted o ≡ t → eventOf s (exchange b r) o ≡ idle
+    go true e = exchange-event s b r o e (p .write) ∙ p .event
+    go false e = refused-event s (exchange b r) o e
+
+-- an opcode of a kind is none outside it
+outside : (p : ℕ → Bool) (op n : ℕ) → p n ≡ false → p op ≡ true → eqb op n ≡ false
+outside p op n f = one (λ (x : ℕ). p x ≡ true → eqb x n ≡ false) op n (λ t. absurd (true≢false (sym t ∙ f))) (λ e _. e)
+
+posted-plain : (b : List ℕ) → isPosted (byte b 0) ≡ true → Plain b
+posted-plain b h =
+    by-posted (λ (op : ℕ). byte b 0 ≡ op → Plain b) (λ e. plain b 0x00 e refl refl) (λ e. plain b 0x4C e refl refl) (λ e. plain b 0x4D e refl refl)
+    (λ e. plain b 0x4F e refl refl) (byte b 0) h refl
+
+asked-event : (s : State) (b r : List ℕ) (o : Outcome) → accepted o ≡ true → isNonPosted (byte b 0) ≡ true → eventOf s (exchange b r) o ≡ asks
+asked-event s b r o e h =
+    exchange-event s b r o e (outside isNonPosted (byte b 0) 0x22 refl h) ∙ ap (λ (t : Bool). pick t asks (pick (eqb (byte b 0) 0x01) gets idle)) h
+
+got-event : (s : State) (b r : List ℕ) (o : Outcome) → accepted o ≡ true → byte b 0 ≡ 0x01 → eventOf s (exchange b r) o ≡ gets
+got-event s b r o e h = exchange-event s b r o e (ap (λ (x : ℕ). eqb x 0x22) h) ∙ rw h
+
+no-bytes : (d : List ℕ) → length d ≡ 0 → [] ≡ d
+no-bytes [] e = refl
+no-bytes (x ∷ d) e = absurd (omega arith)
+
+module _ (w : World) where
+  abbrev Seen : Call → Outcome → Type 0
+  Seen c o = Move w c o (eventOf (w .state) c o)
+
+  seen : {c : Call} {o : Outcome} (e : Event) → eventOf (w .state) c o ≡ e → Move w c o e → Seen c o
+  seen {c} {o} e h m = subst (Move w c o) (sym h) m
+
+  -- ---- channel 0's commands
+
+  module _ (b r : List ℕ) where
+    abbrev On : PeripheralChange → Type 0
+    On x = Seen (exchange b r) (exchanged w b (lift peripheral (w .state) x))
+
+    -- its reply shows the request that it leaves
+    leaves : (x : PeripheralChange) → Shown (x .next .request) (exchanged w b (lift peripheral (w .state) x) .reply)
+    unfolding exchanged lift
+    leaves x = shown (put peripheral (x .next) (w .state)) (x .out .say) (w .read)
+
+    fatal-seen : On (P₀.change (w .state .peripheral) fatal)
+    unfolding exchanged lift
+    fatal-seen = seen idle (refused-event (w .state) (exchange b r) _ refl) (stays refl refl refl (leaves (P₀.change (w .state .peripheral) fatal)))
+
+    acted-seen : {a : P₀.Act} {x : PeripheralChange} → R.Peripheral (w .state .config) b a → P.Did (w .state .config) (w .state .peripheral) a x → On x
+    unfolding exchanged lift replyBytes
+    acted-seen f (P.writeHeld e) = fatal-seen
+    acted-seen f (P.writeLarge e g) = fatal-seen
+    acted-seen {a} {x} (R.posts h n) (P.posted e g) = seen idle (plain-event _ b r _ (posted-plain b h)) (stays refl refl refl (leaves x))
+    acted-seen f (P.requestHeld e) = fatal-seen
+    acted-seen f (P.requestLarge e g) = fatal-seen
+    acted-seen {a} {x} (R.asks h) (P.asked e g) = seen asks (asked-event _ b r _ refl h) (asked b r refl (no-request (held w) e) refl refl refl refl (leaves x))
+    acted-seen f (P.noneReady e) = fatal-seen
+    acted-seen {a} {x} (R.Peripheral.gets h) (P.handedOver e) = seen gets (got-event _ b r _ refl h) (sent _ _ e refl refl refl refl (leaves x))
+
+  -- ---- the board's calls on channel 0
+
+  abbrev By : P₀.Board → PeripheralChange → Type 0
+  By o x = Seen (board peripheral o) (settled peripheral w o (lift peripheral (w .state) x))
+
+  number-seen : (o : P₀.Board) (n : ℕ) → eqb n 0 ≡ false → By o (P₀.change (w .state .peripheral) (number n))
+  unfolding settled lift over
+  number-seen o n e = seen idle (refused-event (w .state) (board peripheral o) _ e) (stays refl refl refl quiet)
+
+  settled-seen : {o : P₀.Board} {x : PeripheralChange} → P.Settled (w .state .peripheral) o x → By o x
+  unfolding settled lift over eventOf
+  settled-seen (P.looked e) = stays refl refl refl quiet
+  settled-seen {o} (P.noLook e) = number-seen o 23 refl
+  settled-seen {o} (P.noSuch e) = number-seen o 20 refl
+  settled-seen {o} (P.miscounted e f g) = number-seen o 21 refl
+  settled-seen (P.succeeds {serial} {success} {bytes = d} {q} e f g h) =
+      told q serial success d refl e f (rw g h) (rw g) refl (ap (λ (x : List ℕ). over x (w .read)) (ap (λ (m : ℕ). take m d) (sym h) ∙ take-length d)) refl
+  settled-seen (P.fails {serial} {success} {bytes = d} {q} e f g h) = told q serial success d refl e f (rw g h) (rw g) refl (ap (λ (x : List ℕ). over x (w .read)) (no-bytes d h)) refl
+  settled-seen {o} (P.noTake e) = number-seen o 23 refl
+  settled-seen (P.took e) = stays refl refl refl quiet
+
+  -- ---- another channel's
+
+  module _ (k : Channel) (other : same k peripheral ≡ false) where
+    kept-part : (x : Change k) → put k (nextOf k x) (w .state) .peripheral ≡ w .state .peripheral
+    kept-part x = part-other k other (nextOf k x) (w .state)
+
+    acted-beside : (b r : List ℕ) (x : Change k) → Plain b → Seen (exchange b r) (exchanged w b (lift k (w .state) x))
+    unfolding exchanged lift
+    acted-beside b r x p =
+        seen idle (plain-event (w .state) b r _ p)
+        (stays (ap (λ (q : Peripheral). q .request) (kept-part x)) (ap (λ (q : Peripheral). q .serial) (kept-part x)) refl
+        (subst (λ (q : Peripheral). Shown (q .request) (replyBytes (withStatus (outOf k x .say) (status (put k (nextOf k x) (w .state)))) (w .read))) (kept-part x)
+        (shown (put k (nextOf k x) (w .state)) (outOf k x .say) (w .read))))
+
+    board-event : (o : Board k) (x : Outcome) → eventOf (w .state) (board k o) x ≡ idle
+    board-event o x = go (accepted x) refl
+      where
+        go : (t : Bool) → accepted x ≡ t → eventOf (w .state) (board k o) x ≡ idle
+        go true e = accepted-event (w .state) (board k o) x e ∙ board-other k other o
+        go false e = refused-event (w .state) (board k o) x e
+
+    settled-beside : (o : Board k) (x : Change k) → Settles k (part k (w .state)) o x → Seen (board k o) (settled k w o (lift k (w .state) x))
+    unfolding settled lift over
+    settled-beside o x d =
+        seen idle (board-event o _)
+        (stays (ap (λ (q : Peripheral). q .request) (kept-part x)) (ap (λ (q : Peripheral). q .serial) (kept-part x))
+        (ap (λ (kept : Kept). over (keptBytes kept (given k o)) (w .read)) (settles-other k other (part k (w .state)) o x d)) quiet)
+
+  -- ---- above all channels
+
+  abbrev Plans : List ℕ → List ℕ → Plan → Type 0
+  Plans b r p = Seen (exchange b r) (exchanged w b p)
+
+  shown-seen : (b r : List ℕ) (body : Body) → Plain b → Plans b r (show body (w .state))
+  unfolding exchanged
+  shown-seen b r body p = seen idle (plain-event (w .state) b r _ p) (stays refl refl refl (shown (w .state) (S.Said Accept body) (w .read)))
+
+  forbidden-seen : (b r : List ℕ) → Plans b r (nonFatal (w .state))
+  unfolding exchanged
+  forbidden-seen b r = seen idle (refused-event (w .state) (exchange b r) _ refl) (stays refl refl refl (shown (w .state) (S.Said NonFatal B.Nothing) (w .read)))
+
+  cleared-seen : (b r : List ℕ) → Plain b → Plans b r (quietly (reset008h (w .state)))
+  unfolding exchanged replyBytes
+  cleared-seen b r p = seen idle (plain-event (w .state) b r _ p) (stays refl refl refl quiet)
+
+  -- "A write takes effect after its own reply, whose .. status" is the old one
+  written-seen : (b r : List ℕ) (c : Config) (t : Bool) → on peripheral (w .state .config) && not (on peripheral c) ≡ t
+      → Move w (exchange b r) (exchanged w b (acceptThen (w .state) (reconfigured (w .state) c))) (pick t ends idle)
+  unfolding exchanged
+  written-seen b r c true e =
+      dropped (ap (λ (t : Bool). pick t (F.dropped (w .state .peripheral)) (w .state .peripheral)) e) refl (shown (w .state) (S.Said Accept B.Nothing) (w .read))
+  written-seen b r c false e =
+      let kept : reconfigured (w .state) c .peripheral ≡ w .state .peripheral = ap (λ (t : Bool). pick t (F.dropped (w .state .peripheral)) (w .state .peripheral)) e in
+      stays (ap (λ (q : Peripheral). q .request) kept) (ap (λ (q : Peripheral). q .serial) kept) refl (shown (w .state) (S.Said Accept B.Nothing) (w .read))
+
+  set-seen : (b r : List ℕ) (a v : ℕ) → Writes b a v → Plans b r (acceptThen (w .state) (reconfigured (w .state) (writeAt (w .state .config) a v)))
+  unfolding exchanged
+  set-seen b r a v h = seen _ (accepted-event (w .state) (exchange b r) _ refl ∙ ap₂ (λ (t : Bool) (e : Event). pick t ends e) disabling (rw (h .opcode))) (written-seen b r _ _ refl)
+    where
+      disabling : disables peripheral (w .state) b ≡ on peripheral (w .state .config) && not (on peripheral (writeAt (w .state .config) a v))
+      disabling =
+          ap (λ (op : ℕ). eqb op 0x22 && (eqb (registerAt b) 0x010 && (on peripheral (w .state .config) && eqb (registerValue b % 2) 0))) (h .opcode)
+          ∙ ap₂ (λ (x y : ℕ). eqb x 0x010 && (on peripheral (w .state .config) && eqb (y % 2) 0)) (sym (h .address)) (sym (h .value))
+          ∙ sym (falling-edge peripheral (w .state .config) a v)
+
+  reset-seen : (r : Reset) → Seen (reset r) (only 0 (withState w (wasReset r (w .state))))
+  unfolding eventOf
+  reset-seen start = dropped refl refl quiet
+  reset-seen espiReset = dropped refl refl quiet
+  reset-seen platformReset = dropped refl refl quiet
+
+  lent-seen : (write read : List ℕ) → Seen (lend write read) (only 0 (record { state = w .state; write = write; read = read }))
+  unfolding eventOf
+  lent-seen write read = lent write read refl refl refl refl refl
+
+  idle-seen : (c : Call) (n : ℕ) → 10 ≤ n → Seen c (only n w)
+  idle-seen c n h = seen idle (refused-event (w .state) c (only n w) (ne-eqb n 0 (λ e. omega arith))) (stays refl refl refl quiet)
+
+  shows-plain : {b : List ℕ} {body : Body} → C.Shows (w .state) b body → Plain b
+  shows-plain {b} (C.status e) = plain b 0x25 (reads (w .state) b _ e) refl refl
+  shows-plain {b} (C.register a e) = plain b 0x21 (reads (w .state) b _ e .opcode) refl refl
+
+  -- ---- all cases
+
+  case-seen : {c : Call} {o : Outcome} → Case w c o → Seen c o
+  case-seen {c} (C.idle n h) = idle-seen c n (h .least)
+  case-seen (C.shown {b} {r} {body} h) = shown-seen b r body (shows-plain h)
+  case-seen (C.acted {b} {r} k o x e d) =
+      by-channel
+      (λ (k : Channel). (o : Command k) (x : Change k) → Admits (w .state) b (commandOf k o) → Did k (w .state .config) (part k (w .state)) (actOf k (w .state .config) o b) x
+      → Seen (exchange b r) (exchanged w b (lift k (w .state) x)))
+      (λ o x e d. acted-seen b r (reads (w .state) b _ e) d) (λ k n o x e d. acted-beside k n b r x (command-other k n (w .state .config) b o (reads (w .state) b _ e)))
+      k o x e d
+  case-seen (C.settles k o x e d) =
+      by-channel (λ (k : Channel). (o : Board k) (x : Change k) → Settled k (w .state .config) (part k (w .state)) o x → Seen (board k o) (settled k w o (lift k (w .state) x)))
+      (λ o x d. settled-seen d) (λ k n o x d. settled-beside k n o x (N.settled k (w .state .config) (part k (w .state)) o x d)) k o x d
+  case-seen (C.forbidden {b} {r} a v e f) = forbidden-seen b r
+  case-seen (C.configured {b} {r} a v e f) = set-seen b r a v (reads (w .state) b _ e)
+  case-seen (C.cleared {b} {r} e) = cleared-seen b r (plain b 0xFF (reads (w .state) b _ e) refl refl)
+  case-seen (C.wiped {r}) = reset-seen r
+  case-seen (C.lent {write} {read}) = lent-seen write read
+
+pub view : View
+view w c = case-seen w (cases w c)
+
+pub view-as : (w : World) (c : Call) {e : Event} → event w c ≡ e → Move w c (step w c) e
+view-as w c h = subst (Move w c (step w c)) h (view w c)

@@ -1,0 +1,165 @@
+-- The words of the statements over runs of channel 0: what a call was for it, in bytes and numbers, and what a reply shows of its request.
+use Prim.Native.Nat.{ℕ, _+_, _-_, _*_, _/_, _%_, _^_, _<_}
+use mathlib.Core.Bool.{Bool, true, false, _&&_, not}
+use mathlib.Core.List.{List, [], _∷_, _++_}
+use mathlib.Core.Path.{_≡_}
+use lib.Dec.{eqb, ltb}
+use lib.ListN.{length, getD}
+use Rattle.base.specs.Pick.{pick}
+use Rattle.peripheral.specs.declared.Np.{Np}
+use Rattle.state.specs.declared.State.{State}
+use Rattle.rules.specs.Rules.Reset.{Reset, start, espiReset, platformReset}
+use Rattle.rules.specs.Rules.Peripheral as P
+use Rattle.rules.specs.Rules.Channel.{Channel, peripheral, wires, Board}
+use Rattle.rules.specs.Rules.Step.{World, Call, reset, exchange, board, short, lend, Outcome, step, run}
+use Rattle.rules.specs.Statements.Fields.{byte, isNonPosted}
+use Rattle.rules.specs.Statements.Events.{accepted, endsWith}
+
+-- ---- events: refused calls are idle, what an accepted exchange was its bytes say
+
+-- asks: an accepted non-posted request; tells: an accepted answer; gets: an accepted GET_PC; ends: an ending event, "a start, an eSPI
+-- reset, a platform reset or a disabling of channel 0, refused ones apart"; lends: no call of the engine, other stores are lent from here on
+pub data Event : Type 0 where
+  idle asks tells gets ends lends : Event
+
+abbrev pub commandEvent : List ℕ → Event
+commandEvent b = pick (isNonPosted (byte b 0)) asks (pick (eqb (byte b 0) 0x01) gets idle)
+
+abbrev pub peripheralEvent : P.Board → Event
+peripheralEvent (P.look report) = idle
+peripheralEvent (P.answer serial success bytes) = tells
+peripheralEvent (P.takeWrite report) = idle
+
+abbrev pub boardEvent : (k : Channel) → Board k → Event
+boardEvent peripheral o = peripheralEvent o
+boardEvent wires o = idle
+
+-- of an accepted call that is no ending event
+abbrev pub acceptedEvent : Call → Event
+acceptedEvent (reset r) = idle
+acceptedEvent (exchange command reply) = commandEvent command
+acceptedEvent (board k o) = boardEvent k o
+acceptedEvent (short state c) = idle
+acceptedEvent (lend write read) = lends
+
+-- a call on a state, and what it gave
+unfoldable pub eventOf : State → Call → Outcome → Event
+eventOf s c o = pick (endsWith peripheral s c o) ends (pick (accepted o) (acceptedEvent c) idle)
+
+abbrev pub event : World → Call → Event
+event w c = eventOf (w .state) c (step w c)
+
+abbrev pub isTell : Event → Bool
+isTell idle = false
+isTell asks = false
+isTell tells = true
+isTell gets = false
+isTell ends = false
+isTell lends = false
+
+abbrev pub isAsk : Event → Bool
+isAsk idle = false
+isAsk asks = true
+isAsk tells = false
+isAsk gets = false
+isAsk ends = false
+isAsk lends = false
+
+abbrev pub isEnd : Event → Bool
+isEnd idle = false
+isEnd asks = false
+isEnd tells = false
+isEnd gets = false
+isEnd ends = true
+isEnd lends = false
+
+abbrev pub startsAll : Reset → Bool
+startsAll start = true
+startsAll espiReset = false
+startsAll platformReset = false
+
+abbrev pub isStart : Call → Bool
+isStart (reset r) = startsAll r
+isStart (exchange command reply) = false
+isStart (board k o) = false
+isStart (short state c) = false
+isStart (lend write read) = false
+
+-- the device's answer
+abbrev pub answersWith : (serial success : ℕ) → List ℕ → Call
+answersWith serial success d = board peripheral (P.answer serial success d)
+
+-- ---- runs
+
+-- the world after a call and the calls since
+abbrev pub since : World → Call → List Call → World
+since w c cs = run (step w c .next) cs
+
+-- no call of the run is such
+unfoldable pub without : (World → Call → Bool) → World → List Call → Bool
+without p w [] = true
+without p w (c ∷ cs) = not (p w c) && without p (step w c .next) cs
+
+-- an accepted answer, an accepted request
+abbrev pub answers : World → Call → Bool
+answers w c = isTell (event w c)
+
+abbrev pub requests : World → Call → Bool
+requests w c = isAsk (event w c)
+
+-- the reply of an accepted GET_PC
+abbrev pub completionIn : Event → List ℕ → List (List ℕ)
+completionIn idle r = []
+completionIn asks r = []
+completionIn tells r = []
+completionIn gets r = r ∷ []
+completionIn ends r = []
+completionIn lends r = []
+
+abbrev pub gotBy : World → Call → List (List ℕ)
+gotBy w c = completionIn (event w c) (step w c .reply)
+
+-- the replies of the accepted GET_PCs of a run, in order
+unfoldable pub got : World → List Call → List (List ℕ)
+got w [] = []
+got w (c ∷ cs) = gotBy w c ++ got (step w c .next) cs
+
+-- ---- stores lent again: a lend hands on this one as it was
+
+abbrev pub sameStore : (World → List ℕ) → World → Call → Type 0
+sameStore f w (reset r) = Unit {0}
+sameStore f w (exchange command reply) = Unit {0}
+sameStore f w (board k o) = Unit {0}
+sameStore f w (short state c) = Unit {0}
+sameStore f w (lend write read) = f (record { state = w .state; write = write; read = read }) ≡ f w
+
+unfoldable pub storeHandedOn : (World → List ℕ) → World → List Call → Type 0
+storeHandedOn f w [] = Unit {0}
+storeHandedOn f w (c ∷ cs) = sameStore f w c × storeHandedOn f (step w c .next) cs
+
+abbrev pub readHandedOn : World → List Call → Type 0
+readHandedOn = storeHandedOn (λ v. v .read)
+
+abbrev pub writeHandedOn : World → List Call → Type 0
+writeHandedOn = storeHandedOn (λ v. v .write)
+
+-- ---- the held request, and what a reply shows
+
+abbrev pub held : World → Np
+held w = w .state .peripheral .request
+
+-- the last serial given
+abbrev pub serialOf : World → ℕ
+serialOf w = w .state .peripheral .serial
+
+-- the status that a reply shows: the two bytes before its CRC, low byte first
+abbrev pub statusIn : List ℕ → ℕ
+statusIn r = getD r (length r - 3) 0 + getD r (length r - 2) 0 * 256
+
+-- a reply, where there is one, shows this value at this bit of its status
+abbrev pub showsBit : (at value : ℕ) → List ℕ → Type 0
+showsBit at value r = 0 < length r → statusIn r / 2 ^ at % 2 ≡ value
+
+-- there is a reply, and this bit of its status is 1
+abbrev pub raises : ℕ → List ℕ → Bool
+raises at r = ltb 0 (length r) && eqb (statusIn r / 2 ^ at % 2) 1
