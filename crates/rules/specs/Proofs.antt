@@ -22,3 +22,4 @@ pub mod SoundParts
 pub mod Sound
 pub mod SoundRegisters
 pub mod SoundMeans
+pub mod Asked

@@ -13,3 +13,4 @@ pub mod Refusals
 pub mod Shape
 pub mod Sound
 pub mod SoundMeans
+pub mod Words

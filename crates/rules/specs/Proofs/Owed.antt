@@ -4,7 +4,7 @@ use mathlib.Core.Bool.{Bool, true, false, _&&_, _||_, not, true≢false}
 use mathlib.Core.List.{List, [], _∷_, _++_, append-assoc}
 use mathlib.Core.Path.{_≡_, refl, sym, ap, _∙_, subst}
 use native.Mathlib.Omega.{arith}
-use native.Mathlib.Nat.{add-zero}
+use native.Mathlib.Nat.{add-zero, zero-add}
 use lib.ListN.{length, take, length-append}
 use lib.Seq.{take-at}
 use Rattle.base.specs.Bytes.{low2}
@@ -27,19 +27,20 @@ use Rattle.rules.specs.Rules.Peripheral as P₀
 use Rattle.rules.specs.Rules.Channel.{peripheral, on}
 use Rattle.rules.specs.Rules.Lift.{lift}
 use Rattle.rules.specs.Rules.Reply.{closed, headerBytes, dataBytes}
-use Rattle.rules.specs.Rules.Step.{World, Call, exchange, Outcome, step, run, exchanged, shortStores}
+use Rattle.rules.specs.Rules.Step.{World, Call, exchange, Outcome, step, run, exchanged, shortStores, allHanded}
 use Rattle.rules.specs.Statements.Cases.{Admits}
 use Rattle.rules.specs.Statements.Peripheral.{Did, noneReady, handedOver}
 use Rattle.rules.specs.Statements.Fields.{crcRight}
 use Rattle.rules.specs.Statements.Events.{unended}
 use Rattle.rules.specs.Statements.Requests.{Event, gets, event, isEnd, isTell, isAsk, without, answers, requests, got, gotBy, completionIn, held, showsBit, sameStore, storeHandedOn, readHandedOn}
 use Rattle.rules.specs.Statements.View.{Shown, Move, same, asked, told, sent, lent, dropped}
-use Rattle.rules.specs.Statements.Demand3.{crcFine, Over, joinedData, dataIn}
+use Rattle.rules.specs.Statements.Demand3.{crcFine, Over, Delivers, joinedData, dataIn}
 use Rattle.rules.specs.Proofs.Plans.{did, plan-admitted}
 use Rattle.rules.specs.Proofs.Cases.{exchange-long}
+use Rattle.rules.specs.Proofs.Sound.{sound-run}
 use Rattle.rules.specs.Proofs.Events.{head-unended, tail-unended, head-without, tail-without}
 use Rattle.rules.specs.Proofs.Requests.{end-is}
-use Rattle.rules.specs.Proofs.View.{view}
+use Rattle.rules.specs.Proofs.View.{view, view-as}
 use Rattle.rules.specs.Proofs.AfterEnd.{dropped-free}
 use Rattle.rules.specs.declared.PeripheralChange.{PeripheralChange}
 
@@ -268,3 +269,37 @@ ended-by comp k w c o (sent p ps u a b d r v) =
 pub joined-owed : (comp : ℕ → Completion) (N : ℕ) (w : World) → Owes comp 0 N (held w) → (cs : List Call) → unended peripheral w cs ≡ true → readHandedOn w cs
     → length (got w cs) ≡ N → joinedData (got w cs) ≡ datas comp (w .read) 0 N
 joined-owed comp N w o cs q s e = rw (← e) (left comp (w .read) cs 0 N w o refl q s .joins (omega arith))
+
+-- ---- what a world that owes N completions delivers, over any run
+
+module _ (comp : ℕ → Completion) (N : ℕ) (body : ℕ → List ℕ) (w : World) (d : Sound (w .state)) (o : Owes comp 0 N (held w))
+    (is : (j : ℕ) → j < N → bodyOf (comp j) (w .read) ≡ body j) (cs : List Call) (q : unended peripheral w cs ≡ true) (s : readHandedOn w cs) (h : allHanded cs ≡ true) where
+  -- with j completions handed over
+  owed : (n : ℕ) → length (got w cs) + suc n ≡ N → Owes comp (length (got w cs)) (suc n) (held (run w cs))
+  owed n e = subst (λ (k : ℕ). Owes comp k (suc n) (held (run w cs))) (zero-add (length (got w cs))) (left comp (w .read) cs 0 N w o refl q s .owes n e)
+
+  read-at : (n : ℕ) → length (got w cs) + suc n ≡ N → run w cs .read ≡ w .read
+  read-at n e = left comp (w .read) cs 0 N w o refl q s .read n e
+
+  in-order : (c : Call) → length (got w cs) < N → Move (run w cs) c (step (run w cs) c) gets
+      → step (run w cs) c .reply ≡ closed (0x08 ∷ body (length (got w cs))) (status (step (run w cs) c .next .state))
+  in-order c l (sent p ps u a b e r v) =
+      let n = N - suc (length (got w cs)) in
+      let here : p ≡ comp (length (got w cs)) = cc (owed n (omega arith) .0) in
+      r ∙ ap (λ (x : List ℕ). closed (0x08 ∷ x) (status (step (run w cs) c .next .state))) (rw (here, read-at n (omega arith)) (is (length (got w cs)) l))
+
+  pub deliver : Delivers N body w cs
+  deliver =
+      record {
+        inOrder = λ c e l. in-order c l (view-as (run w cs) c e);
+        accepts = λ check reply l long fine.
+            get-accepted (run w cs) check reply _ _ (sound-run w cs d h) (owed (N - suc (length (got w cs))) (omega arith) .0) long fine;
+        stands = λ c l. busy-at c l .0;
+        held = λ c l. busy-at c l .1;
+        last = λ c e l. ended-by comp _ (run w cs) c (owed 0 (omega arith)) (view-as (run w cs) c e);
+      }
+    where
+      busy-at : (c : Call) → length (got w cs) + length (gotBy (run w cs) c) < N → Busy (step (run w cs) c .reply)
+      busy-at c l =
+          let n = N - suc (length (got w cs)) in
+          stood comp _ n (run w cs) c (event (run w cs) c) (owed n (omega arith)) (omega arith) (view (run w cs) c)

@@ -1,15 +1,82 @@
--- Events of channel 0: what is read off them at once.
-use mathlib.Core.Bool.{Bool, true, false}
-use mathlib.Core.Path.{_≡_, refl, ap}
+-- Events of channel 0 by what a call is: the number first, then its bytes.
+use Prim.Native.Nat.{ℕ, _%_}
+use mathlib.Core.Bool.{Bool, true, false, _&&_, true≢false}
+use mathlib.Core.List.{List}
+use mathlib.Core.Path.{_≡_, refl, sym, ap, _∙_}
 use lib.Dec.{eqb}
+use borrow.Author.Tests.{eqb-true}
 use Rattle.base.specs.Pick.{pick, pick-ind}
+use Rattle.state.specs.declared.State.{State}
 use Rattle.rules.specs.Rules.Peripheral as P
-use Rattle.rules.specs.Rules.Channel.{peripheral, wires}
-use Rattle.rules.specs.Rules.Step.{World, Call, reset, exchange, board, short, lend, step}
-use Rattle.rules.specs.Statements.Fields.{byte, isNonPosted}
-use Rattle.rules.specs.Statements.Events.{accepted, ends}
-use Rattle.rules.specs.Statements.Requests.{Event, idle, acceptedEvent, eventOf, event, isEnd}
-use Rattle.rules.specs.Statements.Requests as R
+use Rattle.rules.specs.Rules.Channel.{peripheral, wires, on}
+use Rattle.rules.specs.Rules.Step.{World, Call, reset, exchange, board, short, lend, Outcome, step}
+use Rattle.rules.specs.Statements.Fields.{byte, isNonPosted, registerAt, registerValue}
+use Rattle.rules.specs.Statements.Events as E
+use Rattle.rules.specs.Statements.Events.{accepted, ending, disables, registerOf}
+use Rattle.rules.specs.Statements.Requests.{Event, idle, asks, gets, ends, commandEvent, acceptedEvent, eventOf, event, isEnd}
+use Rattle.rules.specs.Proofs.Fields.{one}
+
+-- ---- by the number
+
+pub refused-event : (s : State) (c : Call) (o : Outcome) → accepted o ≡ false → eventOf s c o ≡ idle
+unfolding eventOf
+refused-event s c o e = ap (λ (t : Bool). pick (t && ending peripheral s c) ends (pick t (acceptedEvent c) idle)) e
+
+pub accepted-event : (s : State) (c : Call) (o : Outcome) → accepted o ≡ true → eventOf s c o ≡ pick (ending peripheral s c) ends (acceptedEvent c)
+unfolding eventOf
+accepted-event s c o e = ap (λ (t : Bool). pick (t && ending peripheral s c) ends (pick t (acceptedEvent c) idle)) e
+
+-- an event that is neither idle nor an end is an accepted call's
+pub event-was : (w : World) (c : Call) (x : Event) → event w c ≡ x → (idle ≡ x → ⊥) → (ends ≡ x → ⊥) → (step w c .number ≡ 0) × (acceptedEvent c ≡ x)
+event-was w c x h n m = go (accepted (step w c)) refl
+  where
+    not-ended : (t : Bool) → pick t ends (acceptedEvent c) ≡ x → acceptedEvent c ≡ x
+    not-ended true e = absurd (m e)
+    not-ended false e = e
+
+    go : (t : Bool) → accepted (step w c) ≡ t → (step w c .number ≡ 0) × (acceptedEvent c ≡ x)
+    go true e = (eqb-true (step w c .number) 0 e, not-ended (ending peripheral (w .state) c) (sym (accepted-event (w .state) c (step w c) e) ∙ h))
+    go false e = absurd (n (sym (refused-event (w .state) c (step w c) e) ∙ h))
+
+-- ---- an exchange by its first byte
+
+-- an opcode of a kind is none outside it
+outside : (p : ℕ → Bool) (op n : ℕ) → p n ≡ false → p op ≡ true → eqb op n ≡ false
+outside p op n f = one (λ (x : ℕ). p x ≡ true → eqb x n ≡ false) op n (λ t. absurd (true≢false (sym t ∙ f))) (λ e _. e)
+
+pub exchange-event : (s : State) (b r : List ℕ) (o : Outcome) → accepted o ≡ true → eqb (byte b 0) 0x22 ≡ false → eventOf s (exchange b r) o ≡ commandEvent b
+exchange-event s b r o e f = accepted-event s (exchange b r) o e ∙ ap (λ (t : Bool). pick t ends (commandEvent b)) no-disabling
+  where
+    no-disabling : disables peripheral s b ≡ false
+    no-disabling = ap (λ (t : Bool). t && (eqb (registerAt b) (registerOf peripheral) && (on peripheral (s .config) && eqb (registerValue b % 2) 0))) f
+
+pub asked-event : (s : State) (b r : List ℕ) (o : Outcome) → accepted o ≡ true → isNonPosted (byte b 0) ≡ true → eventOf s (exchange b r) o ≡ asks
+asked-event s b r o e h =
+    exchange-event s b r o e (outside isNonPosted (byte b 0) 0x22 refl h) ∙ ap (λ (t : Bool). pick t asks (pick (eqb (byte b 0) 0x01) gets idle)) h
+
+pub got-event : (s : State) (b r : List ℕ) (o : Outcome) → accepted o ≡ true → byte b 0 ≡ 0x01 → eventOf s (exchange b r) o ≡ gets
+got-event s b r o e h = exchange-event s b r o e (ap (λ (x : ℕ). eqb x 0x22) h) ∙ rw h
+
+command-asks : (b : List ℕ) → commandEvent b ≡ asks → isNonPosted (byte b 0) ≡ true
+command-asks b = go (isNonPosted (byte b 0)) (eqb (byte b 0) 0x01)
+  where
+    go : (t u : Bool) → pick t asks (pick u gets idle) ≡ asks → t ≡ true
+    go true u e = refl
+    go false true e = absurd (true≢false (cc))
+    go false false e = absurd (true≢false (cc))
+
+command-gets : (b : List ℕ) → commandEvent b ≡ gets → eqb (byte b 0) 0x01 ≡ true
+command-gets b = go (isNonPosted (byte b 0)) (eqb (byte b 0) 0x01)
+  where
+    go : (t u : Bool) → pick t asks (pick u gets idle) ≡ gets → u ≡ true
+    go true u e = absurd (true≢false (cc))
+    go false true e = refl
+    go false false e = absurd (true≢false (cc))
+
+pub asked-opcode : (w : World) (b r : List ℕ) → event w (exchange b r) ≡ asks → isNonPosted (byte b 0) ≡ true
+asked-opcode w b r h = command-asks b (event-was w (exchange b r) asks h (λ e. true≢false (cc)) (λ e. true≢false (cc)) .1)
+
+-- ---- ending events
 
 accepted-unended : (c : Call) → isEnd (acceptedEvent c) ≡ false
 accepted-unended (reset r) = refl
@@ -23,16 +90,15 @@ accepted-unended (short state c) = refl
 accepted-unended (lend write read) = refl
 
 -- `ends` exactly where the call ends channel 0
-pub end-is : (w : World) (c : Call) → isEnd (event w c) ≡ ends peripheral w c
+pub end-is : (w : World) (c : Call) → isEnd (event w c) ≡ E.ends peripheral w c
 unfolding eventOf
-end-is w c = go (ends peripheral w c) (accepted (step w c))
+end-is w c = go (E.ends peripheral w c) (accepted (step w c))
   where
-    go : (t a : Bool) → isEnd (pick t R.ends (pick a (acceptedEvent c) idle)) ≡ t
+    go : (t a : Bool) → isEnd (pick t ends (pick a (acceptedEvent c) idle)) ≡ t
     go true a = refl
     go false true = accepted-unended c
     go false false = refl
 
--- an ending event
-pub ended-event : (w : World) (c : Call) → ends peripheral w c ≡ true → event w c ≡ R.ends
+pub ended-event : (w : World) (c : Call) → E.ends peripheral w c ≡ true → event w c ≡ ends
 unfolding eventOf
-ended-event w c h = ap (λ (t : Bool). pick t R.ends (pick (accepted (step w c)) (acceptedEvent c) idle)) h
+ended-event w c h = ap (λ (t : Bool). pick t ends (pick (accepted (step w c)) (acceptedEvent c) idle)) h

@@ -1,6 +1,6 @@
 -- The view: one sweep over the case law, reading channel 0's law; whatever another channel does leaves channel 0's part.
 use Prim.Native.Nat.{ℕ, _+_, _-_, _*_, _/_, _%_, _^_, _<_, _≤_}
-use mathlib.Core.Bool.{Bool, true, false, _&&_, not, true≢false}
+use mathlib.Core.Bool.{Bool, true, false, _&&_, not}
 use mathlib.Core.List.{List, [], _∷_, _++_, append-assoc}
 use mathlib.Core.Path.{_≡_, refl, sym, ap, ap₂, _∙_, subst}
 use native.Mathlib.Omega.{arith}
@@ -32,17 +32,18 @@ use Rattle.rules.specs.Statements.Peripheral as P
 use Rattle.rules.specs.Statements.Cases as C
 use Rattle.rules.specs.Statements.Cases.{Did, Settled, Admits, commandOf, Case}
 use Rattle.rules.specs.Statements.Channels.{Settles}
-use Rattle.rules.specs.Statements.Events.{accepted, ending, disables, registerOf}
-use Rattle.rules.specs.Statements.Fields.{byte, isPosted, isNonPosted, registerAt, registerValue}
+use Rattle.rules.specs.Statements.Events.{accepted, disables}
+use Rattle.rules.specs.Statements.Fields.{byte, isPosted, registerAt, registerValue}
 use Rattle.rules.specs.Statements.Reads as R
 use Rattle.rules.specs.Statements.Reads.{Writes}
-use Rattle.rules.specs.Statements.Requests.{Event, idle, asks, gets, ends, commandEvent, acceptedEvent, eventOf, event, held, statusIn}
+use Rattle.rules.specs.Statements.Requests.{Event, idle, asks, gets, ends, eventOf, event, held, statusIn}
 use Rattle.rules.specs.Statements.View.{Shown, Move, same as stays, asked, told, sent, lent, dropped, View}
 use Rattle.rules.specs.Proofs.Cases.{cases}
 use Rattle.rules.specs.Proofs.Channels as N
-use Rattle.rules.specs.Proofs.Fields.{one, by-posted}
+use Rattle.rules.specs.Proofs.Fields.{by-posted}
 use Rattle.rules.specs.Proofs.Reads.{reads}
 use Rattle.rules.specs.Proofs.Events.{falling-edge}
+use Rattle.rules.specs.Proofs.Requests.{refused-event, accepted-event, exchange-event, asked-event, got-event}
 use Rattle.rules.specs.Proofs.Others.{by-channel, part-other, settles-other, Plain, plain, command-other, board-other}
 use Rattle.rules.specs.declared.PeripheralChange.{PeripheralChange}
 use Rattle.rules.specs.declared.Say.{Say}
@@ -96,22 +97,7 @@ shown s S.Silent read = quiet
 shown s (S.Said response body) read =
     record { np = λ _. rw (status-in _ (status s) (bits s .below)) (bits s .np); pc = λ _. rw (status-in _ (status s) (bits s .below)) (bits s .pc) }
 
--- ---- events
-
-refused-event : (s : State) (c : Call) (o : Outcome) → accepted o ≡ false → eventOf s c o ≡ idle
-unfolding eventOf
-refused-event s c o e = ap (λ (t : Bool). pick (t && ending peripheral s c) ends (pick t (acceptedEvent c) idle)) e
-
-accepted-event : (s : State) (c : Call) (o : Outcome) → accepted o ≡ true → eventOf s c o ≡ pick (ending peripheral s c) ends (acceptedEvent c)
-unfolding eventOf
-accepted-event s c o e = ap (λ (t : Bool). pick (t && ending peripheral s c) ends (pick t (acceptedEvent c) idle)) e
-
-no-disabling : (s : State) (b : List ℕ) → eqb (byte b 0) 0x22 ≡ false → disables peripheral s b ≡ false
-no-disabling s b e =
-    ap (λ (t : Bool). t && (eqb (registerAt b) (registerOf peripheral) && (on peripheral (s .config) && eqb (registerValue b % 2) 0))) e
-
-exchange-event : (s : State) (b r : List ℕ) (o : Outcome) → accepted o ≡ true → eqb (byte b 0) 0x22 ≡ false → eventOf s (exchange b r) o ≡ commandEvent b
-exchange-event s b r o e f = accepted-event s (exchange b r) o e ∙ ap (λ (t : Bool). pick t ends (commandEvent b)) (no-disabling s b f)
+-- ---- commands that make no event of channel 0
 
 plain-event : (s : State) (b r : List ℕ) (o : Outcome) → Plain b → eventOf s (exchange b r) o ≡ idle
 plain-event s b r o p = go (accepted o) refl
@@ -120,21 +106,10 @@ plain-event s b r o p = go (accepted o) refl
     go true e = exchange-event s b r o e (p .write) ∙ p .event
     go false e = refused-event s (exchange b r) o e
 
--- an opcode of a kind is none outside it
-outside : (p : ℕ → Bool) (op n : ℕ) → p n ≡ false → p op ≡ true → eqb op n ≡ false
-outside p op n f = one (λ (x : ℕ). p x ≡ true → eqb x n ≡ false) op n (λ t. absurd (true≢false (sym t ∙ f))) (λ e _. e)
-
 posted-plain : (b : List ℕ) → isPosted (byte b 0) ≡ true → Plain b
 posted-plain b h =
     by-posted (λ (op : ℕ). byte b 0 ≡ op → Plain b) (λ e. plain b 0x00 e refl refl) (λ e. plain b 0x4C e refl refl) (λ e. plain b 0x4D e refl refl)
     (λ e. plain b 0x4F e refl refl) (byte b 0) h refl
-
-asked-event : (s : State) (b r : List ℕ) (o : Outcome) → accepted o ≡ true → isNonPosted (byte b 0) ≡ true → eventOf s (exchange b r) o ≡ asks
-asked-event s b r o e h =
-    exchange-event s b r o e (outside isNonPosted (byte b 0) 0x22 refl h) ∙ ap (λ (t : Bool). pick t asks (pick (eqb (byte b 0) 0x01) gets idle)) h
-
-got-event : (s : State) (b r : List ℕ) (o : Outcome) → accepted o ≡ true → byte b 0 ≡ 0x01 → eventOf s (exchange b r) o ≡ gets
-got-event s b r o e h = exchange-event s b r o e (ap (λ (x : ℕ). eqb x 0x22) h) ∙ rw h
 
 no-bytes : (d : List ℕ) → length d ≡ 0 → [] ≡ d
 no-bytes [] e = refl
