@@ -23,3 +23,4 @@ pub mod Sound
 pub mod SoundRegisters
 pub mod SoundMeans
 pub mod Asked
+pub mod Demand3

@@ -1,7 +1,7 @@
 -- Events of channel 0 by what a call is: the number first, then its bytes.
 use Prim.Native.Nat.{ℕ, _%_}
 use mathlib.Core.Bool.{Bool, true, false, _&&_, true≢false}
-use mathlib.Core.List.{List}
+use mathlib.Core.List.{List, []}
 use mathlib.Core.Path.{_≡_, refl, sym, ap, _∙_}
 use lib.Dec.{eqb}
 use borrow.Author.Tests.{eqb-true}
@@ -13,7 +13,7 @@ use Rattle.rules.specs.Rules.Step.{World, Call, reset, exchange, board, 
 use Rattle.rules.specs.Statements.Fields.{byte, isNonPosted, registerAt, registerValue}
 use Rattle.rules.specs.Statements.Events as E
 use Rattle.rules.specs.Statements.Events.{accepted, ending, disables, registerOf}
-use Rattle.rules.specs.Statements.Requests.{Event, idle, asks, gets, ends, commandEvent, acceptedEvent, eventOf, event, isEnd}
+use Rattle.rules.specs.Statements.Requests.{Event, idle, asks, gets, ends, commandEvent, acceptedEvent, eventOf, event, isEnd, answersWith}
 use Rattle.rules.specs.Proofs.Fields.{one}
 
 -- ---- by the number
@@ -102,3 +102,23 @@ end-is w c = go (E.ends peripheral w c) (accepted (step w c))
 pub ended-event : (w : World) (c : Call) → E.ends peripheral w c ≡ true → event w c ≡ ends
 unfolding eventOf
 ended-event w c h = ap (λ (t : Bool). pick t ends (pick (accepted (step w c)) (acceptedEvent c) idle)) h
+
+-- ---- an answer is told by what it says
+
+abbrev boardCall : Call → P.Board
+boardCall (reset r) = P.look []
+boardCall (exchange b r) = P.look []
+boardCall (board peripheral o) = o
+boardCall (board wires o) = P.look []
+boardCall (short state c) = P.look []
+boardCall (lend write read) = P.look []
+
+pub record SameAnswer (m t : ℕ) (d : List ℕ) (n u : ℕ) (e : List ℕ) : Type 0 where
+  pub serial : m ≡ n
+  pub success : t ≡ u
+  pub bytes : d ≡ e
+
+pub same-answer : {m t n u : ℕ} {d e : List ℕ} → answersWith m t d ≡ answersWith n u e → SameAnswer m t d n u e
+same-answer {m} {t} {n} {u} {d} {e} h =
+    let g : P.answer m t d ≡ P.answer n u e = ap boardCall h in
+    record { serial = cc; success = cc; bytes = cc }
