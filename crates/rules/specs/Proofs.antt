@@ -24,3 +24,4 @@ pub mod SoundRegisters
 pub mod SoundMeans
 pub mod Asked
 pub mod Demand3
+pub mod Words

@@ -2,10 +2,10 @@
 use Prim.Native.Nat.{ℕ, _%_}
 use mathlib.Core.Bool.{Bool, true, false, _&&_, true≢false}
 use mathlib.Core.List.{List, []}
-use mathlib.Core.Path.{_≡_, refl, sym, ap, _∙_}
+use mathlib.Core.Path.{_≡_, refl, sym, ap, _∙_, subst}
 use lib.Dec.{eqb}
 use borrow.Author.Tests.{eqb-true}
-use Rattle.base.specs.Pick.{pick, pick-ind}
+use Rattle.base.specs.Pick.{pick}
 use Rattle.state.specs.declared.State.{State}
 use Rattle.rules.specs.Rules.Peripheral as P
 use Rattle.rules.specs.Rules.Channel.{peripheral, wires, on}
@@ -13,7 +13,8 @@ use Rattle.rules.specs.Rules.Step.{World, Call, reset, exchange, board, 
 use Rattle.rules.specs.Statements.Fields.{byte, isNonPosted, registerAt, registerValue}
 use Rattle.rules.specs.Statements.Events as E
 use Rattle.rules.specs.Statements.Events.{accepted, ending, disables, registerOf}
-use Rattle.rules.specs.Statements.Requests.{Event, idle, asks, gets, ends, commandEvent, acceptedEvent, eventOf, event, isEnd, answersWith}
+use Rattle.rules.specs.Statements.Requests.{Event, idle, asks, tells, gets, ends, lends, commandEvent, acceptedEvent, eventOf, event, isEnd, answersWith}
+use Rattle.rules.specs.Statements.Words.{GetPc, getPc, NonPosted, nonPosted, Answer, answer}
 use Rattle.rules.specs.Proofs.Fields.{one}
 
 -- ---- by the number
@@ -25,18 +26,6 @@ refused-event s c o e = ap (λ (t : Bool). pick (t && ending peripheral s c) end
 pub accepted-event : (s : State) (c : Call) (o : Outcome) → accepted o ≡ true → eventOf s c o ≡ pick (ending peripheral s c) ends (acceptedEvent c)
 unfolding eventOf
 accepted-event s c o e = ap (λ (t : Bool). pick (t && ending peripheral s c) ends (pick t (acceptedEvent c) idle)) e
-
--- an event that is neither idle nor an end is an accepted call's
-pub event-was : (w : World) (c : Call) (x : Event) → event w c ≡ x → (idle ≡ x → ⊥) → (ends ≡ x → ⊥) → (step w c .number ≡ 0) × (acceptedEvent c ≡ x)
-event-was w c x h n m = go (accepted (step w c)) refl
-  where
-    not-ended : (t : Bool) → pick t ends (acceptedEvent c) ≡ x → acceptedEvent c ≡ x
-    not-ended true e = absurd (m e)
-    not-ended false e = e
-
-    go : (t : Bool) → accepted (step w c) ≡ t → (step w c .number ≡ 0) × (acceptedEvent c ≡ x)
-    go true e = (eqb-true (step w c .number) 0 e, not-ended (ending peripheral (w .state) c) (sym (accepted-event (w .state) c (step w c) e) ∙ h))
-    go false e = absurd (n (sym (refused-event (w .state) c (step w c) e) ∙ h))
 
 -- ---- an exchange by its first byte
 
@@ -57,37 +46,59 @@ asked-event s b r o e h =
 pub got-event : (s : State) (b r : List ℕ) (o : Outcome) → accepted o ≡ true → byte b 0 ≡ 0x01 → eventOf s (exchange b r) o ≡ gets
 got-event s b r o e h = exchange-event s b r o e (ap (λ (x : ℕ). eqb x 0x22) h) ∙ rw h
 
-command-asks : (b : List ℕ) → commandEvent b ≡ asks → isNonPosted (byte b 0) ≡ true
-command-asks b = go (isNonPosted (byte b 0)) (eqb (byte b 0) 0x01)
-  where
-    go : (t u : Bool) → pick t asks (pick u gets idle) ≡ asks → t ≡ true
-    go true u e = refl
-    go false true e = absurd (true≢false (cc))
-    go false false e = absurd (true≢false (cc))
+-- ---- by what the accepted call is
 
-command-gets : (b : List ℕ) → commandEvent b ≡ gets → eqb (byte b 0) 0x01 ≡ true
-command-gets b = go (isNonPosted (byte b 0)) (eqb (byte b 0) 0x01)
+pub data Is (c : Call) : Event → Type 0 where
+  other : Is c idle
+  ask : NonPosted c → Is c asks
+  get : GetPc c → Is c gets
+  tell : Answer c → Is c tells
+  lent : Is c lends
+
+accepted-is : (c : Call) → Is c (acceptedEvent c)
+accepted-is (reset r) = other
+accepted-is (exchange b r) = by (isNonPosted (byte b 0)) (eqb (byte b 0) 0x01) refl refl
   where
-    go : (t u : Bool) → pick t asks (pick u gets idle) ≡ gets → u ≡ true
-    go true u e = absurd (true≢false (cc))
-    go false true e = refl
-    go false false e = absurd (true≢false (cc))
+    by : (t u : Bool) → isNonPosted (byte b 0) ≡ t → eqb (byte b 0) 0x01 ≡ u → Is (exchange b r) (pick t asks (pick u gets idle))
+    by true u e f = ask (nonPosted e)
+    by false true e f = get (getPc (eqb-true (byte b 0) 0x01 f))
+    by false false e f = other
+accepted-is (board peripheral (P.look report)) = other
+accepted-is (board peripheral (P.answer serial success d)) = tell answer
+accepted-is (board peripheral (P.takeWrite report)) = other
+accepted-is (board wires o) = other
+accepted-is (short state c) = other
+accepted-is (lend write read) = lent
+
+-- an event that is neither idle nor an end is an accepted call's
+pub event-was : (w : World) (c : Call) (x : Event) → event w c ≡ x → (idle ≡ x → ⊥) → (ends ≡ x → ⊥) → (step w c .number ≡ 0) × Is c x
+event-was w c x h n m = go (accepted (step w c)) refl
+  where
+    not-ended : (t : Bool) → pick t ends (acceptedEvent c) ≡ x → acceptedEvent c ≡ x
+    not-ended true e = absurd (m e)
+    not-ended false e = e
+
+    go : (t : Bool) → accepted (step w c) ≡ t → (step w c .number ≡ 0) × Is c x
+    go true e = (
+      eqb-true (step w c .number) 0 e,
+      subst (Is c) (not-ended (ending peripheral (w .state) c) (sym (accepted-event (w .state) c (step w c) e) ∙ h)) (accepted-is c),
+    )
+    go false e = absurd (n (sym (refused-event (w .state) c (step w c) e) ∙ h))
 
 pub asked-opcode : (w : World) (b r : List ℕ) → event w (exchange b r) ≡ asks → isNonPosted (byte b 0) ≡ true
-asked-opcode w b r h = command-asks b (event-was w (exchange b r) asks h (λ e. true≢false (cc)) (λ e. true≢false (cc)) .1)
+asked-opcode w b r h = opcode (event-was w (exchange b r) asks h (λ e. true≢false (cc)) (λ e. true≢false (cc)) .1)
+  where
+    opcode : Is (exchange b r) asks → isNonPosted (byte b 0) ≡ true
+    opcode (ask (nonPosted e)) = e
 
 -- ---- ending events
 
-accepted-unended : (c : Call) → isEnd (acceptedEvent c) ≡ false
-accepted-unended (reset r) = refl
-accepted-unended (exchange b r) =
-    pick-ind (λ (e : Event). isEnd e ≡ false) (isNonPosted (byte b 0)) (λ _. refl) (λ _. pick-ind (λ (e : Event). isEnd e ≡ false) (eqb (byte b 0) 0x01) (λ _. refl) (λ _. refl))
-accepted-unended (board peripheral (P.look report)) = refl
-accepted-unended (board peripheral (P.answer serial success bytes)) = refl
-accepted-unended (board peripheral (P.takeWrite report)) = refl
-accepted-unended (board wires o) = refl
-accepted-unended (short state c) = refl
-accepted-unended (lend write read) = refl
+unended : {c : Call} (x : Event) → Is c x → isEnd x ≡ false
+unended x other = refl
+unended x (ask n) = refl
+unended x (get g) = refl
+unended x (tell a) = refl
+unended x lent = refl
 
 -- `ends` exactly where the call ends channel 0
 pub end-is : (w : World) (c : Call) → isEnd (event w c) ≡ E.ends peripheral w c
@@ -96,7 +107,7 @@ end-is w c = go (E.ends peripheral w c) (accepted (step w c))
   where
     go : (t a : Bool) → isEnd (pick t ends (pick a (acceptedEvent c) idle)) ≡ t
     go true a = refl
-    go false true = accepted-unended c
+    go false true = unended _ (accepted-is c)
     go false false = refl
 
 pub ended-event : (w : World) (c : Call) → E.ends peripheral w c ≡ true → event w c ≡ ends
