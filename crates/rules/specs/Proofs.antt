@@ -25,3 +25,4 @@ pub mod SoundMeans
 pub mod Asked
 pub mod Demand3
 pub mod Words
+pub mod Answers

@@ -14,3 +14,4 @@ pub mod Shape
 pub mod Sound
 pub mod SoundMeans
 pub mod Words
+pub mod Answers

@@ -6,12 +6,13 @@ use mathlib.Core.Path.{_≡_, refl, subst}
 use native.Mathlib.Omega.{arith}
 use Rattle.base.specs.Pick.{pick-ind}
 use Rattle.base.specs.Bytes.{over}
+use Rattle.rules.specs.Rules.Reset.{Reset}
 use Rattle.rules.specs.Rules.Channel.{Channel, Board, part, settle}
 use Rattle.rules.specs.Rules.Lift.{lift, silent}
 use Rattle.rules.specs.Rules.Exchange as E
 use Rattle.rules.specs.Rules.Reply.{replyBytes}
 use Rattle.rules.specs.Rules.Step as S
-use Rattle.rules.specs.Rules.Step.{World, exchange, board, reset, short, lend, only, shortStores, shortFor, exchanged}
+use Rattle.rules.specs.Rules.Step.{World, exchange, board, reset, short, lend, only, withState, shortStores, shortFor, exchanged}
 use Rattle.rules.specs.Statements.Plans as N
 use Rattle.rules.specs.Statements.Plans.{Silent, Planned}
 use Rattle.rules.specs.Statements.Cases.{Case, idle, shown, acted, settles, forbidden, configured, cleared, wiped, lent, Cases}
@@ -43,7 +44,11 @@ cases w (board k o) = pick-ind (Case w (board k o)) (shortFor k o w) (λ _. idle
 cases w (short state c) = idle 10 too-short
 cases w (lend write read) = lent
 
--- ---- with long enough slices
+-- ---- a reset, and calls with long enough slices
+
+pub reset-is : (w : World) (r : Reset) → S.step w (reset r) ≡ only 0 (withState w (E.wasReset r (w .state)))
+unfolding S.step
+reset-is w r = refl
 
 pub exchange-long : (w : World) (b r : List ℕ) → shortStores r w ≡ false → S.step w (exchange b r) ≡ exchanged w b (E.exchange (w .state) b)
 unfolding S.step
