@@ -16,8 +16,6 @@ pub mod Refusals
 pub mod WholeRefusals
 pub mod Shape
 pub mod SoundBytes
-pub mod SoundPeripheral
-pub mod SoundWires
 pub mod SoundParts
 pub mod Sound
 pub mod SoundRegisters
@@ -26,3 +24,8 @@ pub mod Asked
 pub mod Demand3
 pub mod Words
 pub mod Answers
+pub mod Vectors
+pub mod Becomes
+pub mod Effects
+pub mod ConfigWrites
+pub mod Replies

@@ -15,3 +15,7 @@ pub mod Sound
 pub mod SoundMeans
 pub mod Words
 pub mod Answers
+pub mod Vectors
+pub mod Sizes
+pub mod Effects
+pub mod ConfigWrites

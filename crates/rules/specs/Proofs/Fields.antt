@@ -58,3 +58,6 @@ pub by-asked : (Q : ℕ → Type 0) → Q 0x02 → Q 0x40 → Q 0x41 → Q 0x43 
 by-asked Q a b c d e f g i j k op h =
     one Q op 0x02 a λ e0. one Q op 0x40 b λ e1. one Q op 0x41 c λ e2. one Q op 0x43 d λ e3. one Q op 0x44 e λ e4. one Q op 0x45 f λ e5. one Q op 0x47 g λ e6.
     one Q op 0x48 i λ e7. one Q op 0x49 j λ e8. one Q op 0x4B k λ e9. absurd (true≢false (sym h ∙ simp (e0, e1, e2, e3, e4, e5, e6, e7, e8, e9)))
+
+pub asked-not-posted : (op : ℕ) → isNonPosted op ≡ true → isPosted op ≡ false
+asked-not-posted op h = by-asked (λ (x : ℕ). isPosted x ≡ false) refl refl refl refl refl refl refl refl refl refl op h

@@ -1,4 +1,8 @@
 -- Channel 0's law: the one file that unfolds its decisions.
+pub mod Effects
+pub mod Lawful
+pub mod Shape
+pub mod Sound
 use Prim.Native.Nat.{ℕ}
 use mathlib.Core.Bool.{Bool, true, false, _&&_, not}
 use mathlib.Core.List.{List, [], _∷_}

@@ -11,13 +11,8 @@ use lib.Seq.{drop-append-add, drop-drop}
 use borrow.Author.Tests.{lt-ltb, eqb-true}
 use Rattle.base.specs.Pick.{pick, pick-ind}
 use Rattle.base.specs.Bytes.{over, over-none}
-use Rattle.registers.specs.declared.Config.{Config}
-use Rattle.wires.specs.declared.Wires.{Wires}
-use Rattle.state.specs.declared.Peripheral.{Peripheral}
 use Rattle.state.specs.declared.State.{State}
 use Rattle.rules.specs.Rules.Out.{fatal, number}
-use Rattle.rules.specs.Rules.Peripheral as P₀
-use Rattle.rules.specs.Rules.Wires as W₀
 use Rattle.rules.specs.Rules.Channel.{Channel, peripheral, wires, Command, Act, Board, Change, outOf, actOf, part, given}
 use Rattle.rules.specs.Rules.Lift.{lift, silent, nonFatal}
 use Rattle.rules.specs.Rules.Lift as M
@@ -25,27 +20,24 @@ use Rattle.rules.specs.Rules.Exchange as E
 use Rattle.rules.specs.Rules.Reply.{replyBytes, closed, keptBytes}
 use Rattle.rules.specs.Rules.Step.{World, Call, exchange, board, lend, Outcome, step, exchanged, settled, only}
 use Rattle.rules.specs.Statements.Fields.{byte, isPosted, accessLength}
-use Rattle.rules.specs.Statements.Peripheral as P
-use Rattle.rules.specs.Statements.Wires as W
 use Rattle.rules.specs.Statements.Plans as N
 use Rattle.rules.specs.Statements.Plans.{Did, Settled, Silent, Planned}
 use Rattle.rules.specs.Statements.Cases as C
 use Rattle.rules.specs.Statements.Cases.{Case}
 use Rattle.rules.specs.Statements.Channels as L
 use Rattle.rules.specs.Statements.Channels.{Acts, Settles}
-use Rattle.rules.specs.Statements.Reads as R
-use Rattle.rules.specs.Statements.Refusals.{Quiet, Error, Refusal, RefusalsChangeNothing, CallsKeepStores, postedLength, answerBytes, boardReads, readsAtMost, writesAtMost, isLend}
+use Rattle.rules.specs.Statements.Refusals.{keptCount, Quiet, Error, Refusal, RefusalsChangeNothing, CallsKeepStores, postedLength, answerBytes, boardReads, readsAtMost, writesAtMost, isLend}
 use Rattle.rules.specs.Proofs.Lift.{planned, lift-change, lift-stays}
 use Rattle.rules.specs.Proofs.Plans as Q
 use Rattle.rules.specs.Proofs.Channels as H
+use Rattle.rules.specs.Proofs.Peripheral.Lawful as P
+use Rattle.rules.specs.Proofs.Wires.Lawful as W
 use Rattle.rules.specs.Proofs.Cases.{cases}
 use Rattle.rules.specs.Proofs.Reads.{reads}
 use Rattle.rules.specs.declared.Kept.{Kept}
 use Rattle.rules.specs.declared.Kept.the-variants as K
 use Rattle.rules.specs.declared.Out.{Out}
 use Rattle.rules.specs.declared.Plan.{Plan}
-use Rattle.rules.specs.declared.PeripheralChange.{PeripheralChange}
-use Rattle.rules.specs.declared.WiresChange.{WiresChange}
 
 -- ---- a plan by its number
 
@@ -154,47 +146,15 @@ refusals-change-nothing w c = refusal (cases w c)
 
 -- ---- the frame of `step`
 
--- as many bytes as a plan keeps
-abbrev pub keptCount : Kept → ℕ
-keptCount K.Nothing = 0
-keptCount (K.Data at n) = n
-
 -- a plan that keeps at most so many bytes
 abbrev pub Keeps : ℕ → Plan → Type 0
 Keeps n p = keptCount (p .kept) ≤ n
 
--- the data of a posted write; no other command has any for the write store
-abbrev dataOf : P₀.Act → ℕ
-dataOf (P₀.posts address length from) = length
-dataOf (P₀.asks q) = 0
-dataOf P₀.gets = 0
-
-peripheral-keeps : {c : Config} {p : Peripheral} {a : P₀.Act} {x : PeripheralChange} → P.Did c p a x → keptCount (x .out .kept) ≤ dataOf a
-peripheral-keeps (P.writeHeld e) = zero-le
-peripheral-keeps (P.writeLarge e f) = zero-le
-peripheral-keeps (P.posted e f) = le-refl _
-peripheral-keeps (P.requestHeld e) = zero-le
-peripheral-keeps (P.requestLarge e f) = zero-le
-peripheral-keeps (P.asked e f) = zero-le
-peripheral-keeps (P.noneReady e) = zero-le
-peripheral-keeps (P.handedOver e) = zero-le
-
-posted-data : {c : Config} {b : List ℕ} {a : P₀.Act} → R.Peripheral c b a → dataOf a ≤ postedLength b
-posted-data {c} {b} (R.posts e l) = rw e (le-refl (accessLength b))
-posted-data {c} {b} (R.asks e) = zero-le
-posted-data {c} {b} (R.Peripheral.gets e) = zero-le
-
-wires-keeps : {c : Config} {p : Wires} {a : W₀.Act} {x : WiresChange} → W.Did c p a x → keptCount (x .out .kept) ≤ 0
-wires-keeps (W.overCount e) = zero-le
-wires-keeps (W.put e) = zero-le
-wires-keeps (W.nonePending e) = zero-le
-wires-keeps (W.sentOff e) = zero-le
-
 -- by channel: what a command keeps of its bytes
 acts-keep : (k : Channel) (s : State) (b : List ℕ) (o : Command k) (x : Change k) → N.Admits s b (N.commandOf k o)
     → Did k (s .config) (part k s) (actOf k (s .config) o b) x → keptCount (outOf k x .kept) ≤ postedLength b
-acts-keep peripheral s b o x e d = le-trans (peripheral-keeps d) (posted-data (reads s b (N.commandOf peripheral o) e))
-acts-keep wires s b o x e d = le-trans (wires-keeps d) zero-le
+acts-keep peripheral s b o x e d = le-trans (P.acts-keep d) (P.posted-data (reads s b (N.commandOf peripheral o) e))
+acts-keep wires s b o x e d = le-trans (W.acts-keep d) zero-le
 
 lift-keeps : (k : Channel) (s : State) (x : Change k) → lift k s x .kept ≡ outOf k x .kept
 unfolding lift
@@ -211,31 +171,10 @@ planned-keeps {s} {b} (N.clears e) = zero-le
 pub exchange-keeps : (s : State) (b : List ℕ) → Keeps (postedLength b) (E.exchange s b)
 exchange-keeps s b = planned-keeps (Q.plans s b)
 
--- what an answer keeps: its bytes, where it is a success
-success-bytes : (n m : ℕ) (t : Bool) → not t ≡ true → m ≡ n → n ≤ pick t 0 m
-success-bytes n m true e f = absurd (true≢false (sym e))
-success-bytes n m false e f = omega arith
-
-peripheral-settled : {p : Peripheral} {o : P₀.Board} {x : PeripheralChange} → P.Settled p o x → keptCount (x .out .kept) ≤ answerBytes o
-peripheral-settled (P.looked e) = zero-le
-peripheral-settled (P.noLook e) = zero-le
-peripheral-settled (P.noSuch e) = zero-le
-peripheral-settled (P.miscounted e f g) = zero-le
-peripheral-settled (P.succeeds {serial} {success} {bytes} {q} e f g h) = success-bytes _ (length bytes) (eqb success 0) g h
-peripheral-settled (P.fails e f g h) = zero-le
-peripheral-settled (P.noTake e) = zero-le
-peripheral-settled (P.took e) = zero-le
-
-wires-settled : {c : Config} {p : Wires} {o : W₀.Board} {x : WiresChange} → W.Settled c p o x → keptCount (x .out .kept) ≤ 0
-wires-settled (W.notBoards e) = zero-le
-wires-settled (W.set e) = zero-le
-wires-settled (W.noWire e) = zero-le
-wires-settled (W.read e) = zero-le
-
 pub settled-keeps : (k : Channel) (s : State) (o : Board k) (x : Change k) → Settled k (s .config) (part k s) o x → Keeps (boardReads k o) (lift k s x)
 unfolding lift
-settled-keeps peripheral s o x d = peripheral-settled d
-settled-keeps wires s o x d = wires-settled d
+settled-keeps peripheral s o x d = P.settled-keep d
+settled-keeps wires s o x d = W.settled-keep d
 
 pub board-keeps : (k : Channel) (s : State) (o : Board k) → Keeps (boardReads k o) (M.settled k s o)
 board-keeps k s o = settled-keeps k s o _ (Q.settled k (s .config) (part k s) o)

@@ -34,8 +34,8 @@ use Rattle.rules.specs.Proofs.Plans.{plans}
 use Rattle.rules.specs.Proofs.Cases.{cases}
 use Rattle.rules.specs.Proofs.SoundBytes.{bytes-below}
 use Rattle.rules.specs.Proofs.SoundParts.{ConfigOk, PartOk, Parts, parts, whole, with-part, with-each, fresh008-ok, reset-config}
-use Rattle.rules.specs.Proofs.SoundPeripheral as P
-use Rattle.rules.specs.Proofs.SoundWires as W
+use Rattle.rules.specs.Proofs.Peripheral.Sound as P
+use Rattle.rules.specs.Proofs.Wires.Sound as W
 use Rattle.rules.specs.declared.Plan.{Plan}
 
 -- ---- every channel keeps its part sound

@@ -31,7 +31,7 @@ use Rattle.state.specs.declared.State.{State}
 use Rattle.sound.specs.Facts.{ReadyRequest, legal-payload, ready-request, held-write, made-memory-read, made-io-read, made-io-write, sent-write, sound-parts, sound-made, sound-off, fit-parts}
 use Rattle.sound.specs.Sound.{sound, fits, madeAs, requestMade, sentRight, soundRequest, soundWrite, nothingHeld, fitsRequest, fitsWrite}
 use Rattle.rules.specs.Statements.SoundMeans.{Coded, MadeAs, Made, RequestMade, WriteMade, ReadSent, SentAs, BytesSent, GroupRight, Clauses}
-use Rattle.rules.specs.Proofs.SoundPeripheral.{memory-read-test, io-read-test, io-write-test}
+use Rattle.rules.specs.Proofs.Peripheral.Sound.{memory-read-test, io-read-test, io-write-test}
 use Rattle.rules.specs.Proofs.SoundRegisters.{registers-reached, reached-registers}
 
 or-right : (a : Bool) {b : Bool} → b ≡ true → a || b ≡ true

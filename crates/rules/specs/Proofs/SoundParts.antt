@@ -14,8 +14,8 @@ use Rattle.rules.specs.Rules.Reset.{Reset, start, espiReset, platformRes
 use Rattle.rules.specs.Rules.Channel.{Channel, peripheral, wires, Part, part, put, each, on}
 use Rattle.rules.specs.Rules.Exchange.{configReset}
 use Rattle.rules.specs.Proofs.Lift.{put-config, put-each}
-use Rattle.rules.specs.Proofs.SoundPeripheral.{PeripheralOk}
-use Rattle.rules.specs.Proofs.SoundWires.{WiresOk}
+use Rattle.rules.specs.Proofs.Peripheral.Sound.{PeripheralOk}
+use Rattle.rules.specs.Proofs.Wires.Sound.{WiresOk}
 
 pub record ConfigOk (c : Config) : Type 0 where
   pub right : reachable c ≡ true

@@ -1,4 +1,8 @@
 -- Channel 1's law: the one file that unfolds its decisions.
+pub mod Effects
+pub mod Lawful
+pub mod Shape
+pub mod Sound
 use Prim.Native.Nat.{ℕ}
 use mathlib.Core.Bool.{Bool, true, false, not}
 use mathlib.Core.List.{List, [], _∷_}

@@ -1,5 +1,6 @@
 -- All that channel 0 does, each with the tests that led to it (01, Replies and refusals; Requests, answers, pieces). The statements read
 -- this law and unfold no decision.
+pub mod Effects
 use Prim.Native.Nat.{ℕ}
 use mathlib.Core.Bool.{Bool, true, false, _&&_}
 use mathlib.Core.List.{List, [], _∷_}

@@ -16,6 +16,8 @@ use Rattle.rules.specs.Rules.Peripheral as P
 use Rattle.rules.specs.Rules.Channel.{Channel, peripheral, wires, Board}
 use Rattle.rules.specs.Rules.Step.{World, Call, reset, exchange, board, short, lend, Outcome, step, lookLength, takeLength}
 use Rattle.rules.specs.Rules.Calls.{word, Exchanged, done, exchanged, stored, looked, startCall, espiResetCall, platformResetCall, exchangeCall, lookCall, answerCall, takeWriteCall, setWireCall, readWireCall}
+use Rattle.rules.specs.declared.Kept.{Kept}
+use Rattle.rules.specs.declared.Kept.the-variants as K
 use Rattle.rules.specs.Statements.Fields.{byte, isPosted, accessLength}
 
 -- ---- refusals of `step`
@@ -97,6 +99,11 @@ isLend (exchange command reply) = false
 isLend (board k o) = false
 isLend (short state c) = false
 isLend (lend write read) = true
+
+-- as many bytes as are kept
+abbrev pub keptCount : Kept → ℕ
+keptCount K.Nothing = 0
+keptCount (K.Data at n) = n
 
 pub record StoresKept (w : World) (c : Call) : Type 0 where
   pub write : drop (writesAtMost c) (step w c .next .write) ≡ drop (writesAtMost c) (w .write)

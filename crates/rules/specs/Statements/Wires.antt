@@ -1,4 +1,5 @@
 -- All that channel 1 does, each with the tests that led to it (01, Wires). The statements read this law and unfold no decision.
+pub mod Effects
 use Prim.Native.Nat.{ℕ}
 use mathlib.Core.Bool.{Bool, true, false}
 use mathlib.Core.List.{List, [], _∷_}

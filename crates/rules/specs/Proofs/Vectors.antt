@@ -1,0 +1,24 @@
+-- P23: the starred table, by computing. The one proof that unfolds every definition.
+use mathlib.Core.Path.{refl}
+use Rattle.base.specs.Bytes.{over}
+use Rattle.crc.specs.Crc.{crc, crcFrom, crcByte, shifts, crcBit}
+use Rattle.registers.specs.Registers.{sizeOf}
+use Rattle.wires.specs.Turn.{after, turn, placeAfter}
+use Rattle.wires.specs.Groups.{putPairs, sent, packetOf, unmarked}
+use Rattle.pieces.specs.Marks.{markOf}
+use Rattle.pieces.specs.Pieces.{nextSize, nextMark}
+use Rattle.command.specs.Decode.{allFF, decode, admit}
+use Rattle.state.specs.Upward.{upward, handed}
+use Rattle.state.specs.Status.{status}
+use Rattle.rules.specs.Rules.Peripheral as P
+use Rattle.rules.specs.Rules.Wires as W
+use Rattle.rules.specs.Rules.Lift.{lift}
+use Rattle.rules.specs.Rules.Exchange as E
+use Rattle.rules.specs.Rules.Reply.{closed, replyBytes}
+use Rattle.rules.specs.Rules.Step.{exchanged, settled, step, run}
+use Rattle.rules.specs.Statements.Vectors.{rows, Holds}
+
+pub rows-hold : Holds rows
+unfolding rows step run exchanged settled over crc crcFrom crcByte shifts crcBit sizeOf after turn placeAfter putPairs sent packetOf unmarked markOf nextSize nextMark allFF decode admit upward handed status lift P.post P.ask P.getPc P.answerTo P.taken P.settle W.putVwire W.getVwire W.setting W.settle E.setConfiguration E.decide E.exchange closed replyBytes
+rows-hold =
+    (refl, (refl, (refl, (refl, (refl, (refl, (refl, (refl, (refl, (refl, (refl, (refl, (refl, (refl, (refl, (refl, (refl, (refl, (refl, (refl, (refl, (refl, (refl, (refl, (refl, (refl, (refl, (refl, (refl, (refl, (refl, (refl, (refl, (refl, (refl, (refl, (refl, (refl, (refl, (refl, tt))))))))))))))))))))))))))))))))))))))))

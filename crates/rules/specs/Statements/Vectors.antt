@@ -1,0 +1,153 @@
+-- P23. Bench lines (01, Bench lines; outside vectors): one table, one statement. A row: the calls before it from a fresh world, the command, its
+-- number and its whole reply. The set-ups are real commands; replies were made by hand and a CRC program that shares nothing with this repository.
+use Prim.Native.Nat.{ℕ, zero, suc}
+use mathlib.Core.List.{List, [], _∷_, _++_}
+use mathlib.Core.Path.{_≡_}
+use lib.ListN.{replicate}
+use Rattle.state.specs.Fresh.{freshState}
+use Rattle.rules.specs.Rules.Peripheral as P
+use Rattle.rules.specs.Rules.Wires as W
+use Rattle.rules.specs.Rules.Channel.{peripheral, wires}
+use Rattle.rules.specs.Rules.Step.{World, Call, exchange, board, step, run}
+
+-- n bytes that count up from a
+abbrev ramp : ℕ → ℕ → List ℕ
+ramp a zero = []
+ramp a (suc n) = a ∷ ramp (suc a) n
+
+-- ---- commands
+
+-- channel 1 on
+abbrev on1 : List ℕ
+on1 = 0x22 ∷ 0x00 ∷ 0x20 ∷ 0x01 ∷ 0x00 ∷ 0x00 ∷ 0x00 ∷ 0x6A ∷ []
+
+-- 010h: read size 256, payload size 64
+abbrev r256p64 : List ℕ
+r256p64 = 0x22 ∷ 0x00 ∷ 0x10 ∷ 0x03 ∷ 0x31 ∷ 0x00 ∷ 0x00 ∷ 0x9A ∷ []
+
+-- 010h: read size 256, payload size 256
+abbrev r256p256 : List ℕ
+r256p256 = 0x22 ∷ 0x00 ∷ 0x10 ∷ 0x03 ∷ 0x33 ∷ 0x00 ∷ 0x00 ∷ 0x4C ∷ []
+
+-- 010h: read size 128, payload size 64
+abbrev r128p64 : List ℕ
+r128p64 = 0x22 ∷ 0x00 ∷ 0x10 ∷ 0x03 ∷ 0x21 ∷ 0x00 ∷ 0x00 ∷ 0x38 ∷ []
+
+-- 008h: CRC checked
+abbrev crcOn : List ℕ
+crcOn = 0x22 ∷ 0x00 ∷ 0x08 ∷ 0x00 ∷ 0x00 ∷ 0x00 ∷ 0x80 ∷ 0x88 ∷ []
+
+-- PUT_NP: 160 bytes at 1030h, tag 5
+abbrev read160 : List ℕ
+read160 = 0x02 ∷ 0x00 ∷ 0x50 ∷ 0xA0 ∷ 0x00 ∷ 0x00 ∷ 0x10 ∷ 0x30 ∷ 0xFA ∷ []
+
+-- PUT_NP: 64 bytes at 1020h, tag 5
+abbrev read64 : List ℕ
+read64 = 0x02 ∷ 0x00 ∷ 0x50 ∷ 0x40 ∷ 0x00 ∷ 0x00 ∷ 0x10 ∷ 0x20 ∷ 0xB1 ∷ []
+
+-- GET_PC
+abbrev getPc : List ℕ
+getPc = 0x01 ∷ 0x07 ∷ []
+
+-- GET_STATUS
+abbrev getStatus : List ℕ
+getStatus = 0x25 ∷ 0xFB ∷ []
+
+-- short I/O read of one byte at port 64h
+abbrev ioRead : List ℕ
+ioRead = 0x40 ∷ 0x00 ∷ 0x64 ∷ 0xBD ∷ []
+
+-- ---- rows
+
+abbrev send : List ℕ → Call
+send command = exchange command (replicate 263 0)
+
+abbrev answer : ℕ → ℕ → List ℕ → Call
+answer serial success bytes = board peripheral (P.answer serial success bytes)
+
+abbrev setWire : ℕ → ℕ → ℕ → Call
+setWire index bit value = board wires (W.setWire index bit value)
+
+abbrev fresh : World
+fresh = record { state = freshState; write = replicate 256 0; read = replicate 4096 0 }
+
+pub record Row : Type 0 where
+  pub before : List Call
+  pub command : List ℕ
+  pub number : ℕ
+  pub reply : List ℕ
+
+abbrev row : List Call → List ℕ → ℕ → List ℕ → Row
+row before command number reply = record { before = before; command = command; number = number; reply = reply }
+
+unfoldable pub rows : List Row
+rows =
+    -- ★ fresh: GET_STATUS
+    row [] getStatus 0
+    (0x08 ∷ 0x07 ∷ 0x00 ∷ 0x3A ∷ [])
+    -- ★ fresh: 008h read
+    ∷ row [] (0x21 ∷ 0x00 ∷ 0x08 ∷ 0x10 ∷ []) 0
+    (0x08 ∷ 0x03 ∷ 0x00 ∷ 0x0C ∷ 0x03 ∷ 0x07 ∷ 0x00 ∷ 0xAF ∷ [])
+    -- ★ fresh: GET_PC with no completion ready
+    ∷ row [] getPc 1
+    (0x03 ∷ 0x07 ∷ 0x00 ∷ 0xD6 ∷ [])
+    -- ★ fresh: short I/O read of port 64h
+    ∷ row [] ioRead 0
+    (0x01 ∷ 0x05 ∷ 0x00 ∷ 0x2A ∷ [])
+    -- ★ answered with 1Dh, handed over
+    ∷ row (send ioRead ∷ answer 1 1 (0x1D ∷ []) ∷ []) getPc 0
+    (0x08 ∷ 0x0F ∷ 0x00 ∷ 0x01 ∷ 0x1D ∷ 0x07 ∷ 0x00 ∷ 0x34 ∷ [])
+    -- the status between the answer and that
+    ∷ row (send ioRead ∷ answer 1 1 (0x1D ∷ []) ∷ []) getStatus 0
+    (0x08 ∷ 0x15 ∷ 0x00 ∷ 0x47 ∷ [])
+    -- ★ channel 1 on, SCI# set to 0: GET_VWIRE
+    ∷ row (send on1 ∷ setWire 6 0 0 ∷ []) (0x05 ∷ 0x1B ∷ []) 0
+    (0x08 ∷ 0x00 ∷ 0x06 ∷ 0xF6 ∷ 0x07 ∷ 0x00 ∷ 0x41 ∷ [])
+    -- the status while SCI# is pending
+    ∷ row (send on1 ∷ setWire 6 0 0 ∷ []) getStatus 0
+    (0x08 ∷ 0x47 ∷ 0x00 ∷ 0x61 ∷ [])
+    -- ★ 160 bytes at 1030h, tag 5, P 64, read size 256: the first piece
+    ∷ row (send r256p64 ∷ send read160 ∷ answer 1 1 (ramp 0 160) ∷ []) getPc 0
+    (0x08 ∷ 0x0B ∷ 0x50 ∷ 0x10 ∷ (ramp 0 16 ++ 0x15 ∷ 0x00 ∷ 0x03 ∷ []))
+    -- ★ the second
+    ∷ row (send r256p64 ∷ send read160 ∷ answer 1 1 (ramp 0 160) ∷ send getPc ∷ []) getPc 0
+    (0x08 ∷ 0x09 ∷ 0x50 ∷ 0x40 ∷ (ramp 16 64 ++ 0x15 ∷ 0x00 ∷ 0x26 ∷ []))
+    -- ★ the third
+    ∷ row (send r256p64 ∷ send read160 ∷ answer 1 1 (ramp 0 160) ∷ send getPc ∷ send getPc ∷ []) getPc 0
+    (0x08 ∷ 0x09 ∷ 0x50 ∷ 0x40 ∷ (ramp 80 64 ++ 0x15 ∷ 0x00 ∷ 0x85 ∷ []))
+    -- ★ the last
+    ∷ row (send r256p64 ∷ send read160 ∷ answer 1 1 (ramp 0 160) ∷ send getPc ∷ send getPc ∷ send getPc ∷ []) getPc 0
+    (0x08 ∷ 0x0D ∷ 0x50 ∷ 0x10 ∷ (ramp 144 16 ++ 0x07 ∷ 0x00 ∷ 0x3F ∷ []))
+    -- ★ the same with P 256: one piece
+    ∷ row (send r256p256 ∷ send read160 ∷ answer 1 1 (ramp 0 160) ∷ []) getPc 0
+    (0x08 ∷ 0x0F ∷ 0x50 ∷ 0xA0 ∷ (ramp 0 160 ++ 0x07 ∷ 0x00 ∷ 0xC5 ∷ []))
+    -- ★ 64 bytes at 1020h, read size 64: refused
+    ∷ row [] read64 1
+    (0x03 ∷ 0x07 ∷ 0x00 ∷ 0xD6 ∷ [])
+    -- ★ read size 128, P 64: two of 32
+    ∷ row (send r128p64 ∷ send read64 ∷ answer 1 1 (ramp 0 64) ∷ []) getPc 0
+    (0x08 ∷ 0x0B ∷ 0x50 ∷ 0x20 ∷ (ramp 0 32 ++ 0x15 ∷ 0x00 ∷ 0x53 ∷ []))
+    -- ★ and the second
+    ∷ row (send r128p64 ∷ send read64 ∷ answer 1 1 (ramp 0 64) ∷ send getPc ∷ []) getPc 0
+    (0x08 ∷ 0x0D ∷ 0x50 ∷ 0x20 ∷ (ramp 32 32 ++ 0x07 ∷ 0x00 ∷ 0xE4 ∷ []))
+    -- fresh: 010h := 0 has forbidden sizes
+    ∷ row [] (0x22 ∷ 0x00 ∷ 0x10 ∷ 0x00 ∷ 0x00 ∷ 0x00 ∷ 0x00 ∷ 0x2A ∷ []) 2
+    (0x02 ∷ 0x07 ∷ 0x00 ∷ 0xBD ∷ [])
+    -- fresh: 010h read
+    ∷ row [] (0x21 ∷ 0x00 ∷ 0x10 ∷ 0x58 ∷ []) 0
+    (0x08 ∷ 0x33 ∷ 0x11 ∷ 0x00 ∷ 0x00 ∷ 0x07 ∷ 0x00 ∷ 0x0F ∷ [])
+    -- CRC checked: a wrong CRC comes before no credit
+    ∷ row (send crcOn ∷ []) (0x01 ∷ 0x00 ∷ []) 16
+    ([])
+    -- CRC checked and right
+    ∷ row (send crcOn ∷ []) getPc 1
+    (0x03 ∷ 0x07 ∷ 0x00 ∷ 0xD6 ∷ [])
+    ∷ []
+
+-- ---- the statement: each row's command gets the row's number and reply
+
+abbrev pub Holds : List Row → Type 0
+Holds [] = Unit {0}
+Holds (r ∷ rs) =
+    (step (run fresh (r .before)) (send (r .command)) .number ≡ r .number)
+    × ((step (run fresh (r .before)) (send (r .command)) .reply ≡ r .reply) × Holds rs)
