@@ -29,3 +29,4 @@ pub mod Becomes
 pub mod Effects
 pub mod ConfigWrites
 pub mod Replies
+pub mod PostedWrites

@@ -19,3 +19,4 @@ pub mod Vectors
 pub mod Sizes
 pub mod Effects
 pub mod ConfigWrites
+pub mod PostedWrites

@@ -1,5 +1,5 @@
 -- Events of channel 0 by what a call is: the number first, then its bytes.
-use Prim.Native.Nat.{ℕ, _%_}
+use Prim.Native.Nat.{ℕ}
 use mathlib.Core.Bool.{Bool, true, false, _&&_, true≢false}
 use mathlib.Core.List.{List, []}
 use mathlib.Core.Path.{_≡_, refl, sym, ap, _∙_, subst}
@@ -8,14 +8,15 @@ use borrow.Author.Tests.{eqb-true}
 use Rattle.base.specs.Pick.{pick}
 use Rattle.state.specs.declared.State.{State}
 use Rattle.rules.specs.Rules.Peripheral as P
-use Rattle.rules.specs.Rules.Channel.{peripheral, wires, on}
+use Rattle.rules.specs.Rules.Channel.{peripheral, wires}
 use Rattle.rules.specs.Rules.Step.{World, Call, reset, exchange, board, short, lend, Outcome, step}
-use Rattle.rules.specs.Statements.Fields.{byte, isNonPosted, registerAt, registerValue}
+use Rattle.rules.specs.Statements.Fields.{byte, isNonPosted}
 use Rattle.rules.specs.Statements.Events as E
-use Rattle.rules.specs.Statements.Events.{accepted, ending, disables, registerOf}
+use Rattle.rules.specs.Statements.Events.{accepted, ending}
 use Rattle.rules.specs.Statements.Requests.{Event, idle, asks, tells, gets, ends, lends, commandEvent, acceptedEvent, eventOf, event, isEnd, answersWith}
 use Rattle.rules.specs.Statements.Words.{GetPc, getPc, NonPosted, nonPosted, Answer, answer}
 use Rattle.rules.specs.Proofs.Fields.{one}
+use Rattle.rules.specs.Proofs.Events.{no-disabling}
 
 -- ---- by the number
 
@@ -34,10 +35,7 @@ outside : (p : ℕ → Bool) (op n : ℕ) → p n ≡ false → p op ≡ true �
 outside p op n f = one (λ (x : ℕ). p x ≡ true → eqb x n ≡ false) op n (λ t. absurd (true≢false (sym t ∙ f))) (λ e _. e)
 
 pub exchange-event : (s : State) (b r : List ℕ) (o : Outcome) → accepted o ≡ true → eqb (byte b 0) 0x22 ≡ false → eventOf s (exchange b r) o ≡ commandEvent b
-exchange-event s b r o e f = accepted-event s (exchange b r) o e ∙ ap (λ (t : Bool). pick t ends (commandEvent b)) no-disabling
-  where
-    no-disabling : disables peripheral s b ≡ false
-    no-disabling = ap (λ (t : Bool). t && (eqb (registerAt b) (registerOf peripheral) && (on peripheral (s .config) && eqb (registerValue b % 2) 0))) f
+exchange-event s b r o e f = accepted-event s (exchange b r) o e ∙ ap (λ (t : Bool). pick t ends (commandEvent b)) (no-disabling peripheral s b f)
 
 pub asked-event : (s : State) (b r : List ℕ) (o : Outcome) → accepted o ≡ true → isNonPosted (byte b 0) ≡ true → eventOf s (exchange b r) o ≡ asks
 asked-event s b r o e h =

@@ -32,8 +32,8 @@ use Rattle.rules.specs.Statements.Peripheral as P
 use Rattle.rules.specs.Statements.Cases as C
 use Rattle.rules.specs.Statements.Cases.{Did, Settled, Admits, commandOf, Case}
 use Rattle.rules.specs.Statements.Channels.{Settles}
-use Rattle.rules.specs.Statements.Events.{accepted, disables}
-use Rattle.rules.specs.Statements.Fields.{byte, isPosted, registerAt, registerValue}
+use Rattle.rules.specs.Statements.Events.{accepted}
+use Rattle.rules.specs.Statements.Fields.{byte, isPosted}
 use Rattle.rules.specs.Statements.Reads as R
 use Rattle.rules.specs.Statements.Reads.{Writes}
 use Rattle.rules.specs.Statements.Requests.{Event, idle, asks, gets, ends, eventOf, event, held, statusIn}
@@ -42,7 +42,7 @@ use Rattle.rules.specs.Proofs.Cases.{cases}
 use Rattle.rules.specs.Proofs.Channels as N
 use Rattle.rules.specs.Proofs.Fields.{by-posted}
 use Rattle.rules.specs.Proofs.Reads.{reads}
-use Rattle.rules.specs.Proofs.Events.{falling-edge}
+use Rattle.rules.specs.Proofs.Events.{disables-as}
 use Rattle.rules.specs.Proofs.Requests.{refused-event, accepted-event, exchange-event, asked-event, got-event}
 use Rattle.rules.specs.Proofs.Others.{by-channel, part-other, settles-other, Plain, plain, command-other, board-other}
 use Rattle.rules.specs.declared.PeripheralChange.{PeripheralChange}
@@ -226,13 +226,7 @@ module _ (w : World) where
 
   set-seen : (b r : List ℕ) (a v : ℕ) → Writes b a v → Plans b r (acceptThen (w .state) (reconfigured (w .state) (writeAt (w .state .config) a v)))
   unfolding exchanged
-  set-seen b r a v h = seen _ (accepted-event (w .state) (exchange b r) _ refl ∙ ap₂ (λ (t : Bool) (e : Event). pick t ends e) disabling (rw (h .opcode))) (written-seen b r _ _ refl)
-    where
-      disabling : disables peripheral (w .state) b ≡ on peripheral (w .state .config) && not (on peripheral (writeAt (w .state .config) a v))
-      disabling =
-          ap (λ (op : ℕ). eqb op 0x22 && (eqb (registerAt b) 0x010 && (on peripheral (w .state .config) && eqb (registerValue b % 2) 0))) (h .opcode)
-          ∙ ap₂ (λ (x y : ℕ). eqb x 0x010 && (on peripheral (w .state .config) && eqb (y % 2) 0)) (sym (h .address)) (sym (h .value))
-          ∙ sym (falling-edge peripheral (w .state .config) a v)
+  set-seen b r a v h = seen _ (accepted-event (w .state) (exchange b r) _ refl ∙ ap₂ (λ (t : Bool) (e : Event). pick t ends e) (disables-as peripheral (w .state) b h) (rw (h .opcode))) (written-seen b r _ _ refl)
 
   reset-seen : (r : Reset) → Seen (reset r) (only 0 (withState w (wasReset r (w .state))))
   unfolding eventOf
