@@ -198,7 +198,7 @@ put-other : (k j : Channel) (q : Part k) (s : State) → same k j ≡ false → 
 put-other k j q s =
     put-each (λ j p. same k j ≡ false → p ≡ part j s) k q s (λ e. absurd (true≢false (sym (eq-eqb (channelNumber k) _ refl) ∙ e))) (λ j e. refl) j
 
-one-channel : (k j : Channel) (op : ℕ) → isOf k op ≡ true → isOf j op ≡ true → same k j ≡ true
+pub one-channel : (k j : Channel) (op : ℕ) → isOf k op ≡ true → isOf j op ≡ true → same k j ≡ true
 one-channel peripheral peripheral op e f = refl
 one-channel peripheral wires op e f = absurd (true≢false (sym e ∙ wires-alone op f))
 one-channel wires peripheral op e f = absurd (true≢false (sym f ∙ wires-alone op e))

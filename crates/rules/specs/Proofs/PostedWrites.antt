@@ -1,16 +1,15 @@
 -- Proof of P13: one sweep over the case law for the place of a posted write and its store, then by induction over the run.
 use Prim.Native.Nat.{ℕ, _+_, _≤_}
-use mathlib.Core.Bool.{Bool, true, false, _&&_, _||_, not, true≢false}
-use mathlib.Core.List.{List, [], _∷_}
+use mathlib.Core.Bool.{Bool, true, false, _&&_, not, true≢false}
+use mathlib.Core.List.{List, [], _∷_, _++_}
 use mathlib.Core.Path.{_≡_, refl, sym, ap, _∙_}
 use native.Mathlib.Omega.{arith}
-use lib.Dec.{ltb}
 use lib.ListN.{length, take, drop}
 use lib.Seq.{take-at}
-use borrow.Author.Tests.{le-ltb, eqb-true, eq-eqb}
-use Rattle.base.specs.Pick.{pick, and-true}
+use borrow.Author.Tests.{le-ltb}
+use Rattle.base.specs.Pick.{pick}
 use Rattle.base.specs.Bytes.{over, over-none}
-use Rattle.registers.specs.Registers.{sizeOf, writeAt}
+use Rattle.registers.specs.Registers.{writeAt}
 use Rattle.state.specs.Fresh as F
 use Rattle.state.specs.Status.{pcFree}
 use Rattle.state.specs.declared.Posted.{Posted}
@@ -19,7 +18,7 @@ use Rattle.state.specs.declared.Write.the-variants.{Empty, Held}
 use Rattle.state.specs.declared.Peripheral.{Peripheral}
 use Rattle.rules.specs.Rules.Reset.{Reset, start, espiReset, platformReset}
 use Rattle.rules.specs.Rules.Peripheral as P₀
-use Rattle.rules.specs.Rules.Channel.{Channel, peripheral, Command, Act, Board, Change, nextOf, outOf, part, put, on, actOf, same}
+use Rattle.rules.specs.Rules.Channel.{Channel, peripheral, Command, Act, Board, Change, nextOf, part, put, on, actOf, same}
 use Rattle.rules.specs.Rules.Lift.{lift, acceptThen}
 use Rattle.rules.specs.Rules.Exchange.{reconfigured, wasReset}
 use Rattle.rules.specs.Rules.Reply.{keptBytes}
@@ -27,19 +26,23 @@ use Rattle.rules.specs.Rules.Step.{World, Call, reset, exchange, board, 
 use Rattle.rules.specs.Statements.Peripheral as P
 use Rattle.rules.specs.Statements.Cases as C
 use Rattle.rules.specs.Statements.Cases.{Did, Settled, Admits, commandOf, Case}
-use Rattle.rules.specs.Statements.Fields.{byte, isPosted, accessLength, dataFrom, writtenData}
+use Rattle.rules.specs.Statements.Fields.{byte, isPosted, accessLength, writtenData}
 use Rattle.rules.specs.Statements.Reads as R
 use Rattle.rules.specs.Statements.Reads.{Writes}
 use Rattle.rules.specs.Statements.Channels.{Acts}
 use Rattle.rules.specs.Statements.Events as E
 use Rattle.rules.specs.Statements.Events.{accepted, endsWith, unended}
 use Rattle.rules.specs.Statements.Requests.{since, without, sameStore, storeHandedOn, writeHandedOn}
+use Rattle.rules.specs.Statements.Sizes.{isOf}
+use Rattle.rules.specs.Statements.Peripheral.Effects.{afterPosted}
 use Rattle.rules.specs.Statements.PostedWrites.{isPost, isTake, posts, takes, takesWith, writePlace, Accepted, posting, Untaken, takenAt, Taken, PostedWrites}
 use Rattle.rules.specs.Proofs.Cases.{cases, board-long}
 use Rattle.rules.specs.Proofs.Channels as N
 use Rattle.rules.specs.Proofs.Peripheral as L
 use Rattle.rules.specs.Proofs.Peripheral.Effects.{data-length}
 use Rattle.rules.specs.Proofs.Reads.{reads}
+use Rattle.rules.specs.Proofs.Fields.{asked-not-posted}
+use Rattle.rules.specs.Proofs.Effects.{effects, command-own, one-channel}
 use Rattle.rules.specs.Proofs.Events.{disables-as, head-unended, tail-unended, head-without, tail-without}
 use Rattle.rules.specs.Proofs.Others.{by-channel, part-other, acts-other}
 use Rattle.rules.specs.declared.Kept.{Kept}
@@ -135,3 +138,141 @@ module _ (w : World) where
 
 place : (w : World) (c : Call) → Place w c (step w c)
 place w c = case-place w (cases w c)
+
+-- ---- one call
+
+held-by : (p : Posted) (w : World) (c : Call) → writePlace w ≡ Held p → E.ends peripheral w c ≡ false → takes w c ≡ false → Place w c (step w c)
+    → writePlace (step w c .next) ≡ Held p
+held-by p w c h e f (stays a b) = a ∙ h
+held-by p w c h e f (lent write read g a b) = a ∙ h
+held-by p w c h e f (posted a b) = absurd (true≢false (cc))
+held-by p w c h e f (taken a b g) = absurd (true≢false (sym g ∙ f))
+held-by p w c h e f (ended a b g) = absurd (true≢false (sym g ∙ e))
+
+empty-by : (w : World) (c : Call) → writePlace w ≡ Empty → posts w c ≡ false → Place w c (step w c) → writePlace (step w c .next) ≡ Empty
+empty-by w c h e (stays a b) = a ∙ h
+empty-by w c h e (lent write read g a b) = a ∙ h
+empty-by w c h e (posted a b) = absurd (true≢false (sym b ∙ e))
+empty-by w c h e (taken a b g) = a
+empty-by w c h e (ended a b g) = a
+
+store-by : (w : World) (c : Call) → posts w c ≡ false → sameStore (λ v. v .write) w c → Place w c (step w c) → step w c .next .write ≡ w .write
+store-by w c e s (stays a b) = b
+store-by w c e s (lent write read g a b) = b ∙ (rw g at s)
+store-by w c e s (posted a b) = absurd (true≢false (sym b ∙ e))
+store-by w c e s (taken a b g) = b
+store-by w c e s (ended a b g) = b
+
+-- ---- a run
+
+held-run : (p : Posted) (w : World) (xs : List Call) → writePlace w ≡ Held p → unended peripheral w xs ≡ true → without takes w xs ≡ true → writePlace (run w xs) ≡ Held p
+unfolding run
+held-run p w [] h e f = h
+held-run p w (c ∷ cs) h e f =
+    held-run p (step w c .next) cs (held-by p w c h (head-unended peripheral w c cs e) (head-without takes w c cs f) (place w c))
+    (tail-unended peripheral w c cs e) (tail-without takes w c cs f)
+
+empty-run : (w : World) (xs : List Call) → writePlace w ≡ Empty → without posts w xs ≡ true → writePlace (run w xs) ≡ Empty
+unfolding run
+empty-run w [] h e = h
+empty-run w (c ∷ cs) h e = empty-run (step w c .next) cs (empty-by w c h (head-without posts w c cs e) (place w c)) (tail-without posts w c cs e)
+
+store-run : (w : World) (xs : List Call) → without posts w xs ≡ true → writeHandedOn w xs → run w xs .write ≡ w .write
+unfolding run storeHandedOn
+store-run w [] e h = refl
+store-run w (c ∷ cs) e h = store-run (step w c .next) cs (tail-without posts w c cs e) (h .1) ∙ store-by w c (head-without posts w c cs e) (h .0) (place w c)
+
+-- ---- the take
+
+module _ (w : World) (report : List ℕ) (long : 256 ≤ length (w .write)) (room : 10 ≤ length report) where
+  -- its change, by channel 0's law
+  take-is : step w (takesWith report) ≡ settled peripheral w (P₀.takeWrite report) (lift peripheral (w .state) (P₀.settle (w .state .config) (w .state .peripheral) (P₀.takeWrite report)))
+  take-is = board-long peripheral w (P₀.takeWrite report) (rw (le-ltb (length (w .write)) writeLength long, le-ltb (length report) takeLength room))
+
+  settled-take : P.Settled (w .state .peripheral) (P₀.takeWrite report) (P₀.settle (w .state .config) (w .state .peripheral) (P₀.takeWrite report))
+  settled-take = L.settles (w .state .config) (w .state .peripheral) (P₀.takeWrite report)
+
+  take-none : writePlace w ≡ Empty → step w (takesWith report) .number ≡ 23
+  unfolding settled lift
+  take-none h = ap (λ (o : Outcome). o .number) take-is ∙ by settled-take
+    where
+      by : {x : PeripheralChange} → P.Settled (w .state .peripheral) (P₀.takeWrite report) x → x .out .number ≡ 23
+      by (P.noTake e) = refl
+      by (P.took e) = absurd (true≢false (cc))
+
+  record Takes (p : Posted) : Type 0 where
+    number : step w (takesWith report) .number ≡ 0
+    yields : step w (takesWith report) .report ≡ P₀.postedReport p
+    frees : writePlace (step w (takesWith report) .next) ≡ Empty
+
+  take-held : (p : Posted) → writePlace w ≡ Held p → Takes p
+  unfolding settled lift
+  take-held p h =
+      record {
+        number = ap (λ (o : Outcome). o .number) take-is ∙ by settled-take .0;
+        yields = ap (λ (o : Outcome). o .report) take-is ∙ ap P₀.takeReport h;
+        frees = ap (λ (o : Outcome). writePlace (o .next)) take-is ∙ by settled-take .1;
+      }
+    where
+      by : {x : PeripheralChange} → P.Settled (w .state .peripheral) (P₀.takeWrite report) x → (x .out .number ≡ 0) × (x .next .write ≡ Empty)
+      by (P.noTake e) = absurd (true≢false (cc))
+      by (P.took e) = (refl, refl)
+
+-- ---- the write itself
+
+module _ (w : World) (b r : List ℕ) where
+  channel-0 : isPosted (byte b 0) ≡ true → isOf peripheral (byte b 0) ≡ true
+  channel-0 h = rw h
+
+  data-read : {a : P₀.Act} → R.Peripheral (w .state .config) b a → isPosted (byte b 0) ≡ true → length (writtenData b) ≡ accessLength b
+  data-read (R.posts h n) p = data-length b n
+  data-read (R.asks h) p = absurd (true≢false (sym p ∙ asked-not-posted (byte b 0) h))
+  data-read (R.Peripheral.gets h) p = absurd (true≢false (sym p ∙ ap isPosted h))
+
+  -- an accepted one has all its data
+  data-whole : {o : Outcome} → Case w (exchange b r) o → isPosted (byte b 0) ≡ true → o .number ≡ 0 → length (writtenData b) ≡ accessLength b
+  unfolding exchanged
+  data-whole (C.idle n q) p z = absurd (omega (arith, q .least))
+  data-whole (C.shown (C.status e)) p z = absurd (true≢false (sym p ∙ ap isPosted (reads (w .state) b _ e)))
+  data-whole (C.shown (C.register a e)) p z = absurd (true≢false (sym p ∙ ap isPosted (reads (w .state) b _ e .opcode)))
+  data-whole (C.acted k o x e d) p z =
+      by-channel (λ (k : Channel). (o : Command k) → Admits (w .state) b (commandOf k o) → length (writtenData b) ≡ accessLength b)
+      (λ o e. data-read (reads (w .state) b _ e) p)
+      (λ k n o e. absurd (true≢false (sym (one-channel k peripheral (byte b 0) (command-own k (w .state) b o e) (channel-0 p)) ∙ n))) k o e
+  data-whole (C.forbidden a v e f) p z = absurd (omega arith)
+  data-whole (C.configured a v e f) p z = absurd (true≢false (sym p ∙ ap isPosted (reads (w .state) b _ e .opcode)))
+  data-whole (C.cleared e) p z = absurd (true≢false (sym p ∙ ap isPosted (reads (w .state) b _ e)))
+
+module _ (w : World) (b r : List ℕ) (h : Accepted w b r) where
+  abbrev w′ : World
+  w′ = step w (exchange b r) .next
+
+  row : w′ ≡ record { state = put peripheral (afterPosted (w .state .config) (w .state .peripheral) b) (w .state); write = writtenData b ++ drop (accessLength b) (w .write); read = w .read }
+  row = effects w (exchange b r) (h .number) ∙ rw (h .posted)
+
+  whole : length (writtenData b) ≡ accessLength b
+  whole = data-whole w b r (cases w (exchange b r)) (h .posted) (h .number)
+
+  first-held : writePlace w′ ≡ Held (posting w b)
+  first-held = ap writePlace row
+
+  first-bytes : take (accessLength b) (w′ .write) ≡ writtenData b
+  first-bytes = ap (λ (v : World). take (accessLength b) (v .write)) row ∙ take-at (writtenData b) (drop (accessLength b) (w .write)) (accessLength b) whole
+
+  taken-once : (xs : List Call) → Untaken w b r xs → (report : List ℕ) → 256 ≤ length (since w (exchange b r) xs .write) → 10 ≤ length report → Taken w b r xs report
+  taken-once xs u report long room =
+      let t = take-held (since w (exchange b r) xs) report long room (posting w b) (held-run (posting w b) w′ xs first-held (u .unended) (u .untaken)) in
+      record {
+        number = t .number;
+        yields = t .yields;
+        once = λ ys report′ n l k. take-none (run (takenAt w b r xs report) ys) report′ l k (empty-run (takenAt w b r xs report) ys (t .frees) n);
+      }
+
+pub posted-writes : PostedWrites
+posted-writes w b r h xs =
+    record {
+      whole = whole w b r h;
+      bytes = λ e s. ap (take (accessLength b)) (store-run (step w (exchange b r) .next) xs e s) ∙ first-bytes w b r h;
+      held = λ u. held-run (posting w b) (step w (exchange b r) .next) xs (first-held w b r h) (u .unended) (u .untaken);
+      taken = taken-once w b r h xs;
+    }
