@@ -14,6 +14,10 @@ pub mod Plans
 pub mod Lift
 pub mod Refusals
 pub mod WholeRefusals
+pub mod Both
+pub mod Reply
+pub mod Whose
+pub mod Apart
 pub mod Shape
 pub mod SoundBytes
 pub mod SoundParts
@@ -30,3 +34,6 @@ pub mod Effects
 pub mod ConfigWrites
 pub mod Replies
 pub mod PostedWrites
+pub mod WireView
+pub mod Bound
+pub mod WireSteps

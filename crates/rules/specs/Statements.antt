@@ -10,6 +10,8 @@ pub mod View
 pub mod Demand3
 pub mod Plans
 pub mod Refusals
+pub mod Both
+pub mod Apart
 pub mod Shape
 pub mod Sound
 pub mod SoundMeans
@@ -20,3 +22,7 @@ pub mod Sizes
 pub mod Effects
 pub mod ConfigWrites
 pub mod PostedWrites
+pub mod WireEvents
+pub mod WireView
+pub mod Bound
+pub mod WireSteps

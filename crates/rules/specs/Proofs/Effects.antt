@@ -5,7 +5,7 @@ use mathlib.Core.List.{List, []}
 use mathlib.Core.Path.{_≡_, refl, sym, ap, _∙_, subst}
 use native.Mathlib.Omega.{arith}
 use lib.Dec.{eqb}
-use borrow.Author.Tests.{eq-eqb, eqb-true}
+use borrow.Author.Tests.{eqb-true}
 use Rattle.base.specs.Bytes.{over, over-none}
 use Rattle.registers.specs.Registers.{writeAt}
 use Rattle.registers.specs.Laws.{bit-zero, on0-written, on1-written, by-address, write-other}
@@ -27,7 +27,7 @@ use Rattle.rules.specs.Statements.Refusals.{Refusal}
 use Rattle.rules.specs.Proofs.Cases.{cases}
 use Rattle.rules.specs.Proofs.Refusals.{refusals-change-nothing}
 use Rattle.rules.specs.Proofs.Reads.{reads, one-of}
-use Rattle.rules.specs.Proofs.Lift.{put-config, put-each}
+use Rattle.rules.specs.Proofs.Lift.{put-config, part-stays}
 use Rattle.rules.specs.Proofs.Becomes.{Becomes}
 use Rattle.rules.specs.Proofs.Peripheral.Effects as P
 use Rattle.rules.specs.Proofs.Wires.Effects as W
@@ -194,10 +194,6 @@ after-call Q w c same row = go (step w c .number) refl (refusals-change-nothing 
 
 -- ---- the parts
 
-put-other : (k j : Channel) (q : Part k) (s : State) → same k j ≡ false → part j (put k q s) ≡ part j s
-put-other k j q s =
-    put-each (λ j p. same k j ≡ false → p ≡ part j s) k q s (λ e. absurd (true≢false (sym (eq-eqb (channelNumber k) _ refl) ∙ e))) (λ j e. refl) j
-
 pub one-channel : (k j : Channel) (op : ℕ) → isOf k op ≡ true → isOf j op ≡ true → same k j ≡ true
 one-channel peripheral peripheral op e f = refl
 one-channel peripheral wires op e f = absurd (true≢false (sym e ∙ wires-alone op f))
@@ -223,7 +219,7 @@ module _ (w : World) (k : Channel) where
   frame j q v h e =
       record {
         config = ap (λ (t : State). t .config) e ∙ put-config j q (w .state);
-        others = λ i n. ap (part i) e ∙ put-other j i q (w .state) (subst (λ (m : ℕ). eqb m (channelNumber i) ≡ false) (eqb-true _ _ h) n);
+        others = λ i n. ap (part i) e ∙ part-stays j i q (w .state) (subst (λ (m : ℕ). eqb m (channelNumber i) ≡ false) (eqb-true _ _ h) n);
       }
 
   pub not-ours : (b : List ℕ) {op : ℕ} → byte b 0 ≡ op → isOf k op ≡ false → isOf k (byte b 0) ≡ true → ⊥

@@ -46,12 +46,20 @@ falling-edge k c a v = ap (λ (t : Bool). on k c && not t) (enable-written k c a
     go false true = refl
     go false false = refl
 
--- a write of other bytes disables nothing, and one of these the channel whose bit it makes fall
+pub rising-edge : (k : Channel) (c : Config) (a v : ℕ) → not (on k c) && on k (writeAt c a v) ≡ eqb a (registerOf k) && (not (on k c) && eqb (v % 2) 1)
+rising-edge k c a v = ap (λ (t : Bool). not (on k c) && t) (enable-written k c a v) ∙ go (eqb a (registerOf k)) (on k c)
+  where
+    go : (t was : Bool) → not was && pick t (eqb (v % 2) 1) was ≡ t && (not was && eqb (v % 2) 1)
+    go true was = refl
+    go false true = refl
+    go false false = refl
+
+-- by the command's bytes: other commands disable nothing, a write the channel whose bit it makes fall
 pub no-disabling : (k : Channel) (s : State) (b : List ℕ) → eqb (byte b 0) 0x22 ≡ false → disables k s b ≡ false
 no-disabling k s b e = ap (λ (t : Bool). t && (eqb (registerAt b) (registerOf k) && (on k (s .config) && eqb (registerValue b % 2) 0))) e
 
-pub disables-as : (k : Channel) (s : State) (b : List ℕ) {a v : ℕ} → Writes b a v → disables k s b ≡ on k (s .config) && not (on k (writeAt (s .config) a v))
-disables-as k s b {a} {v} h =
+pub disabling : (k : Channel) (s : State) (b : List ℕ) (a v : ℕ) → Writes b a v → disables k s b ≡ on k (s .config) && not (on k (writeAt (s .config) a v))
+disabling k s b a v h =
     ap (λ (op : ℕ). eqb op 0x22 && (eqb (registerAt b) (registerOf k) && (on k (s .config) && eqb (registerValue b % 2) 0))) (h .opcode)
     ∙ ap₂ (λ (x y : ℕ). eqb x (registerOf k) && (on k (s .config) && eqb (y % 2) 0)) (sym (h .address)) (sym (h .value))
     ∙ sym (falling-edge k (s .config) a v)

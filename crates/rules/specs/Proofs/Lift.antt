@@ -1,9 +1,12 @@
 -- A change put back: what `lift` and `put` do, whatever the channel.
+use Prim.Native.Nat.{ℕ, zero, suc}
 use mathlib.Core.Bool.{Bool, true, false, true≢false}
-use mathlib.Core.Path.{_≡_, refl, sym, ap, _∙_}
+use mathlib.Core.Path.{_≡_, refl, sym, ap, subst, _∙_}
+use borrow.Author.Tests.{eq-eqb, ne-eqb, eqb-true, eqb-false}
+use Rattle.registers.specs.declared.Config.{Config}
 use Rattle.state.specs.Status.{status}
 use Rattle.state.specs.declared.State.{State}
-use Rattle.rules.specs.Rules.Channel.{Channel, peripheral, wires, Part, Change, change, part, put, same}
+use Rattle.rules.specs.Rules.Channel.{Channel, peripheral, wires, Part, change, outOf, part, put, each, channelNumber, same}
 use Rattle.rules.specs.Rules.Lift.{lift, withStatus}
 use Rattle.rules.specs.declared.Out.{Out}
 use Rattle.rules.specs.declared.Plan.{Plan}
@@ -17,6 +20,10 @@ unfolding lift
 lift-change peripheral s q out = refl
 lift-change wires s q out = refl
 
+pub out-change : (k : Channel) (q : Part k) (out : Out) → outOf k (change k q out) ≡ out
+out-change peripheral q out = refl
+out-change wires q out = refl
+
 -- a part that stays
 pub put-same : (k : Channel) (s : State) → put k (part k s) s ≡ s
 put-same peripheral s = refl
@@ -29,9 +36,51 @@ pub put-config : (k : Channel) (q : Part k) (s : State) → put k q s .config �
 put-config peripheral q s = refl
 put-config wires q s = refl
 
--- the one lemma in which two channels meet: what holds of a new part and of every part before holds of every part after
+-- the one lemma in which two channels meet: the parts of two states, one channel's replaced in both, stay related if the new ones are
+pub put-both : (Q : (y : Channel) → Part y → Part y → Type 0) (k : Channel) (p q : Part k) (s t : State)
+    → Q k p q → ((y : Channel) → Q y (part y s) (part y t)) → (y : Channel) → Q y (part y (put k p s)) (part y (put k q t))
+put-both Q peripheral p q s t h g peripheral = h
+put-both Q peripheral p q s t h g wires = g wires
+put-both Q wires p q s t h g peripheral = g peripheral
+put-both Q wires p q s t h g wires = h
+
+-- of one state: what holds of a new part and of every part before holds of every part after
 pub put-each : (Q : (j : Channel) → Part j → Type 0) (k : Channel) (q : Part k) (s : State) → Q k q → ((j : Channel) → Q j (part j s)) → (j : Channel) → Q j (part j (put k q s))
-put-each Q peripheral q s h e peripheral = h
-put-each Q peripheral q s h e wires = e wires
-put-each Q wires q s h e peripheral = e peripheral
-put-each Q wires q s h e wires = h
+put-each Q k q s h e = put-both (λ (j : Channel) (a b : Part j). Q j a) k q q s s h e
+
+pub part-each : (f : (k : Channel) → Part k → Part k) (c : Config) (s : State) (k : Channel) → part k (each f c s) ≡ f k (part k s)
+part-each f c s peripheral = refl
+part-each f c s wires = refl
+
+-- ---- which channel: told by its number
+
+abbrev channelAt : ℕ → Channel
+channelAt zero = peripheral
+channelAt (suc n) = wires
+
+number-back : (x : Channel) → channelAt (channelNumber x) ≡ x
+number-back peripheral = refl
+number-back wires = refl
+
+pub same-self : (x : Channel) → same x x ≡ true
+same-self x = eq-eqb (channelNumber x) (channelNumber x) refl
+
+pub same-is : (x y : Channel) → same x y ≡ true → y ≡ x
+same-is x y e = sym (number-back y) ∙ ap channelAt (sym (eqb-true (channelNumber x) (channelNumber y) e)) ∙ number-back x
+
+pub same-turned : (x k : Channel) → same x k ≡ false → same k x ≡ false
+same-turned x k e = ne-eqb (channelNumber k) (channelNumber x) (λ q. eqb-false (channelNumber x) (channelNumber k) e (sym q))
+
+-- a channel, or another
+pub own-or-other : (x : Channel) (Q : Channel → Type 0) → Q x → ((k : Channel) → same x k ≡ false → Q k) → (k : Channel) → Q k
+own-or-other x Q q other k = go (same x k) refl
+  where
+    go : (t : Bool) → same x k ≡ t → Q k
+    go true e = subst Q (sym (same-is x k e)) q
+    go false e = other k e
+
+-- another channel's part stays
+pub part-stays : (k j : Channel) (q : Part k) (s : State) → same k j ≡ false → part j (put k q s) ≡ part j s
+part-stays k j q s e =
+    put-both (λ (z : Channel) (a b : Part z). same k z ≡ false → a ≡ b) k q (part k s) s s (λ f. absurd (true≢false (sym (same-self k) ∙ f))) (λ z f. refl) j e
+    ∙ ap (part j) (put-same k s)

@@ -1,4 +1,5 @@
 -- Channel 0's law: the one file that unfolds its decisions.
+pub mod Apart
 pub mod Effects
 pub mod Lawful
 pub mod Shape

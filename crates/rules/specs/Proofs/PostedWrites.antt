@@ -43,8 +43,9 @@ use Rattle.rules.specs.Proofs.Peripheral.Effects.{data-length}
 use Rattle.rules.specs.Proofs.Reads.{reads}
 use Rattle.rules.specs.Proofs.Fields.{asked-not-posted}
 use Rattle.rules.specs.Proofs.Effects.{effects, command-own, one-channel}
-use Rattle.rules.specs.Proofs.Events.{disables-as, head-unended, tail-unended, head-without, tail-without}
-use Rattle.rules.specs.Proofs.Others.{by-channel, part-other, acts-other}
+use Rattle.rules.specs.Proofs.Events.{disabling, head-unended, tail-unended, head-without, tail-without}
+use Rattle.rules.specs.Proofs.Lift.{own-or-other, same-turned, part-stays}
+use Rattle.rules.specs.Proofs.Others.{acts-other}
 use Rattle.rules.specs.declared.Kept.{Kept}
 use Rattle.rules.specs.declared.PeripheralChange.{PeripheralChange}
 
@@ -88,9 +89,9 @@ module _ (w : World) where
   settled-place (P.took e) = taken refl refl refl
 
   -- another channel's
-  module _ (k : Channel) (other : same k peripheral ≡ false) where
+  module _ (k : Channel) (other : same peripheral k ≡ false) where
     kept-place : (x : Change k) → put k (nextOf k x) (w .state) .peripheral .write ≡ writePlace w
-    kept-place x = ap (λ (p : Peripheral). p .write) (part-other k other (nextOf k x) (w .state))
+    kept-place x = ap (λ (p : Peripheral). p .write) (part-stays k peripheral (nextOf k x) (w .state) (same-turned peripheral k other))
 
     acted-beside : (b r : List ℕ) (a : Act k) (x : Change k) → Acts k (part k (w .state)) a x → Place w (exchange b r) (exchanged w b (lift k (w .state) x))
     unfolding exchanged lift
@@ -109,7 +110,7 @@ module _ (w : World) where
     where
       by : (t : Bool) → on peripheral (w .state .config) && not (on peripheral (writeAt (w .state .config) a v)) ≡ t
           → Place w (exchange b r) (exchanged w b (acceptThen (w .state) (reconfigured (w .state) (writeAt (w .state .config) a v))))
-      by true e = ended (ap (λ (t : Bool). pick t (F.dropped (w .state .peripheral)) (w .state .peripheral) .write) e) refl (disables-as peripheral (w .state) b h ∙ e)
+      by true e = ended (ap (λ (t : Bool). pick t (F.dropped (w .state .peripheral)) (w .state .peripheral) .write) e) refl (disabling peripheral (w .state) b a v h ∙ e)
       by false e = stays (ap (λ (t : Bool). pick t (F.dropped (w .state .peripheral)) (w .state .peripheral) .write) e) refl
 
   reset-place : (r : Reset) → Place w (reset r) (only 0 (withState w (wasReset r (w .state))))
@@ -122,13 +123,13 @@ module _ (w : World) where
   case-place (C.idle n h) = stays refl refl
   case-place (C.shown h) = stays refl refl
   case-place (C.acted {b} {r} k o x e d) =
-      by-channel
+      own-or-other peripheral
       (λ (k : Channel). (o : Command k) (x : Change k) → Admits (w .state) b (commandOf k o) → Did k (w .state .config) (part k (w .state)) (actOf k (w .state .config) o b) x
       → Place w (exchange b r) (exchanged w b (lift k (w .state) x)))
       (λ o x e d. acted-place b r (reads (w .state) b _ e) d)
       (λ k n o x e d. acted-beside k n b r _ x (N.acts k (w .state .config) (part k (w .state)) _ x d)) k o x e d
   case-place (C.settles k o x e d) =
-      by-channel (λ (k : Channel). (o : Board k) (x : Change k) → Settled k (w .state .config) (part k (w .state)) o x → Place w (board k o) (settled k w o (lift k (w .state) x)))
+      own-or-other peripheral (λ (k : Channel). (o : Board k) (x : Change k) → Settled k (w .state .config) (part k (w .state)) o x → Place w (board k o) (settled k w o (lift k (w .state) x)))
       (λ o x d. settled-place d) (λ k n o x d. settled-beside k n o x) k o x d
   case-place (C.forbidden a v e f) = stays refl refl
   case-place (C.configured {b} {r} a v e f) = set-place b r a v (reads (w .state) b _ e)
@@ -236,9 +237,9 @@ module _ (w : World) (b r : List ℕ) where
   data-whole (C.shown (C.status e)) p z = absurd (true≢false (sym p ∙ ap isPosted (reads (w .state) b _ e)))
   data-whole (C.shown (C.register a e)) p z = absurd (true≢false (sym p ∙ ap isPosted (reads (w .state) b _ e .opcode)))
   data-whole (C.acted k o x e d) p z =
-      by-channel (λ (k : Channel). (o : Command k) → Admits (w .state) b (commandOf k o) → length (writtenData b) ≡ accessLength b)
+      own-or-other peripheral (λ (k : Channel). (o : Command k) → Admits (w .state) b (commandOf k o) → length (writtenData b) ≡ accessLength b)
       (λ o e. data-read (reads (w .state) b _ e) p)
-      (λ k n o e. absurd (true≢false (sym (one-channel k peripheral (byte b 0) (command-own k (w .state) b o e) (channel-0 p)) ∙ n))) k o e
+      (λ k n o e. absurd (true≢false (sym (one-channel peripheral k (byte b 0) (channel-0 p) (command-own k (w .state) b o e)) ∙ n))) k o e
   data-whole (C.forbidden a v e f) p z = absurd (omega arith)
   data-whole (C.configured a v e f) p z = absurd (true≢false (sym p ∙ ap isPosted (reads (w .state) b _ e .opcode)))
   data-whole (C.cleared e) p z = absurd (true≢false (sym p ∙ ap isPosted (reads (w .state) b _ e)))

@@ -1,7 +1,7 @@
 -- The view: one sweep over the case law, reading channel 0's law; whatever another channel does leaves channel 0's part.
 use Prim.Native.Nat.{ℕ, _+_, _-_, _*_, _/_, _%_, _^_, _<_, _≤_}
 use mathlib.Core.Bool.{Bool, true, false, _&&_, not}
-use mathlib.Core.List.{List, [], _∷_, _++_, append-assoc}
+use mathlib.Core.List.{List, [], _∷_, _++_}
 use mathlib.Core.Path.{_≡_, refl, sym, ap, ap₂, _∙_, subst}
 use native.Mathlib.Omega.{arith}
 use lib.Dec.{eqb}
@@ -41,10 +41,13 @@ use Rattle.rules.specs.Statements.View.{Shown, Move, same as stays, aske
 use Rattle.rules.specs.Proofs.Cases.{cases}
 use Rattle.rules.specs.Proofs.Channels as N
 use Rattle.rules.specs.Proofs.Fields.{by-posted}
+use Rattle.rules.specs.Proofs.Peripheral.Effects.{no-bytes}
 use Rattle.rules.specs.Proofs.Reads.{reads}
-use Rattle.rules.specs.Proofs.Events.{disables-as}
+use Rattle.rules.specs.Proofs.Reply.{closed-as, bit-below, status-small}
+use Rattle.rules.specs.Proofs.Events.{disabling}
 use Rattle.rules.specs.Proofs.Requests.{refused-event, accepted-event, exchange-event, asked-event, got-event}
-use Rattle.rules.specs.Proofs.Others.{by-channel, part-other, settles-other, Plain, plain, command-other, board-other}
+use Rattle.rules.specs.Proofs.Lift.{own-or-other, same-turned, part-stays}
+use Rattle.rules.specs.Proofs.Others.{settles-other, Plain, plain, command-other, board-other}
 use Rattle.rules.specs.declared.PeripheralChange.{PeripheralChange}
 use Rattle.rules.specs.declared.Say.{Say}
 use Rattle.rules.specs.declared.Say.the-variants as S
@@ -56,14 +59,9 @@ use Rattle.rules.specs.declared.Plan.{Plan}
 
 -- ---- the status that a reply shows
 
-bit-below : (b : Bool) → bit b ≤ 1
-bit-below true = omega arith
-bit-below false = omega arith
-
 record Bits (s : State) : Type 0 where
   np : status s / 2 ^ 1 % 2 ≡ bit (npFree (s .peripheral .request))
   pc : status s / 2 ^ 4 % 2 ≡ bit (pcAvail (s .peripheral .request))
-  below : status s < 256
 
 bits : (s : State) → Bits s
 unfolding status
@@ -72,7 +70,7 @@ bits s =
     let b = bit-below (npFree (s .peripheral .request)) in
     let c = bit-below (pcAvail (s .peripheral .request)) in
     let d = bit-below (anyPending (s .wires)) in
-    record { np = omega (arith, a, b, c, d); pc = omega (arith, a, b, c, d); below = omega (arith, a, b, c, d) }
+    record { np = omega (arith, a, b, c, d); pc = omega (arith, a, b, c, d) }
 
 quiet : {n : Np} → Shown n []
 quiet = record { np = λ h. absurd (omega arith); pc = λ h. absurd (omega arith) }
@@ -87,15 +85,14 @@ status-at m a b x =
     rw (low, high, getD-append-add m t 0 0, getD-append-add m t 1 0)
 
 status-in : (m : List ℕ) (st : ℕ) → st < 256 → statusIn (closed m st) ≡ st
-unfolding closed
-status-in m st h = rw (append-assoc m (low2 st) (crc (m ++ low2 st) ∷ [])) (status-at m (st % 256) (st / 256 % 256) (crc (m ++ low2 st)) ∙ omega arith)
+status-in m st h = rw (closed-as m st) (status-at m (st % 256) (st / 256 % 256) (crc (m ++ low2 st)) ∙ omega arith)
 
 -- a reply, where there is one, that shows the status of a state
 shown : (s : State) (say : Say) (read : List ℕ) → Shown (s .peripheral .request) (replyBytes (withStatus say (status s)) read)
 unfolding replyBytes
 shown s S.Silent read = quiet
 shown s (S.Said response body) read =
-    record { np = λ _. rw (status-in _ (status s) (bits s .below)) (bits s .np); pc = λ _. rw (status-in _ (status s) (bits s .below)) (bits s .pc) }
+    record { np = λ _. rw (status-in _ (status s) (status-small s)) (bits s .np); pc = λ _. rw (status-in _ (status s) (status-small s)) (bits s .pc) }
 
 -- ---- commands that make no event of channel 0
 
@@ -110,10 +107,6 @@ posted-plain : (b : List ℕ) → isPosted (byte b 0) ≡ true → Plain b
 posted-plain b h =
     by-posted (λ (op : ℕ). byte b 0 ≡ op → Plain b) (λ e. plain b 0x00 e refl refl) (λ e. plain b 0x4C e refl refl) (λ e. plain b 0x4D e refl refl)
     (λ e. plain b 0x4F e refl refl) (byte b 0) h refl
-
-no-bytes : (d : List ℕ) → length d ≡ 0 → [] ≡ d
-no-bytes [] e = refl
-no-bytes (x ∷ d) e = absurd (omega arith)
 
 module _ (w : World) where
   abbrev Seen : Call → Outcome → Type 0
@@ -165,15 +158,15 @@ module _ (w : World) where
   settled-seen {o} (P.miscounted e f g) = number-seen o 21 refl
   settled-seen (P.succeeds {serial} {success} {bytes = d} {q} e f g h) =
       told q serial success d refl e f (rw g h) (rw g) refl (ap (λ (x : List ℕ). over x (w .read)) (ap (λ (m : ℕ). take m d) (sym h) ∙ take-length d)) refl
-  settled-seen (P.fails {serial} {success} {bytes = d} {q} e f g h) = told q serial success d refl e f (rw g h) (rw g) refl (ap (λ (x : List ℕ). over x (w .read)) (no-bytes d h)) refl
+  settled-seen (P.fails {serial} {success} {bytes = d} {q} e f g h) = told q serial success d refl e f (rw g h) (rw g) refl (ap (λ (x : List ℕ). over x (w .read)) (sym (no-bytes d h))) refl
   settled-seen {o} (P.noTake e) = number-seen o 23 refl
   settled-seen (P.took e) = stays refl refl refl quiet
 
   -- ---- another channel's
 
-  module _ (k : Channel) (other : same k peripheral ≡ false) where
+  module _ (k : Channel) (other : same peripheral k ≡ false) where
     kept-part : (x : Change k) → put k (nextOf k x) (w .state) .peripheral ≡ w .state .peripheral
-    kept-part x = part-other k other (nextOf k x) (w .state)
+    kept-part x = part-stays k peripheral (nextOf k x) (w .state) (same-turned peripheral k other)
 
     acted-beside : (b r : List ℕ) (x : Change k) → Plain b → Seen (exchange b r) (exchanged w b (lift k (w .state) x))
     unfolding exchanged lift
@@ -226,7 +219,7 @@ module _ (w : World) where
 
   set-seen : (b r : List ℕ) (a v : ℕ) → Writes b a v → Plans b r (acceptThen (w .state) (reconfigured (w .state) (writeAt (w .state .config) a v)))
   unfolding exchanged
-  set-seen b r a v h = seen _ (accepted-event (w .state) (exchange b r) _ refl ∙ ap₂ (λ (t : Bool) (e : Event). pick t ends e) (disables-as peripheral (w .state) b h) (rw (h .opcode))) (written-seen b r _ _ refl)
+  set-seen b r a v h = seen _ (accepted-event (w .state) (exchange b r) _ refl ∙ ap₂ (λ (t : Bool) (e : Event). pick t ends e) (disabling peripheral (w .state) b a v h) (rw (h .opcode))) (written-seen b r _ _ refl)
 
   reset-seen : (r : Reset) → Seen (reset r) (only 0 (withState w (wasReset r (w .state))))
   unfolding eventOf
@@ -251,13 +244,13 @@ module _ (w : World) where
   case-seen {c} (C.idle n h) = idle-seen c n (h .least)
   case-seen (C.shown {b} {r} {body} h) = shown-seen b r body (shows-plain h)
   case-seen (C.acted {b} {r} k o x e d) =
-      by-channel
+      own-or-other peripheral
       (λ (k : Channel). (o : Command k) (x : Change k) → Admits (w .state) b (commandOf k o) → Did k (w .state .config) (part k (w .state)) (actOf k (w .state .config) o b) x
       → Seen (exchange b r) (exchanged w b (lift k (w .state) x)))
       (λ o x e d. acted-seen b r (reads (w .state) b _ e) d) (λ k n o x e d. acted-beside k n b r x (command-other k n (w .state .config) b o (reads (w .state) b _ e)))
       k o x e d
   case-seen (C.settles k o x e d) =
-      by-channel (λ (k : Channel). (o : Board k) (x : Change k) → Settled k (w .state .config) (part k (w .state)) o x → Seen (board k o) (settled k w o (lift k (w .state) x)))
+      own-or-other peripheral (λ (k : Channel). (o : Board k) (x : Change k) → Settled k (w .state .config) (part k (w .state)) o x → Seen (board k o) (settled k w o (lift k (w .state) x)))
       (λ o x d. settled-seen d) (λ k n o x d. settled-beside k n o x (N.settled k (w .state .config) (part k (w .state)) o x d)) k o x d
   case-seen (C.forbidden {b} {r} a v e f) = forbidden-seen b r
   case-seen (C.configured {b} {r} a v e f) = set-seen b r a v (reads (w .state) b _ e)

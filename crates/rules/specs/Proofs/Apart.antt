@@ -1,0 +1,488 @@
+-- No channel tells on another: one argument for every channel. A call of x's own leaves all that is not x's; any other call goes the same way in two
+-- worlds that are alike but for x, for its channel sees its own part and stores alone. So a run shows what it shows without x's calls.
+use Prim.Native.Nat.{ℕ, _+_, _-_, _/_, _%_}
+use mathlib.Core.Bool.{Bool, true, false, _||_, true≢false}
+use mathlib.Core.List.{List, [], _∷_, _++_}
+use mathlib.Core.Path.{_≡_, refl, sym, ap, subst, _∙_}
+use native.Mathlib.Omega.{arith}
+use lib.Dec.{ltb}
+use lib.ListN.{getD, length, take, length-append}
+use lib.Seq.{take-at, getD-at, getD-append-add}
+use borrow.Author.Tests.{ne-eqb}
+use Rattle.base.specs.Bytes.{low2, over}
+use Rattle.crc.specs.Crc.{crc}
+use Rattle.registers.specs.Registers.{fresh008, readAt, writeAt}
+use Rattle.registers.specs.declared.Config.{Config}
+use Rattle.wires.specs.Groups.{anyPending}
+use Rattle.command.specs.declared.Command as C₀
+use Rattle.state.specs.Status.{status, peripheralStatus, wiresStatus, pcFree, npFree, pcAvail}
+use Rattle.state.specs.declared.Peripheral.{Peripheral}
+use Rattle.state.specs.declared.State.{State}
+use Rattle.rules.specs.Rules.Out.{responseByte}
+use Rattle.rules.specs.Rules.Channel.{Channel, peripheral, wires, Part, Command, Act, Board, Change, change, nextOf, outOf, actOf, acting, settle, reportOf, valueOf, given, ownBody, ownKept, part, put, each, on, edge, same}
+use Rattle.rules.specs.Rules.Channel as N
+use Rattle.rules.specs.Rules.Lift as L₀
+use Rattle.rules.specs.Rules.Lift.{lift, withStatus, show}
+use Rattle.rules.specs.Rules.Exchange as E
+use Rattle.rules.specs.Rules.Exchange.{reconfigured, configReset}
+use Rattle.rules.specs.Rules.Reply.{closed, replyBytes, bodyBytes, keptBytes}
+use Rattle.rules.specs.Rules.Step.{World, Call, Outcome, exchange, board, reset, short, lend, step, run, exchanged, settled, shortStores, shortFor, writeLength, readLength, replyLength}
+use Rattle.rules.specs.Statements.Plans.{Settled, Admits}
+use Rattle.rules.specs.Statements.Channels.{Acts, Settles}
+use Rattle.rules.specs.Statements.Channels as L
+use Rattle.rules.specs.Statements.Fields.{byte}
+use Rattle.rules.specs.Statements.Both as T
+use Rattle.rules.specs.Statements.Both.{Both, SameRoom}
+use Rattle.rules.specs.Statements.Apart.{isOpcodeOf, storesOf, clear, isCommandOf, isOf, others, replyBut, Seen, seen, seeing, RunsAlike, StatesAlike, Alike, NoneTells, SameButWires, WiresApart, SameButPeripheral, PeripheralApart}
+use Rattle.rules.specs.Proofs.Plans as Q
+use Rattle.rules.specs.Proofs.Channels as L₁
+use Rattle.rules.specs.Proofs.Peripheral.Apart as P₁
+use Rattle.rules.specs.Proofs.Wires.Apart as W₁
+use Rattle.rules.specs.Proofs.Whose.{begins, own-command, no-set, no-reset}
+use Rattle.rules.specs.Proofs.Both.{both}
+use Rattle.rules.specs.Proofs.Lift.{out-change, part-stays, lift-change, put-config, put-both, part-each, same-is, planned}
+use Rattle.rules.specs.Proofs.Reads.{reads}
+use Rattle.rules.specs.Proofs.Reply.{closed-as, closed-length, bit-below, status-small, over-long}
+use Rattle.rules.specs.declared.Body.{Body}
+use Rattle.rules.specs.declared.Body.the-variants as B
+use Rattle.rules.specs.declared.Say.{Say}
+use Rattle.rules.specs.declared.Say.the-variants as Y
+use Rattle.rules.specs.declared.Kept.{Kept}
+use Rattle.rules.specs.declared.Kept.the-variants as K
+use Rattle.rules.specs.declared.Out.{Out}
+use Rattle.rules.specs.declared.Plan.{Plan}
+use Rattle.rules.specs.declared.Response.the-variants.{Accept, NonFatal}
+
+-- ---- the status without x's bits: the others' are left
+
+abbrev left : Channel → State → ℕ
+left peripheral s = wiresStatus (s .wires)
+left wires s = peripheralStatus (s .peripheral) + 4
+
+cleared : (x : Channel) (s : State) → clear x (status s % 256) ≡ left x s
+unfolding status
+cleared peripheral s =
+    omega (arith, bit-below (pcFree (s .peripheral .write)), bit-below (npFree (s .peripheral .request)), bit-below (pcAvail (s .peripheral .request)), bit-below (anyPending (s .wires)))
+cleared wires s =
+    omega (arith, bit-below (pcFree (s .peripheral .write)), bit-below (npFree (s .peripheral .request)), bit-below (pcAvail (s .peripheral .request)), bit-below (anyPending (s .wires)))
+
+left-alike : (x : Channel) (s t : State) → StatesAlike x s t → left x s ≡ left x t
+left-alike peripheral s t h = ap wiresStatus (h .parts wires refl)
+left-alike wires s t h = ap (λ (p : Peripheral). peripheralStatus p + 4) (h .parts peripheral refl)
+
+status-alike : (x : Channel) (s t : State) → StatesAlike x s t → clear x (status s % 256) ≡ clear x (status t % 256)
+status-alike x s t h = cleared x s ∙ left-alike x s t h ∙ sym (cleared x t)
+
+-- ---- a reply but for x's status bits and the CRC byte
+
+parted : (x : Channel) (l m : List ℕ) (a : ℕ) → length l ≡ length m + 3 → take (length m) l ≡ m → getD l (length m) 0 ≡ a → getD l (length m + 1) 0 ≡ 0
+    → replyBut x l ≡ m ++ (clear x a ∷ 0 ∷ [])
+parted x l m a n t f g =
+    let z = ne-eqb (length l) 0 (λ q. omega arith) in
+    let e₃ : length l - 3 ≡ length m = omega arith in
+    let e₂ : length l - 2 ≡ length m + 1 = omega arith in
+    rw (z, e₃, e₂, t, f, g)
+
+closed-but : (x : Channel) (m : List ℕ) (s : State) → replyBut x (closed m (status s)) ≡ m ++ (clear x (status s % 256) ∷ 0 ∷ [])
+closed-but x m s =
+    let t = status s in
+    let end = t % 256 ∷ t / 256 % 256 ∷ crc (m ++ low2 t) ∷ [] in
+    ap (replyBut x) (closed-as m t)
+    ∙ parted x (m ++ end) m (t % 256) (simp length-append (omega arith)) (take-at m end (length m) refl)
+    (getD-at m (t % 256) _ 0 (length m) refl) (getD-append-add m end 1 0 ∙ omega (arith, status-small s))
+
+-- what a plan says, in two states that are alike but for x, its body's bytes being the same
+abbrev bodyOf : Say → List ℕ → List ℕ
+bodyOf Y.Silent reads = []
+bodyOf (Y.Said r body) reads = bodyBytes body reads
+
+module _ (x : Channel) (s t : State) (h : StatesAlike x s t) (l m : List ℕ) where
+  said-but : (y : Say) → bodyOf y l ≡ bodyOf y m → replyBut x (replyBytes (withStatus y (status s)) l) ≡ replyBut x (replyBytes (withStatus y (status t)) m)
+  unfolding replyBytes
+  said-but Y.Silent e = refl
+  said-but (Y.Said r body) e =
+      closed-but x (responseByte r ∷ bodyBytes body l) s
+      ∙ ap (λ (z : ℕ). (responseByte r ∷ bodyBytes body l) ++ (z ∷ 0 ∷ [])) (status-alike x s t h)
+      ∙ ap (λ (z : List ℕ). (responseByte r ∷ z) ++ (clear x (status t % 256) ∷ 0 ∷ [])) e
+      ∙ sym (closed-but x (responseByte r ∷ bodyBytes body m) t)
+
+  said-length : (y : Say) → bodyOf y l ≡ bodyOf y m → length (replyBytes (withStatus y (status s)) l) ≡ length (replyBytes (withStatus y (status t)) m)
+  unfolding replyBytes
+  said-length Y.Silent e = refl
+  said-length (Y.Said r body) e =
+      closed-length (responseByte r ∷ bodyBytes body l) (status s)
+      ∙ ap (λ (z : List ℕ). length (responseByte r ∷ z) + 3) e
+      ∙ sym (closed-length (responseByte r ∷ bodyBytes body m) (status t))
+
+-- ---- states and worlds alike but for x
+
+states-chain : {x : Channel} {s t u : State} → StatesAlike x s t → StatesAlike x t u → StatesAlike x s u
+states-chain h g = record { config = h .config ∙ g .config; parts = λ y e. h .parts y e ∙ g .parts y e }
+
+self : (x : Channel) (w : World) → Alike x w w
+self x w = record { state = record { config = refl; parts = λ y e. refl }; stores = λ y e. refl; room = λ r. refl }
+
+turned : {x : Channel} {w v : World} → Alike x w v → Alike x v w
+turned h =
+    record {
+      state = record { config = sym (h .state .config); parts = λ y e. sym (h .state .parts y e) };
+      stores = λ y e. sym (h .stores y e);
+      room = λ r. sym (h .room r);
+    }
+
+joined : {x : Channel} {w v u : World} → Alike x w v → Alike x v u → Alike x w u
+joined h g = record { state = states-chain (h .state) (g .state); stores = λ y e. h .stores y e ∙ g .stores y e; room = λ r. h .room r ∙ g .room r }
+
+-- the same part put into both
+put-alike : (x k : Channel) (p : Part k) (s t : State) → StatesAlike x s t → StatesAlike x (put k p s) (put k p t)
+put-alike x k p s t h =
+    record {
+      config = put-config k p s ∙ h .config ∙ sym (put-config k p t);
+      parts = put-both (λ (y : Channel) (a b : Part y). same x y ≡ false → a ≡ b) k p p s t (λ e. refl) (h .parts);
+    }
+
+-- x's own replaced
+put-own : (x : Channel) (p : Part x) (s : State) → StatesAlike x (put x p s) s
+put-own x p s =
+    record {
+      config = put-config x p s;
+      parts = λ y e. part-stays x y p s e;
+    }
+
+-- every part by the same function
+each-alike : (x : Channel) (f g : (k : Channel) → Part k → Part k) (c d : Config) (s t : State) → c ≡ d → ((k : Channel) (p : Part k) → f k p ≡ g k p)
+    → StatesAlike x s t → StatesAlike x (each f c s) (each g d t)
+each-alike x f g c d s t e u h =
+    record { config = e; parts = λ y n. part-each f c s y ∙ ap (f y) (h .parts y n) ∙ u y (part y t) ∙ sym (part-each g d t y) }
+
+-- ---- stores: a body of a channel's own reads none but its stores, data of its own goes to none but these
+
+own-bytes : (k : Channel) (body : Body) (write read write′ read′ : List ℕ) → ownBody k body ≡ true → storesOf k write read ≡ storesOf k write′ read′
+    → bodyBytes body read ≡ bodyBytes body read′
+own-bytes peripheral body write read write′ read′ o e = ap (λ (l : List (List ℕ)). bodyBytes body (getD l 1 [])) e
+own-bytes wires body write read write′ read′ o e = W₁.own-bytes body read read′ o
+
+none-own : (k : Channel) → ownKept k K.Nothing ≡ true
+none-own peripheral = refl
+none-own wires = refl
+
+-- the same data laid over a store of two worlds
+stores-written : (y : Channel) (d write read write′ read′ : List ℕ) → storesOf y write read ≡ storesOf y write′ read′ → storesOf y (over d write) read ≡ storesOf y (over d write′) read′
+stores-written peripheral d write read write′ read′ e = ap (λ (l : List (List ℕ)). over d (getD l 0 []) ∷ getD l 1 [] ∷ []) e
+stores-written wires d write read write′ read′ e = refl
+
+stores-answered : (y : Channel) (d write read write′ read′ : List ℕ) → storesOf y write read ≡ storesOf y write′ read′ → storesOf y write (over d read) ≡ storesOf y write′ (over d read′)
+stores-answered peripheral d write read write′ read′ e = ap (λ (l : List (List ℕ)). getD l 0 [] ∷ over d (getD l 1 []) ∷ []) e
+stores-answered wires d write read write′ read′ e = refl
+
+-- number 10 of an exchange, by the stores
+abbrev lacks : (reply write read : List ℕ) → Bool
+lacks reply write read = ltb (length reply) replyLength || (ltb (length write) writeLength || ltb (length read) readLength)
+
+abbrev SameLack : (write read write′ read′ : List ℕ) → Type 0
+SameLack write read write′ read′ = (reply : List ℕ) → lacks reply write read ≡ lacks reply write′ read′
+
+module _ (write read write′ read′ : List ℕ) where
+  lack-written : (k : Channel) (kept : Kept) (b : List ℕ) → ownKept k kept ≡ true → storesOf k write read ≡ storesOf k write′ read′ → SameLack write read write′ read′
+      → SameLack (over (keptBytes kept b) write) read (over (keptBytes kept b) write′) read′
+  lack-written peripheral kept b o e h reply = ap (λ (l : List (List ℕ)). lacks reply (over (keptBytes kept b) (getD l 0 [])) (getD l 1 [])) e
+  lack-written wires kept b o e h reply = W₁.kept-none (λ (f : List ℕ → List ℕ). SameLack (f write) read (f write′) read′) kept b o h reply
+
+  lack-answered : (k : Channel) (kept : Kept) (b : List ℕ) → ownKept k kept ≡ true → storesOf k write read ≡ storesOf k write′ read′ → SameLack write read write′ read′
+      → SameLack write (over (keptBytes kept b) read) write′ (over (keptBytes kept b) read′)
+  lack-answered peripheral kept b o e h reply = ap (λ (l : List (List ℕ)). lacks reply (getD l 0 []) (over (keptBytes kept b) (getD l 1 []))) e
+  lack-answered wires kept b o e h reply = W₁.kept-none (λ (f : List ℕ → List ℕ). SameLack write (f read) write′ (f read′)) kept b o h reply
+
+-- ---- another channel's call, in two worlds alike but for x
+
+record Together (x : Channel) (o q : Outcome) : Type 0 where
+  shows : seen x o ≡ seen x q
+  next : Alike x (o .next) (q .next)
+
+module _ (x : Channel) (w v : World) (h : Alike x w v) where
+  -- a plan that says and keeps the same in both, with the status of s and t, and s′ and t′ after it
+  exchanged-together : (b : List ℕ) (n : ℕ) (y : Say) (kept : Kept) (s t s′ t′ : State) → StatesAlike x s t → StatesAlike x s′ t′
+      → bodyOf y (w .read) ≡ bodyOf y (v .read)
+      → SameLack (over (keptBytes kept b) (w .write)) (w .read) (over (keptBytes kept b) (v .write)) (v .read)
+      → Together x (exchanged w b (record { number = n; reply = withStatus y (status s); next = s′; kept = kept }))
+      (exchanged v b (record { number = n; reply = withStatus y (status t); next = t′; kept = kept }))
+  unfolding exchanged seen
+  exchanged-together b n y kept s t s′ t′ g g′ e l =
+      let reply : List ℕ = replyBut x (replyBytes (withStatus y (status s)) (w .read)) in
+      let value : ℕ = length (replyBytes (withStatus y (status t)) (v .read)) in
+      record {
+        shows =
+            ap (λ (z : ℕ). record { number = n; value = z; report = []; reply = reply }) (said-length x s t g (w .read) (v .read) y e)
+            ∙ ap (λ (z : List ℕ). record { number = n; value = value; report = []; reply = z }) (said-but x s t g (w .read) (v .read) y e);
+        next = record { state = g′; stores = λ z f. stores-written z (keptBytes kept b) (w .write) (w .read) (v .write) (v .read) (h .stores z f); room = l };
+      }
+
+  -- above all channels nothing is kept and no store is read
+  above-together : (b : List ℕ) (n : ℕ) (y : Say) (s′ t′ : State) → StatesAlike x s′ t′ → bodyOf y (w .read) ≡ bodyOf y (v .read)
+      → Together x (exchanged w b (record { number = n; reply = withStatus y (status (w .state)); next = s′; kept = K.Nothing }))
+      (exchanged v b (record { number = n; reply = withStatus y (status (v .state)); next = t′; kept = K.Nothing }))
+  unfolding over
+  above-together b n y s′ t′ g e = exchanged-together b n y K.Nothing (w .state) (v .state) s′ t′ (h .state) g e (h .room)
+
+  module _ (k : Channel) (other : same x k ≡ false) where
+    out-together : (b : List ℕ) (q : Part k) (n : ℕ) (y : Say) (kept : Kept) → bodyOf y (w .read) ≡ bodyOf y (v .read) → ownKept k kept ≡ true
+        → Together x (exchanged w b (lift k (w .state) (change k q (record { number = n; say = y; kept = kept }))))
+        (exchanged v b (lift k (v .state) (change k q (record { number = n; say = y; kept = kept }))))
+    out-together b q n y kept e o =
+        let out : Out = record { number = n; say = y; kept = kept } in
+        let g = put-alike x k q (w .state) (v .state) (h .state) in
+        subst (λ (p : Plan). Together x (exchanged w b p) (exchanged v b (lift k (v .state) (change k q out)))) (sym (lift-change k (w .state) q out))
+        (subst (λ (p : Plan). Together x (exchanged w b (planned (put k q (w .state)) out)) (exchanged v b p)) (sym (lift-change k (v .state) q out))
+        (exchanged-together b n y kept _ _ _ _ g g e (lack-written (w .write) (w .read) (v .write) (v .read) k kept b o (h .stores k other) (h .room))))
+
+    acts-together : (b : List ℕ) {p : Part k} {a : Act k} {c : Change k} → Acts k p a c → Together x (exchanged w b (lift k (w .state) c)) (exchanged v b (lift k (v .state) c))
+    acts-together b {p = p} L.Acts.refused = out-together b p 1 _ K.Nothing refl (none-own k)
+    acts-together b (L.Acts.accepted q body kept o n) =
+        out-together b q 0 (Y.Said _ body) kept (own-bytes k body (w .write) (w .read) (v .write) (v .read) o (h .stores k other)) n
+
+    -- its change is the same in both
+    acting-alike : (o : Command k) (b : List ℕ)
+        → acting k (w .state .config) (part k (w .state)) (actOf k (w .state .config) o b) ≡ acting k (v .state .config) (part k (v .state)) (actOf k (v .state .config) o b)
+    acting-alike o b =
+        ap (λ (c : Config). acting k c (part k (w .state)) (actOf k c o b)) (h .state .config)
+        ∙ ap (λ (p : Part k). acting k (v .state .config) p (actOf k (v .state .config) o b)) (h .state .parts k other)
+
+    settle-alike : (o : Board k) → settle k (w .state .config) (part k (w .state)) o ≡ settle k (v .state .config) (part k (v .state)) o
+    settle-alike o = ap (λ (c : Config). settle k c (part k (w .state)) o) (h .state .config) ∙ ap (λ (p : Part k). settle k (v .state .config) p o) (h .state .parts k other)
+
+    settled-together : (o : Board k) (q : Part k) (out : Out) → ownKept k (out .kept) ≡ true
+        → Together x (settled k w o (lift k (w .state) (change k q out))) (settled k v o (lift k (v .state) (change k q out)))
+    unfolding settled seen
+    settled-together o q out n =
+        subst (λ (p : Plan). Together x (settled k w o p) (settled k v o (lift k (v .state) (change k q out)))) (sym (lift-change k (w .state) q out))
+        (subst (λ (p : Plan). Together x (settled k w o (planned (put k q (w .state)) out)) (settled k v o p)) (sym (lift-change k (v .state) q out)) both-settled)
+      where
+        both-settled : Together x (settled k w o (planned (put k q (w .state)) out)) (settled k v o (planned (put k q (v .state)) out))
+        both-settled =
+            record {
+              shows = ap (λ (p : Part k). record { number = out .number; value = valueOf k p o; report = reportOf k p o; reply = [] }) (h .state .parts k other);
+              next = record {
+                state = put-alike x k q (w .state) (v .state) (h .state);
+                stores = λ y f. stores-answered y (keptBytes (out .kept) (given k o)) (w .write) (w .read) (v .write) (v .read) (h .stores y f);
+                room = lack-answered (w .write) (w .read) (v .write) (v .read) k (out .kept) (given k o) n (h .stores k other) (h .room);
+              };
+            }
+
+    settles-together : (o : Board k) {p : Part k} {c : Change k} → Settles k p o c → Together x (settled k w o (lift k (w .state) c)) (settled k v o (lift k (v .state) c))
+    settles-together o {p = p} (L.Settles.refused n a b e f) = settled-together o p _ (none-own k)
+    settles-together o (L.Settles.accepted q kept n) = settled-together o q _ n
+
+  reconfigured-alike : (a n : ℕ) → StatesAlike x (reconfigured (w .state) (writeAt (w .state .config) a n)) (reconfigured (v .state) (writeAt (v .state .config) a n))
+  reconfigured-alike a n =
+      each-alike x _ _ _ _ (w .state) (v .state) (ap (λ (c : Config). writeAt c a n) (h .state .config))
+      (λ k p. ap (λ (c : Config). edge k (on k c) (on k (writeAt c a n)) p) (h .state .config)) (h .state)
+
+  other-call : {c : Call} {o q : Outcome} → Both w v c o q → isOf x c ≡ false → Together x o q
+  unfolding seen
+  other-call (T.idle n) e = record { shows = refl; next = h }
+  other-call (T.status {b = b}) e = above-together b 0 (Y.Said Accept B.Nothing) (w .state) (v .state) (h .state) refl
+  other-call (T.register {b = b} a) e =
+      subst (λ (c : Config). Together x (exchanged w b (show (B.Word (readAt (w .state .config) a)) (w .state))) (exchanged v b (show (B.Word (readAt c a)) (v .state)))) (h .state .config)
+      (above-together b 0 (Y.Said Accept (B.Word (readAt (w .state .config) a))) (w .state) (v .state) (h .state) refl)
+  other-call (T.acted {b = b} k o r a) e =
+      let n = sym (own-command x k (w .state) b o a) ∙ e in
+      subst (λ (c : Change k). Together x (exchanged w b (E.acted k (w .state) (actOf k (w .state .config) o b))) (exchanged v b (lift k (v .state) c))) (acting-alike k n o b)
+      (acts-together k n b (L₁.acts k _ _ _ _ (Q.did k _ _ _)))
+  other-call (T.settles k o r) e =
+      subst (λ (c : Change k). Together x (settled k w o (L₀.settled k (w .state) o)) (settled k v o (lift k (v .state) c))) (settle-alike k e o)
+      (settles-together k e o (L₁.board-settles k (w .state) o))
+  other-call (T.forbidden {b = b}) e = above-together b 2 (Y.Said NonFatal B.Nothing) (w .state) (v .state) (h .state) refl
+  other-call (T.configured {b = b} a n r) e = above-together b 0 (Y.Said Accept B.Nothing) _ _ (reconfigured-alike a n) refl
+  other-call (T.cleared {b = b} r) e =
+      above-together b 0 Y.Silent _ _
+      (each-alike x (λ k p. p) (λ k p. p) _ _ (w .state) (v .state) (ap (λ (c : Config). record { r008 = fresh008; r010 = c .r010; r020 = c .r020 }) (h .state .config)) (λ k p. refl) (h .state)) refl
+  other-call (T.wiped {r = r}) e =
+      record {
+        shows = refl;
+        next = record { state = each-alike x (λ k. N.reset k r) (λ k. N.reset k r) _ _ (w .state) (v .state) (ap (configReset r) (h .state .config)) (λ k p. refl) (h .state); stores = h .stores; room = h .room };
+      }
+  other-call T.lent e = record { shows = refl; next = record { state = h .state; stores = λ y f. refl; room = λ r. refl } }
+
+-- ---- a call of x's own: it leaves the other parts, the others' stores, and of its own stores whether they are long enough
+
+middle : (a b c : Bool) → (a || (b || c)) ≡ false → b ≡ false
+middle true b c e = absurd (true≢false e)
+middle false true c e = absurd (true≢false e)
+middle false false c e = refl
+
+room-kept : (k : Channel) (w : World) (c : Config) (p : Part k) (o : Board k) (x : Change k) → Settled k c p o x → shortFor k o w ≡ false
+    → ltb (length (over (keptBytes (outOf k x .kept) (given k o)) (w .read))) readLength ≡ ltb (length (w .read)) readLength
+room-kept peripheral w c p o x d s = P₁.room w d s
+room-kept wires w c p o x d s = W₁.room w d
+
+-- data of k's own stays out of the others' stores
+module _ (b write read : List ℕ) where
+  abbrev StoresStay : Channel → (List ℕ → List ℕ) → Type 0
+  StoresStay y f = (storesOf y (f write) read ≡ storesOf y write read) × (storesOf y write (f read) ≡ storesOf y write read)
+
+  stores-own : (k y : Channel) (kept : Kept) → ownKept k kept ≡ true → same k y ≡ false → StoresStay y (over (keptBytes kept b))
+  stores-own k wires kept o e = (refl, refl)
+  stores-own peripheral peripheral kept o e = absurd (true≢false e)
+  stores-own wires peripheral kept o e = W₁.kept-none (StoresStay peripheral) kept b o (refl, refl)
+
+module _ (k : Channel) (w : World) where
+  acts-own : (b r : List ℕ) {p : Part k} {a : Act k} {c : Change k} → Acts k p a c → shortStores r w ≡ false → Alike k (exchanged w b (lift k (w .state) c) .next) w
+  unfolding exchanged lift
+  acts-own b r {c = c} d s =
+      record {
+        state = put-own k (nextOf k c) (w .state);
+        stores = λ y e. stores-own b (w .write) (w .read) k y (outOf k c .kept) (kept-own d) e .0;
+        room = λ reply. ap (λ (t : Bool). ltb (length reply) replyLength || (t || ltb (length (w .read)) readLength)) long;
+      }
+    where
+      long : ltb (length (over (keptBytes (outOf k c .kept) b) (w .write))) writeLength ≡ ltb (length (w .write)) writeLength
+      long = over-long _ (w .write) writeLength (middle (ltb (length r) replyLength) (ltb (length (w .write)) writeLength) (ltb (length (w .read)) readLength) s)
+
+      kept-own : {p : Part k} {a : Act k} {c : Change k} → Acts k p a c → ownKept k (outOf k c .kept) ≡ true
+      kept-own {p = p} L.Acts.refused = ap (λ (out : Out). ownKept k (out .kept)) (out-change k p _) ∙ none-own k
+      kept-own (L.Acts.accepted q body kept o n) = ap (λ (out : Out). ownKept k (out .kept)) (out-change k q _) ∙ n
+
+  settled-own : (o : Board k) (x : Change k) → Settled k (w .state .config) (part k (w .state)) o x → shortFor k o w ≡ false → Alike k (settled k w o (lift k (w .state) x) .next) w
+  unfolding settled lift
+  settled-own o x d s =
+      record {
+        state = put-own k (nextOf k x) (w .state);
+        stores = λ y e. stores-own (given k o) (w .write) (w .read) k y (outOf k x .kept) (kept-own (L₁.settled k _ _ o x d)) e .1;
+        room = λ reply. ap (λ (t : Bool). ltb (length reply) replyLength || (ltb (length (w .write)) writeLength || t)) (room-kept k w _ _ o x d s);
+      }
+    where
+      kept-own : {p : Part k} {c : Change k} → Settles k p o c → ownKept k (outOf k c .kept) ≡ true
+      kept-own {p = p} (L.Settles.refused n a b e f) = ap (λ (out : Out). ownKept k (out .kept)) (out-change k p _) ∙ none-own k
+      kept-own (L.Settles.accepted q kept n) = ap (λ (out : Out). ownKept k (out .kept)) (out-change k q _) ∙ n
+
+module _ (x : Channel) (w : World) where
+  no-command : (b : List ℕ) (o : C₀.Command) (op : ℕ) → Admits (w .state) b o → byte b 0 ≡ op → isOpcodeOf x op ≡ false → isCommandOf x b ≡ true → ⊥
+  no-command b o op a e f g = true≢false (sym g ∙ begins x (w .state) b o a ∙ ap (isOpcodeOf x) e ∙ f)
+
+  own-call : {c : Call} {o q : Outcome} → Both w w c o q → isOf x c ≡ true → Alike x (o .next) w
+  unfolding exchanged over
+  own-call (T.idle n) e = self x w
+  own-call T.status e = self x w
+  own-call (T.register a) e = self x w
+  own-call (T.acted {b = b} {r = r} k o s a) e =
+      let n = same-is x k (sym (own-command x k (w .state) b o a) ∙ e) in
+      subst (λ (z : Channel). Alike z (exchanged w b (E.acted k (w .state) (actOf k (w .state .config) o b)) .next) w) n (acts-own k w b r (L₁.acts k _ _ _ _ (Q.did k _ _ _)) s)
+  own-call (T.settles k o s) e =
+      subst (λ (z : Channel). Alike z (settled k w o (L₀.settled k (w .state) o) .next) w) (same-is x k e) (settled-own k w o _ (Q.settled k _ _ o) s)
+  own-call T.forbidden e = self x w
+  own-call (T.configured {b = b} a n r) e = absurd (no-command b _ 0x22 r (reads (w .state) b _ r .opcode) (no-set x) e)
+  own-call (T.cleared {b = b} r) e = absurd (no-command b _ 0xFF r (reads (w .state) b _ r) (no-reset x) e)
+  own-call T.wiped e = absurd (true≢false (sym e))
+  own-call T.lent e = absurd (true≢false (sym e))
+
+-- ---- runs: a run shows what it shows without x's calls
+
+same-room : (x : Channel) (w v : World) → Alike x w v → (c : Call) → isOf x c ≡ false → SameRoom w v c
+same-room x w v h (reset r) e = tt
+same-room x w v h (exchange b r) e = h .room r
+same-room x w v h (board k o) e = short-alike k o (h .stores k e)
+  where
+    short-alike : (k : Channel) (o : Board k) → storesOf k (w .write) (w .read) ≡ storesOf k (v .write) (v .read) → shortFor k o w ≡ shortFor k o v
+    short-alike peripheral o q = P₁.short-alike w v o q
+    short-alike wires o q = refl
+same-room x w v h (short state c) e = tt
+same-room x w v h (lend write read) e = tt
+
+module _ (x : Channel) (w : World) (c : Call) (cs : List Call) where
+  others-own : isOf x c ≡ true → others x (c ∷ cs) ≡ others x cs
+  unfolding others
+  others-own e = rw e
+
+  others-other : isOf x c ≡ false → others x (c ∷ cs) ≡ c ∷ others x cs
+  unfolding others
+  others-other e = rw e
+
+  seeing-own : isOf x c ≡ true → seeing x w (c ∷ cs) ≡ seeing x (step w c .next) cs
+  unfolding seeing
+  seeing-own e = rw e
+
+  seeing-other : isOf x c ≡ false → seeing x w (c ∷ cs) ≡ seen x (step w c) ∷ seeing x (step w c .next) cs
+  unfolding seeing
+  seeing-other e = rw e
+
+self-room : (w : World) (c : Call) → SameRoom w w c
+self-room w (reset r) = tt
+self-room w (exchange b r) = refl
+self-room w (board k o) = refl
+self-room w (short state c) = tt
+self-room w (lend write read) = tt
+
+sifted : (x : Channel) (cs : List Call) (w v : World) → Alike x w v → RunsAlike x (Alike x) w v cs (others x cs)
+unfolding others seeing run
+sifted x [] w v h = record { calls = refl; after = h }
+sifted x (c ∷ cs) w v h = go (isOf x c) refl (sifted x cs)
+  where
+    go : (t : Bool) → isOf x c ≡ t → ((w v : World) → Alike x w v → RunsAlike x (Alike x) w v cs (others x cs)) → RunsAlike x (Alike x) w v (c ∷ cs) (others x (c ∷ cs))
+    go true e rest =
+        let r = rest (step w c .next) v (joined (own-call x w (both w w c refl (self-room w c)) e) h) in
+        subst (RunsAlike x (Alike x) w v (c ∷ cs)) (sym (others-own x w c cs e)) (record { calls = seeing-own x w c cs e ∙ r .calls; after = r .after })
+    go false e rest =
+        let o = other-call x w v h (both w v c (h .state .config) (same-room x w v h c e)) e in
+        let r = rest (step w c .next) (step v c .next) (o .next) in
+        subst (RunsAlike x (Alike x) w v (c ∷ cs)) (sym (others-other x w c cs e))
+        (record {
+          calls =
+              seeing-other x w c cs e
+              ∙ ap (λ (z : Seen). z ∷ seeing x (step w c .next) cs) (o .shows)
+              ∙ ap (λ (z : List Seen). seen x (step v c) ∷ z) (r .calls)
+              ∙ sym (seeing-other x v c (others x cs) e);
+          after = r .after;
+        })
+
+pub none-tells : NoneTells
+none-tells x w v cs ds h e =
+    let a = sifted x cs w v h in
+    let b = subst (RunsAlike x (Alike x) v v ds) (sym e) (sifted x ds v v (self x v)) in
+    record { calls = a .calls ∙ sym (b .calls); after = joined (a .after) (turned (b .after)) }
+
+-- ---- P22 and its mirror
+
+to-wires : {w v : World} → SameButWires w v → Alike wires w v
+to-wires {w} {v} h =
+    record {
+      state = record { config = h .config; parts = parts };
+      stores = stores;
+      room = λ reply. ap (λ (l : List ℕ). lacks reply l (w .read)) (h .write) ∙ ap (lacks reply (v .write)) (h .read);
+    }
+  where
+    parts : (y : Channel) → same wires y ≡ false → part y (w .state) ≡ part y (v .state)
+    parts peripheral e = h .peripheral
+    parts wires e = absurd (true≢false e)
+
+    stores : (y : Channel) → same wires y ≡ false → storesOf y (w .write) (w .read) ≡ storesOf y (v .write) (v .read)
+    stores peripheral e = ap (λ (l : List ℕ). l ∷ w .read ∷ []) (h .write) ∙ ap (λ (l : List ℕ). v .write ∷ l ∷ []) (h .read)
+    stores wires e = refl
+
+from-wires : {w v : World} → Alike wires w v → SameButWires w v
+from-wires h =
+    record {
+      config = h .state .config;
+      peripheral = h .state .parts peripheral refl;
+      write = ap (λ (l : List (List ℕ)). getD l 0 []) (h .stores peripheral refl);
+      read = ap (λ (l : List (List ℕ)). getD l 1 []) (h .stores peripheral refl);
+    }
+
+pub wires-apart : WiresApart
+wires-apart w v cs ds h e = let r = none-tells wires w v cs ds (to-wires h) e in record { calls = r .calls; after = from-wires (r .after) }
+
+to-peripheral : {w v : World} → SameButPeripheral w v → Alike peripheral w v
+to-peripheral {w} {v} h = record { state = record { config = h .config; parts = parts }; stores = stores; room = h .room }
+  where
+    parts : (y : Channel) → same peripheral y ≡ false → part y (w .state) ≡ part y (v .state)
+    parts peripheral e = absurd (true≢false e)
+    parts wires e = h .wires
+
+    stores : (y : Channel) → same peripheral y ≡ false → storesOf y (w .write) (w .read) ≡ storesOf y (v .write) (v .read)
+    stores peripheral e = absurd (true≢false e)
+    stores wires e = refl
+
+from-peripheral : {w v : World} → Alike peripheral w v → SameButPeripheral w v
+from-peripheral h = record { config = h .state .config; wires = h .state .parts wires refl; room = h .room }
+
+pub peripheral-apart : PeripheralApart
+peripheral-apart w v cs ds h e = let r = none-tells peripheral w v cs ds (to-peripheral h) e in record { calls = r .calls; after = from-peripheral (r .after) }

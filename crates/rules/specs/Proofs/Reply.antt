@@ -1,0 +1,44 @@
+-- A reply by its parts: message, status low byte first, CRC; the status word; and data kept in a store.
+use Prim.Native.Nat.{ℕ, _+_, _/_, _%_, _≤_, _<_}
+use mathlib.Core.Bool.{Bool, true, false}
+use mathlib.Core.List.{List, [], _∷_, _++_, append-assoc}
+use mathlib.Core.Path.{_≡_, sym, _∙_}
+use native.Mathlib.Omega.{arith}
+use lib.Dec.{ltb}
+use lib.ListN.{length, drop, length-append, length-drop}
+use borrow.Author.Tests.{ltb-false, le-ltb}
+use Rattle.base.specs.Bytes.{low2, over}
+use Rattle.crc.specs.Crc.{crc}
+use Rattle.wires.specs.Groups.{anyPending}
+use Rattle.state.specs.Status.{status, bit, pcFree, npFree, pcAvail}
+use Rattle.state.specs.declared.State.{State}
+use Rattle.rules.specs.Rules.Reply.{closed}
+
+pub closed-as : (m : List ℕ) (t : ℕ) → closed m t ≡ m ++ (t % 256 ∷ t / 256 % 256 ∷ crc (m ++ low2 t) ∷ [])
+unfolding closed
+closed-as m t = append-assoc m (low2 t) _
+
+pub closed-length : (m : List ℕ) (t : ℕ) → length (closed m t) ≡ length m + 3
+unfolding closed
+closed-length m t = simp length-append (omega arith)
+
+-- ---- the status
+
+pub bit-below : (b : Bool) → bit b ≤ 1
+bit-below true = omega arith
+bit-below false = omega arith
+
+-- all its bits are in the low byte
+pub status-small : (s : State) → status s < 256
+unfolding status
+status-small s =
+    omega (arith, bit-below (pcFree (s .peripheral .write)), bit-below (npFree (s .peripheral .request)), bit-below (pcAvail (s .peripheral .request)), bit-below (anyPending (s .wires)))
+
+-- ---- what is kept
+
+-- data laid over a store that is long enough leaves it so
+pub over-long : (d l : List ℕ) (n : ℕ) → ltb (length l) n ≡ false → ltb (length (over d l)) n ≡ ltb (length l) n
+unfolding over
+over-long d l n e =
+    let m : n ≤ length (d ++ drop (length d) l) = simp (length-append, length-drop) (omega (arith, ltb-false (length l) n e)) in
+    le-ltb (length (d ++ drop (length d) l)) n m ∙ sym e

@@ -1,0 +1,304 @@
+-- P19 and P20 of `step`, from the view and the laws of the wires.
+use Prim.Native.Nat.{ℕ, zero, suc, _+_, _-_, _*_, _/_, _%_, _^_, _<_, _≤_}
+use mathlib.Core.Bool.{Bool, true, false, _&&_, not, true≢false}
+use mathlib.Core.List.{List, [], _∷_, _++_, List·Memᴰ, List·Memᴰ·head, List·Memᴰ·tail, List·Memᴰ·not-nil, List·Memᴰ·cases-cons}
+use mathlib.Core.Logic.{⊎-elim}
+use mathlib.Core.Path.{_≡_, refl, sym, ap, subst, _∙_}
+use native.Mathlib.Omega.{arith}
+use lib.Bits.{bitAnd}
+use lib.Dec.{eqb, ltb}
+use lib.ListN.{getD, length, take}
+use borrow.Author.Tests.{eqb-true, eqb-false, eq-eqb, ltb-true, lt-ltb, not-true}
+use Rattle.base.specs.Pick.{or-second, pick, and-left, and-right}
+use Rattle.registers.specs.declared.Config.{Config}
+use Rattle.wires.specs.Table.{rowAt, isGroup}
+use Rattle.wires.specs.Groups as G
+use Rattle.wires.specs.Groups.{levelAt, markAt, isDown, definedBit, settable, senders, noMarks, afterSent, differs}
+use Rattle.wires.specs.Rows.{settable-bit}
+use Rattle.wires.specs.Turn.{after, placeAfter}
+use Rattle.wires.specs.Round.{AllBelow, none, more}
+use Rattle.wires.specs.Sending.{sender-place}
+use Rattle.wires.specs.Kept as K
+use Rattle.wires.specs.Changes.{put-read, put-undefined, put-passes, put-marks, put-place, set-read, set-level-other, set-mark-other, set-mark}
+use Rattle.wires.specs.Sent.{waiters, queue, sent-queue, sent-count, sent-levels, sent-stays, sent-gone, pairBytes}
+use Rattle.wires.specs.declared.Wires.{Wires}
+use Rattle.state.specs.Status.{status}
+use Rattle.sound.specs.Sound.{Sound}
+use Rattle.rules.specs.Rules.Wires as W₀
+use Rattle.rules.specs.Rules.Channel.{wires, on}
+use Rattle.rules.specs.Rules.Lift.{lift}
+use Rattle.rules.specs.Rules.Reply.{closed}
+use Rattle.rules.specs.Rules.Step.{World, Call, exchange, board, Outcome, step, settled}
+use Rattle.rules.specs.Statements.Wires as W
+use Rattle.rules.specs.Statements.Fields.{byte, pairs, registerAt}
+use Rattle.rules.specs.Statements.WireEvents.{WireEvent, puts, gets, wireEvent, wiresOf, countOf}
+use Rattle.rules.specs.Statements.WireView.{setsWire, readsWire, WireMove, still, put, sent, set, enabled, disabled, wiped, platformWiped}
+use Rattle.rules.specs.Statements.WireSteps.{wireOf, Put, Set, nextUp, marked, pairsOf, SomeGot, Raised, byChange, byEnabling, WireSteps}
+use Rattle.rules.specs.Proofs.Cases as D
+use Rattle.rules.specs.Proofs.Cases.{board-long}
+use Rattle.rules.specs.Proofs.WireView.{command-event, wire-view, wires-sound, wires-whole, sent-body}
+use Rattle.rules.specs.declared.WiresChange.{WiresChange}
+
+level-small : (w : World) → Sound (w .state) → (i : ℕ) → 2 ≤ i → i ≤ 7 → levelAt (wiresOf w) i < 16
+level-small w s i h l =
+    let x = levelAt (wiresOf w) i in
+    ltb-true x 16 (and-right (eqb (bitAnd x (15 - rowAt (i - 2) .defined)) 0) (ltb x 16) (wires-sound w s .clean i h l))
+
+-- ---- PUT_VWIRE
+
+not-one : (x : ℕ) → eqb (x % 2) 1 ≡ false → x % 2 ≡ 0
+not-one x e = omega (arith, eqb-false (x % 2) 1 e)
+
+-- a bit of a group that is not defined
+undefined-off : (i bit : ℕ) → isDown i ≡ true → bit < 4 → definedBit i bit ≡ false → rowAt (i - 2) .defined / 2 ^ bit % 2 ≡ 0
+undefined-off i bit d h e =
+    not-one (rowAt (i - 2) .defined / 2 ^ bit)
+    (sym (ap (λ (t : Bool). t && eqb (rowAt (i - 2) .defined / 2 ^ bit % 2) 1) (lt-ltb bit 4 h))
+    ∙ sym (ap (λ (t : Bool). t && (ltb bit 4 && eqb (rowAt (i - 2) .defined / 2 ^ bit % 2) 1)) (and-left (isGroup i) _ d))
+    ∙ e)
+
+put-made : (w : World) (o : Outcome) (b : List ℕ) → Sound (w .state) → wiresOf (o .next) ≡ G.putPairs (wiresOf w) (pairs b) → Put w (o .next) (pairs b)
+put-made w o b s e =
+    let v = wiresOf w in
+    let f = wires-whole w s in
+    record {
+      bits = λ i bit d t. ap (λ (x : Wires). G.readWire x i bit) e ∙ put-read i bit d t v (pairs b) f;
+      undefinedBits = λ i bit d h t. ap (λ (x : Wires). G.readWire x i bit) e ∙ put-undefined i bit d h (undefined-off i bit d h t) v (pairs b) f;
+      otherGroups = λ i h t. ap (λ (x : Wires). levelAt x i) e ∙ put-passes v (pairs b) i h t;
+      marks = ap (λ (x : Wires). x .pending) e ∙ put-marks v (pairs b);
+      place = ap (λ (x : Wires). x .place) e ∙ put-place v (pairs b);
+    }
+
+put-of : (w : World) (b r : List ℕ) (o : Outcome) → Sound (w .state) → WireMove w (exchange b r) o puts → Put w (o .next) (pairs b)
+put-of w b r o s (put b′ r′ x e) = let q : b′ ≡ b = cc in put-made w o b s (e ∙ ap (λ (l : List ℕ). G.putPairs (wiresOf w) (pairs l)) q)
+
+-- ---- set and read
+
+set-of : (w : World) (i bit value : ℕ) (o : Outcome) → Sound (w .state) → settable i bit value ≡ true → wiresOf (o .next) ≡ G.setWire (on wires (w .state .config)) (wiresOf w) i bit value
+    → Set w (o .next) i bit value
+set-of w i bit value o s t e =
+    let on = on wires (w .state .config) in
+    let v = wiresOf w in
+    let f = wires-whole w s in
+    let d = settable-bit i bit value t .defined in
+    record {
+      bits = λ k h. ap (λ (x : Wires). G.readWire x i k) e ∙ set-read on v i bit value t f k h;
+      otherGroups = λ j h n. ap (λ (x : Wires). levelAt x j) e ∙ set-level-other on v i bit value t j h n;
+      mark = ap (λ (x : Wires). markAt x i) e ∙ set-mark on v i bit value t f (level-small w s i (d .from) (d .upto));
+      otherMarks = λ j h n. ap (λ (x : Wires). markAt x j) e ∙ set-mark-other on v i bit value t j h n;
+      place = ap (λ (x : Wires). x .place) e;
+    }
+
+-- what an accepted call of the board did
+abbrev BoardDid : Config → Wires → W₀.Board → Wires → Type 0
+BoardDid c v (W₀.setWire index bit value) u = (settable index bit value ≡ true) × (u ≡ G.setWire (on wires c) v index bit value)
+BoardDid c v (W₀.readWire index bit) u = W₀.valueOf v (W₀.readWire index bit) ≡ G.readWire v index bit
+
+board-did : {c : Config} {v : Wires} {o : W₀.Board} {x : WiresChange} → W.Settled c v o x → x .out .number ≡ 0 → BoardDid c v o (x .next)
+board-did (W.notBoards e) n = absurd (omega arith)
+board-did (W.set e) n = (e, refl)
+board-did (W.noWire e) n = absurd (omega arith)
+board-did (W.read e) n = rw e
+
+module _ (w : World) (o : W₀.Board) (n : step w (board wires o) .number ≡ 0) where
+  board-law : BoardDid (w .state .config) (wiresOf w) o (W₀.settle (w .state .config) (wiresOf w) o .next)
+  unfolding settled lift
+  board-law = board-did (D.settled wires (w .state .config) (wiresOf w) o) (sym (ap (λ (q : Outcome). q .number) (board-long wires w o refl)) ∙ n)
+
+set-step : (w : World) (i bit value : ℕ) → Sound (w .state) → step w (setsWire i bit value) .number ≡ 0 → Set w (step w (setsWire i bit value) .next) i bit value
+unfolding settled lift
+set-step w i bit value s n =
+    let o = W₀.setWire i bit value in
+    let d = board-law w o n in
+    set-of w i bit value (step w (board wires o)) s (d .0) (ap (λ (q : Outcome). wiresOf (q .next)) (board-long wires w o refl) ∙ d .1)
+
+read-step : (w : World) (i bit : ℕ) → step w (readsWire i bit) .number ≡ 0 → step w (readsWire i bit) .value ≡ wireOf w i bit
+unfolding settled
+read-step w i bit n = let o = W₀.readWire i bit in ap (λ (q : Outcome). q .value) (board-long wires w o refl) ∙ board-law w o n
+
+-- ---- GET_VWIRE: senders by their group
+
+unfoldable up : List ℕ → List ℕ
+up [] = []
+up (k ∷ ks) = (k + 4) ∷ up ks
+
+up-length : (ks : List ℕ) → length (up ks) ≡ length ks
+unfolding up
+up-length [] = refl
+up-length (k ∷ ks) = ap suc (up-length ks)
+
+up-take : (n : ℕ) (ks : List ℕ) → up (take n ks) ≡ take n (up ks)
+unfolding up
+up-take zero ks = refl
+up-take (suc n) [] = refl
+up-take (suc n) (k ∷ ks) = ap (λ (l : List ℕ). (k + 4) ∷ l) (up-take n ks)
+
+up-pairs : (v : Wires) (ks : List ℕ) → pairBytes v ks ≡ pairsOf v (up ks)
+unfolding up pairBytes pairsOf
+up-pairs v [] = refl
+up-pairs v (k ∷ ks) =
+    ap (λ (l : List ℕ). (k + 4) ∷ (rowAt (k + 2) .defined * 16 + levelAt v (k + 4)) ∷ l) (up-pairs v ks)
+    ∙ ap (λ (n : ℕ). (k + 4) ∷ (rowAt n .defined * 16 + levelAt v (k + 4)) ∷ pairsOf v (up ks)) (sym (sender-place k))
+
+up-in : {k : ℕ} {ks : List ℕ} → List·Memᴰ k ks → List·Memᴰ (k + 4) (up ks)
+unfolding up
+up-in (List·Memᴰ·head q) = List·Memᴰ·head (ap (λ (n : ℕ). n + 4) q)
+up-in (List·Memᴰ·tail m) = List·Memᴰ·tail (up-in m)
+
+up-from : (Q : ℕ → Type 0) (ks : List ℕ) → ((k : ℕ) → List·Memᴰ k ks → Q (k + 4)) → (i : ℕ) → List·Memᴰ i (up ks) → Q i
+unfolding up
+up-from Q [] f i m = absurd (List·Memᴰ·not-nil m)
+up-from Q (k ∷ ks) f i m = ⊎-elim (λ e. subst Q (sym e) (f k (List·Memᴰ·head refl))) (up-from Q ks (λ n h. f n (List·Memᴰ·tail h)) i) (List·Memᴰ·cases-cons m)
+
+chosen : (a b c : Bool) (x y z : ℕ)
+    → up (pick a (x ∷ pick b (y ∷ pick c (z ∷ []) []) (pick c (z ∷ []) [])) (pick b (y ∷ pick c (z ∷ []) []) (pick c (z ∷ []) [])))
+    ≡ pick a ((x + 4) ∷ pick b ((y + 4) ∷ pick c ((z + 4) ∷ []) []) (pick c ((z + 4) ∷ []) [])) (pick b ((y + 4) ∷ pick c ((z + 4) ∷ []) []) (pick c ((z + 4) ∷ []) []))
+unfolding up
+chosen true true true x y z = refl
+chosen true true false x y z = refl
+chosen true false true x y z = refl
+chosen true false false x y z = refl
+chosen false true true x y z = refl
+chosen false true false x y z = refl
+chosen false false true x y z = refl
+chosen false false false x y z = refl
+
+round-from : (v : Wires) (p : ℕ) → 4 ≤ p → p ≤ 6 → up (waiters (G.waiting v) senders senders (p - 4)) ≡ marked v (p ∷ nextUp p ∷ nextUp (nextUp p) ∷ [])
+unfolding waiters after marked
+round-from v zero h l = absurd (omega arith)
+round-from v (suc zero) h l = absurd (omega arith)
+round-from v (suc (suc zero)) h l = absurd (omega arith)
+round-from v (suc (suc (suc zero))) h l = absurd (omega arith)
+round-from v (suc (suc (suc (suc zero)))) h l = chosen (markAt v 4) (markAt v 5) (markAt v 6) 0 1 2
+round-from v (suc (suc (suc (suc (suc zero))))) h l = chosen (markAt v 5) (markAt v 6) (markAt v 4) 1 2 0
+round-from v (suc (suc (suc (suc (suc (suc zero)))))) h l = chosen (markAt v 6) (markAt v 4) (markAt v 5) 2 0 1
+round-from v (suc (suc (suc (suc (suc (suc (suc p))))))) h l = absurd (omega arith)
+
+-- ---- the place behind the last one sent
+
+next-up : (k : ℕ) → k < 3 → after senders k + 4 ≡ nextUp (k + 4)
+unfolding after
+next-up zero h = refl
+next-up (suc zero) h = refl
+next-up (suc (suc zero)) h = refl
+next-up (suc (suc (suc k))) h = absurd (omega arith)
+
+never-nil : (xs : List ℕ) (y : ℕ) → [] ≡ xs ++ (y ∷ []) → ⊥
+never-nil [] y e = let z : _≡_ {A = ℕ} 0 1 = cc in omega arith
+never-nil (x ∷ xs) y e = let z : _≡_ {A = ℕ} 0 1 = cc in omega arith
+
+alone : {ks : List ℕ} (k last : ℕ) → k < 3 → AllBelow senders ks → (k + 4) ∷ up ks ≡ last ∷ [] → placeAfter senders (after senders k) ks + 4 ≡ nextUp last
+unfolding up placeAfter
+alone k last h none e = let q : k + 4 ≡ last = cc in next-up k h ∙ ap nextUp q
+alone k last h (more x xs) e = let z : _≡_ {A = ℕ} 0 1 = cc in absurd (omega arith)
+
+place-behind : {ks : List ℕ} (p : ℕ) (xs : List ℕ) (last : ℕ) → AllBelow senders ks → up ks ≡ xs ++ (last ∷ []) → placeAfter senders p ks + 4 ≡ nextUp last
+unfolding up placeAfter
+place-behind p xs last none e = absurd (never-nil xs last e)
+place-behind p [] last (more {i = k} h hs) e = alone k last h hs e
+place-behind p (x ∷ xs) last (more {i = k} h hs) e = place-behind (after senders k) xs last hs (cc)
+
+got-of : (w : World) (c : Call) (o : Outcome) → Sound (w .state) → WireMove w c o gets → SomeGot w o
+got-of w c o s (sent k ks e f h) =
+    let v = wiresOf w in
+    let n = countOf w in
+    let u = wires-sound w s in
+    let l = G.sent v n in
+    let whole : 1 ≤ length l = rw e (omega arith) in
+    record {
+      groups = up l;
+      got = record {
+        first = ap up (sent-queue v n) ∙ up-take n (queue v) ∙ ap (take n) (round-from v (v .place) (u .from) (u .upto));
+        count = up-length l ∙ sent-count v n (u .from) (u .upto);
+        some = omega (arith, up-length l);
+        reply =
+            h ∙ ap (λ (m : List ℕ). closed (0x08 ∷ m) (status (o .next .state)))
+            (sent-body v n k ks (u .from) (u .upto) (omega arith) e
+            ∙ ap (λ (m : ℕ). (m - 1) ∷ pairBytes v l) (sym (up-length l))
+            ∙ ap (λ (m : List ℕ). (length (up l) - 1) ∷ m) (up-pairs v l));
+        gone = λ i m. ap (λ (y : Wires). markAt y i) f ∙ up-from (λ (j : ℕ). markAt (afterSent v l) j ≡ false) l (sent-gone v l) i m;
+        stay = λ i t m. ap (λ (y : Wires). markAt y i) f ∙ sent-stays v l i t (λ j q z. m (subst (λ (y : ℕ). List·Memᴰ y (up l)) (sym z) (up-in q)));
+        levels = ap (λ (y : Wires). y .level) f ∙ sent-levels v l;
+        place = λ before last q. ap (λ (y : Wires). y .place) f ∙ place-behind (v .place - 4) before last (K.sent-below v n (u .from) (u .upto)) q;
+      };
+    }
+
+-- ---- what raises a mark
+
+no-mark : (k : ℕ) → getD noMarks k false ≡ false
+no-mark zero = refl
+no-mark (suc zero) = refl
+no-mark (suc (suc zero)) = refl
+no-mark (suc (suc (suc zero))) = refl
+no-mark (suc (suc (suc (suc zero)))) = refl
+no-mark (suc (suc (suc (suc (suc zero))))) = refl
+no-mark (suc (suc (suc (suc (suc (suc k)))))) = refl
+
+module _ (v : Wires) (i : ℕ) (off : markAt v i ≡ false) where
+  abbrev On : Bool → Type 0
+  On b = b ≡ false
+
+  platform-off : markAt (G.platformWires v) i ≡ false
+  platform-off = K.set-cases On (G.resetGroup v 6 .pending) 5 (i - 2) false false (λ _. refl) (K.set-cases On (v .pending) 4 (i - 2) false false (λ _. refl) off)
+
+  enabled-differs : 2 ≤ i → markAt (G.enabled v) i ≡ true → differs v i ≡ true
+  enabled-differs h =
+      let Q : Bool → Type 0 = λ b. b ≡ true → differs v i ≡ true in
+      let p₄ = G.withGroup v 4 (levelAt v 4) (differs v 4) .pending in
+      let p₅ = G.withGroup (G.withGroup v 4 (levelAt v 4) (differs v 4)) 5 (levelAt v 5) (differs v 5) .pending in
+      K.set-cases Q p₅ 4 (i - 2) (differs v 6) false (λ q t. let e : i ≡ 6 = omega arith in ap (differs v) e ∙ t)
+      (K.set-cases Q p₄ 3 (i - 2) (differs v 5) false (λ q t. let e : i ≡ 5 = omega arith in ap (differs v) e ∙ t)
+      (K.set-cases Q (v .pending) 2 (i - 2) (differs v 4) false (λ q t. let e : i ≡ 4 = omega arith in ap (differs v) e ∙ t)
+      (λ t. absurd (true≢false (sym t ∙ off)))))
+
+sent-off : (v : Wires) (ks : List ℕ) (i : ℕ) → markAt v i ≡ false → markAt (G.unmarked v ks) i ≡ false
+unfolding G.unmarked
+sent-off v [] i e = e
+sent-off v (k ∷ ks) i e = sent-off _ ks i (K.set-cases (λ (b : Bool). b ≡ false) (v .pending) (k + 4 - 2) (i - 2) false false (λ _. refl) e)
+
+module _ (w : World) (s : Sound (w .state)) (i : ℕ) (from : 2 ≤ i) (upto : i ≤ 7) (off : markAt (wiresOf w) i ≡ false) where
+  -- the marks after are those of these wires
+  same-off : (o : Outcome) (x : Wires) → wiresOf (o .next) ≡ x → markAt x i ≡ false → markAt (wiresOf (o .next)) i ≡ true → ⊥
+  same-off o x e f t = true≢false (sym t ∙ ap (λ (y : Wires). markAt y i) e ∙ f)
+
+  set-raised : (c : Call) (o : Outcome) (j bit value : ℕ) → c ≡ setsWire j bit value → settable j bit value ≡ true → Set w (o .next) j bit value
+      → markAt (wiresOf (o .next)) i ≡ true → Raised w c i
+  set-raised c o j bit value x t m h = go (eqb i j) refl
+    where
+      go : (z : Bool) → eqb i j ≡ z → Raised w c i
+      go true q =
+          let e = eqb-true i j q in
+          let r = or-second (markAt (wiresOf w) j) _ (ap (markAt (wiresOf w)) (sym e) ∙ off) (sym (m .mark) ∙ ap (markAt (wiresOf (o .next))) (sym e) ∙ h) in
+          byChange bit value (x ∙ ap (λ (k : ℕ). setsWire k bit value) (sym e)) (and-left (on wires (w .state .config)) _ r)
+          (λ y. eqb-false _ _ (not-true _ (and-right (on wires (w .state .config)) _ r)) (ap (λ (k : ℕ). wireOf w k bit) (sym e) ∙ y))
+      go false q = absurd (true≢false (sym h ∙ m .otherMarks i from (eqb-false i j q) ∙ off))
+
+  raised-by : (c : Call) (o : Outcome) {k : WireEvent} → WireMove w c o k → markAt (wiresOf (o .next)) i ≡ true → Raised w c i
+  raised-by c o (still e) t = absurd (same-off o (wiresOf w) e off t)
+  raised-by c o (put b r x e) t = absurd (same-off o _ e (ap (λ (l : List Bool). getD l (i - 2) false) (put-marks (wiresOf w) (pairs b)) ∙ off) t)
+  raised-by c o (sent k ks e f h) t = absurd (same-off o _ f (sent-off (wiresOf w) _ i off) t)
+  raised-by c o (set j bit value x y e) t = set-raised c o j bit value x y (set-of w j bit value o s y e) t
+  raised-by c o (enabled b r x e f) t =
+      let at = and-right (eqb (byte b 0) 0x22) _ e in
+      let is = and-right (eqb (registerAt b) 0x020) _ at in
+      byEnabling b r x (eqb-true _ _ (and-left (eqb (byte b 0) 0x22) _ e)) (eqb-true _ _ (and-left (eqb (registerAt b) 0x020) _ at))
+      (eqb-true _ _ (and-right (not (on wires (w .state .config))) _ is)) (not-true _ (and-left (not (on wires (w .state .config))) _ is))
+      (eqb-false _ _ (not-true _ (enabled-differs (wiresOf w) i off from (sym (ap (λ (y : Wires). markAt y i) f) ∙ t))))
+  raised-by c o (disabled e) t = absurd (same-off o _ e (no-mark (i - 2)) t)
+  raised-by c o (wiped e) t = absurd (same-off o _ e (no-mark (i - 2)) t)
+  raised-by c o (platformWiped e) t = absurd (same-off o _ e (platform-off (wiresOf w) i off) t)
+
+-- ---- the statements
+
+seen-as : (w : World) (c : Call) {k : WireEvent} → wireEvent w c ≡ k → WireMove w c (step w c) k
+seen-as w c e = subst (WireMove w c (step w c)) e (wire-view w c)
+
+pub wire-steps : WireSteps
+wire-steps =
+    record {
+      put = λ w b r s e n. put-of w b r (step w (exchange b r)) s (seen-as w (exchange b r) (command-event w b r 0x04 puts e refl refl _ (eq-eqb _ 0 n)));
+      set = set-step;
+      read = read-step;
+      get = λ w b r s e n. got-of w (exchange b r) (step w (exchange b r)) s (seen-as w (exchange b r) (command-event w b r 0x05 gets e refl refl _ (eq-eqb _ 0 n)));
+      raised = λ w c i s from upto off t. raised-by w s i from upto off c (step w c) (wire-view w c) t;
+    }

@@ -1,0 +1,250 @@
+-- The wires' view: one sweep over the case law, reading channel 1's law; whatever another channel does leaves the wires.
+use Prim.Native.Nat.{ℕ, _-_, _%_, _≤_}
+use mathlib.Core.Bool.{Bool, true, false, _&&_, _||_, not, true≢false}
+use mathlib.Core.List.{List, _∷_}
+use mathlib.Core.Path.{_≡_, refl, sym, ap, ap₂, subst, _∙_}
+use native.Mathlib.Omega.{arith}
+use lib.Dec.{eqb}
+use lib.ListN.{length}
+use borrow.Author.Tests.{ne-eqb, eqb-true}
+use Rattle.base.specs.Pick.{pick}
+use Rattle.registers.specs.Registers.{writeAt}
+use Rattle.wires.specs.Groups as G
+use Rattle.wires.specs.Groups.{packetOf, packetBytes, afterSent, anyPending, wholeWires}
+use Rattle.wires.specs.Kept as K
+use Rattle.wires.specs.Sent.{pairBytes, sent-bytes, sent-none}
+use Rattle.wires.specs.declared.Wires.{Wires}
+use Rattle.sound.specs.Sound.{Sound}
+use Rattle.state.specs.Status.{status}
+use Rattle.state.specs.declared.State.{State}
+use Rattle.rules.specs.Rules.Reset.{Reset, start, espiReset, platformReset}
+use Rattle.rules.specs.Rules.Wires as W₀
+use Rattle.rules.specs.Rules.Channel as N
+use Rattle.rules.specs.Rules.Channel.{Channel, peripheral, wires, Command, Board, Change, nextOf, part, on, actOf, same}
+use Rattle.rules.specs.Rules.Lift.{lift, show, acceptThen}
+use Rattle.rules.specs.Rules.Exchange.{reconfigured, wasReset}
+use Rattle.rules.specs.Rules.Reply.{closed, replyBytes}
+use Rattle.rules.specs.Rules.Step.{World, Call, reset, exchange, board, lend, Outcome, only, withState, exchanged, settled}
+use Rattle.rules.specs.Statements.Wires as W
+use Rattle.rules.specs.Statements.Plans.{Did, Settled, Admits, commandOf, Shows, status as getsStatus, register}
+use Rattle.rules.specs.Statements.Cases as C
+use Rattle.rules.specs.Statements.Cases.{Case}
+use Rattle.rules.specs.Statements.Events.{accepted, ending, registerOf}
+use Rattle.rules.specs.Statements.Fields.{byte, isChannel1, registerAt, registerValue}
+use Rattle.rules.specs.Statements.Reads as R
+use Rattle.rules.specs.Statements.Apart.{isOpcodeOf}
+use Rattle.rules.specs.Statements.WireEvents.{WireEvent, idle, puts, gets, enables, ends, switchesOn, commandWire, boardWire, acceptedWire, wireEventOf, wiresOf}
+use Rattle.rules.specs.Statements.WireView.{WireMove, still, put, sent, set, enabled, disabled, wiped, platformWiped, WireView}
+use Rattle.rules.specs.Proofs.Cases.{cases}
+use Rattle.rules.specs.Proofs.SoundParts.{parts}
+use Rattle.rules.specs.Proofs.Reads.{reads}
+use Rattle.rules.specs.Proofs.Events.{rising-edge, no-disabling, disabling}
+use Rattle.rules.specs.Proofs.Lift.{same-turned, own-or-other, part-stays}
+use Rattle.rules.specs.Proofs.Whose.{opcode-of, own-opcode, no-set}
+use Rattle.rules.specs.declared.WiresChange.{WiresChange}
+use Rattle.rules.specs.declared.Body.{Body}
+
+-- ---- events
+
+module _ (s : State) (c : Call) (o : Outcome) where
+  refused-wire : accepted o ≡ false → wireEventOf s c o ≡ idle
+  unfolding wireEventOf
+  refused-wire e = ap (λ (t : Bool). pick (t && ending wires s c) ends (pick t (acceptedWire s c) idle)) e
+
+  ended-wire : accepted o ≡ true → ending wires s c ≡ true → wireEventOf s c o ≡ ends
+  unfolding wireEventOf
+  ended-wire e f = ap (λ (t : Bool). pick (t && ending wires s c) ends (pick t (acceptedWire s c) idle)) e ∙ ap (λ (t : Bool). pick t ends (acceptedWire s c)) f
+
+  accepted-wire : accepted o ≡ true → ending wires s c ≡ false → wireEventOf s c o ≡ acceptedWire s c
+  unfolding wireEventOf
+  accepted-wire e f = ap (λ (t : Bool). pick (t && ending wires s c) ends (pick t (acceptedWire s c) idle)) e ∙ ap (λ (t : Bool). pick t ends (acceptedWire s c)) f
+
+  quiet-wire : ending wires s c ≡ false → acceptedWire s c ≡ idle → wireEventOf s c o ≡ idle
+  quiet-wire f g = go (accepted o) refl
+    where
+      go : (t : Bool) → accepted o ≡ t → wireEventOf s c o ≡ idle
+      go true e = accepted-wire e f ∙ g
+      go false e = refused-wire e
+
+-- an exchange that is no SET_CONFIGURATION
+module _ (s : State) (b r : List ℕ) (write : eqb (byte b 0) 0x22 ≡ false) where
+  by-byte : commandWire s b ≡ pick (eqb (byte b 0) 0x04) puts (pick (eqb (byte b 0) 0x05) gets idle)
+  by-byte =
+      ap (λ (t : Bool). pick (eqb (byte b 0) 0x04) puts (pick (eqb (byte b 0) 0x05) gets (pick (t && (eqb (registerAt b) (registerOf wires) && (not (on wires (s .config)) && eqb (registerValue b % 2) 1))) enables idle)))
+      write
+
+  quiet-exchange : (o : Outcome) → isChannel1 (byte b 0) ≡ false → wireEventOf s (exchange b r) o ≡ idle
+  quiet-exchange o e = quiet-wire s (exchange b r) o (no-disabling wires s b write) (by-byte ∙ go (eqb (byte b 0) 0x04) (eqb (byte b 0) 0x05) e)
+    where
+      go : (t u : Bool) → (t || u) ≡ false → pick t puts (pick u gets idle) ≡ idle
+      go true u h = absurd (true≢false h)
+      go false true h = absurd (true≢false h)
+      go false false h = refl
+
+not-22 : (b : List ℕ) (op : ℕ) → byte b 0 ≡ op → eqb op 0x22 ≡ false → eqb (byte b 0) 0x22 ≡ false
+not-22 b op e f = ap (λ (x : ℕ). eqb x 0x22) e ∙ f
+
+-- the move of an event that is known
+as-is : {w : World} {c : Call} {o : Outcome} {e : WireEvent} → wireEventOf (w .state) c o ≡ e → WireMove w c o e → WireMove w c o (wireEventOf (w .state) c o)
+as-is {w} {c} {o} q m = subst (WireMove w c o) (sym q) m
+
+-- ---- another channel's change
+
+never-set : (k : Channel) (op : ℕ) → isOpcodeOf k op ≡ true → eqb op 0x22 ≡ false
+never-set k op e = go (eqb op 0x22) refl
+  where
+    go : (t : Bool) → eqb op 0x22 ≡ t → t ≡ false
+    go true f = absurd (true≢false (sym e ∙ ap (isOpcodeOf k) (eqb-true op 0x22 f) ∙ no-set k))
+    go false f = refl
+
+board-other : (k : Channel) → same wires k ≡ false → (o : Board k) → boardWire k o ≡ idle
+board-other peripheral n o = refl
+board-other wires n o = absurd (true≢false n)
+
+module _ (w : World) where
+  lift-wires : (k : Channel) → same wires k ≡ false → (b : List ℕ) (x : Change k) → wiresOf (exchanged w b (lift k (w .state) x) .next) ≡ wiresOf w
+  unfolding exchanged lift
+  lift-wires k n b x = part-stays k wires (nextOf k x) (w .state) (same-turned wires k n)
+
+  settled-wires : (k : Channel) → same wires k ≡ false → (o : Board k) (x : Change k) → wiresOf (settled k w o (lift k (w .state) x) .next) ≡ wiresOf w
+  unfolding settled lift
+  settled-wires k n o x = part-stays k wires (nextOf k x) (w .state) (same-turned wires k n)
+
+  abbrev Seen : Call → Outcome → Type 0
+  Seen c o = WireMove w c o (wireEventOf (w .state) c o)
+
+  pub command-event : (b r : List ℕ) (op : ℕ) (e : WireEvent) → byte b 0 ≡ op → eqb op 0x22 ≡ false → pick (eqb op 0x04) puts (pick (eqb op 0x05) gets idle) ≡ e
+      → (o : Outcome) → accepted o ≡ true → wireEventOf (w .state) (exchange b r) o ≡ e
+  command-event b r op e h n f o q =
+      let k = not-22 b op h n in
+      accepted-wire (w .state) (exchange b r) o q (no-disabling wires (w .state) b k) ∙ by-byte (w .state) b r k
+      ∙ ap (λ (x : ℕ). pick (eqb x 0x04) puts (pick (eqb x 0x05) gets idle)) h ∙ f
+
+  -- ---- above all channels
+
+  quiet-seen : (b r : List ℕ) (o : Outcome) (op : ℕ) → byte b 0 ≡ op → eqb op 0x22 ≡ false → isChannel1 op ≡ false → wiresOf (o .next) ≡ wiresOf w → Seen (exchange b r) o
+  quiet-seen b r o op e f g h = as-is (quiet-exchange (w .state) b r (not-22 b op e f) o (ap isChannel1 e ∙ g)) (still h)
+
+  silent-seen : (c : Call) (n : ℕ) → 10 ≤ n → Seen c (only n w)
+  silent-seen c n l = as-is (refused-wire (w .state) c (only n w) (ne-eqb n 0 (λ q. omega (arith, q, l)))) (still refl)
+
+  abbrev was : Bool
+  was = on wires (w .state .config)
+
+  enabling : (b : List ℕ) (a v : ℕ) → R.Writes b a v → switchesOn (w .state) b ≡ not was && on wires (writeAt (w .state .config) a v)
+  enabling b a v h =
+      ap (λ (op : ℕ). eqb op 0x22 && (eqb (registerAt b) (registerOf wires) && (not was && eqb (registerValue b % 2) 1))) (h .opcode)
+      ∙ ap₂ (λ (x y : ℕ). eqb x (registerOf wires) && (not was && eqb (y % 2) 1)) (sym (h .address)) (sym (h .value))
+      ∙ sym (rising-edge wires (w .state .config) a v)
+
+  module _ (b r : List ℕ) (a v : ℕ) (h : R.Writes b a v) where
+    abbrev is : Bool
+    is = on wires (writeAt (w .state .config) a v)
+
+    abbrev Set : Outcome
+    Set = exchanged w b (acceptThen (w .state) (reconfigured (w .state) (writeAt (w .state .config) a v)))
+
+    set-event : wireEventOf (w .state) (exchange b r) Set ≡ pick (was && not is) ends (pick (not was && is) enables idle)
+    unfolding wireEventOf exchanged
+    set-event =
+        ap₂ (λ (t : Bool) (e : WireEvent). pick t ends e) (disabling wires (w .state) b a v h)
+        (ap (λ (op : ℕ). pick (eqb op 0x04) puts (pick (eqb op 0x05) gets (pick (switchesOn (w .state) b) enables idle))) (h .opcode)
+        ∙ ap (λ (t : Bool). pick t enables idle) (enabling b a v h))
+
+    set-wires : wiresOf (Set .next) ≡ pick (was && not is) (G.disabled (wiresOf w)) (pick (not was && is) (G.enabled (wiresOf w)) (wiresOf w))
+    unfolding exchanged
+    set-wires = refl
+
+    set-seen : Seen (exchange b r) Set
+    set-seen = go (was && not is) (not was && is) refl set-event set-wires
+      where
+        go : (t u : Bool) → not was && is ≡ u → wireEventOf (w .state) (exchange b r) Set ≡ pick t ends (pick u enables idle)
+            → wiresOf (Set .next) ≡ pick t (G.disabled (wiresOf w)) (pick u (G.enabled (wiresOf w)) (wiresOf w)) → Seen (exchange b r) Set
+        go true u e f g = as-is f (disabled g)
+        go false true e f g = as-is f (enabled b r refl (enabling b a v h ∙ e) g)
+        go false false e f g = as-is f (still g)
+
+  wiped-seen : (r : Reset) → Seen (reset r) (only 0 (withState w (wasReset r (w .state))))
+  unfolding wireEventOf
+  wiped-seen start = wiped refl
+  wiped-seen espiReset = wiped refl
+  wiped-seen platformReset = platformWiped refl
+
+  shown-seen : (b r : List ℕ) {body : Body} → Shows (w .state) b body → Seen (exchange b r) (exchanged w b (show body (w .state)))
+  unfolding exchanged
+  shown-seen b r (getsStatus e) = quiet-seen b r _ 0x25 (reads (w .state) b _ e) refl refl refl
+  shown-seen b r (register a e) = quiet-seen b r _ 0x21 (reads (w .state) b _ e .opcode) refl refl refl
+
+  -- ---- channel 1
+
+  acted-seen : (b r : List ℕ) {a : W₀.Act} {x : WiresChange} → W.Did (w .state .config) (wiresOf w) a x → R.Wires b a → Seen (exchange b r) (exchanged w b (lift wires (w .state) x))
+  unfolding exchanged lift replyBytes
+  acted-seen b r (W.overCount e) h = as-is (refused-wire (w .state) (exchange b r) _ refl) (still refl)
+  acted-seen b r (W.put e) (R.Wires.puts h) = as-is (command-event b r 0x04 puts h refl refl _ refl) (put b r refl refl)
+  acted-seen b r (W.nonePending e) h = as-is (refused-wire (w .state) (exchange b r) _ refl) (still refl)
+  acted-seen b r (W.sentOff {k = k} {ks = ks} e) (R.Wires.gets h) =
+      let v = wiresOf w in
+      let t = status (N.put wires (afterSent v (k ∷ ks)) (w .state)) in
+      as-is (command-event b r 0x05 gets h refl refl _ refl)
+      (sent k ks e (ap (afterSent v) (sym e)) (ap (λ (l : List ℕ). closed (0x08 ∷ packetBytes (packetOf v l)) t) (sym e)))
+
+  settled-seen : {o : W₀.Board} {x : WiresChange} → W.Settled (w .state .config) (wiresOf w) o x → Seen (board wires o) (settled wires w o (lift wires (w .state) x))
+  unfolding settled lift wireEventOf
+  settled-seen (W.notBoards e) = still refl
+  settled-seen (W.set {index = i} {bit = bit} {value = value} e) = set i bit value refl e refl
+  settled-seen (W.noWire e) = still refl
+  settled-seen (W.read e) = still refl
+
+  -- ---- every channel
+
+  any-acted : (b r : List ℕ) (k : Channel) (o : Command k) (x : Change k) → Admits (w .state) b (commandOf k o)
+      → Did k (w .state .config) (part k (w .state)) (actOf k (w .state .config) o b) x → Seen (exchange b r) (exchanged w b (lift k (w .state) x))
+  any-acted b r =
+      own-or-other wires
+      (λ (k : Channel). (o : Command k) (x : Change k) → Admits (w .state) b (commandOf k o)
+      → Did k (w .state .config) (part k (w .state)) (actOf k (w .state .config) o b) x → Seen (exchange b r) (exchanged w b (lift k (w .state) x)))
+      (λ o x e d. acted-seen b r d (reads (w .state) b _ e)) others
+    where
+      others : (k : Channel) → same wires k ≡ false → (o : Command k) (x : Change k) → Admits (w .state) b (commandOf k o)
+          → Did k (w .state .config) (part k (w .state)) (actOf k (w .state .config) o b) x → Seen (exchange b r) (exchanged w b (lift k (w .state) x))
+      others k n o x e d =
+          let c = opcode-of k (w .state) b o e in
+          as-is (quiet-exchange (w .state) b r (never-set k (byte b 0) c) _ (own-opcode wires k (byte b 0) c ∙ n)) (still (lift-wires k n b x))
+
+  any-settled : (k : Channel) (o : Board k) (x : Change k) → Settled k (w .state .config) (part k (w .state)) o x → Seen (board k o) (settled k w o (lift k (w .state) x))
+  any-settled =
+      own-or-other wires (λ (k : Channel). (o : Board k) (x : Change k) → Settled k (w .state .config) (part k (w .state)) o x → Seen (board k o) (settled k w o (lift k (w .state) x)))
+      (λ o x d. settled-seen d)
+      (λ k n o x d. as-is (quiet-wire (w .state) (board k o) _ refl (board-other k n o)) (still (settled-wires k n o x)))
+
+  seen-case : {c : Call} {o : Outcome} → Case w c o → Seen c o
+  unfolding exchanged
+  seen-case {c} (C.idle n q) = silent-seen c n (q .least)
+  seen-case (C.shown {b = b} {r = r} q) = shown-seen b r q
+  seen-case (C.acted {b = b} {r = r} k o x e d) = any-acted b r k o x e d
+  seen-case (C.settles k o x e d) = any-settled k o x d
+  seen-case (C.forbidden {b = b} {r = r} a v e f) = as-is (refused-wire (w .state) (exchange b r) _ refl) (still refl)
+  seen-case (C.configured {b = b} {r = r} a v e f) = set-seen b r a v (reads (w .state) b _ e)
+  seen-case (C.cleared {b = b} {r = r} e) = quiet-seen b r _ 0xFF (reads (w .state) b _ e) refl refl refl
+  seen-case (C.wiped {r = r}) = wiped-seen r
+  seen-case (C.lent {write = write} {read = read}) = as-is (quiet-wire (w .state) (lend write read) _ refl refl) (still refl)
+
+pub wire-view : WireView
+wire-view w c = seen-case w (cases w c)
+
+-- ---- what a sound state says of its wires
+
+pub wires-sound : (w : World) → Sound (w .state) → K.Sound (on wires (w .state .config)) (wiresOf w)
+wires-sound w s = K.sound-view (on wires (w .state .config)) (wiresOf w) (parts s .each wires .right)
+
+pub wires-whole : (w : World) → Sound (w .state) → wholeWires (wiresOf w) ≡ true
+wires-whole w s = parts s .each wires .fit
+
+-- what is sent is not empty, so something is pending and the body is the count less one and the pairs
+pub sent-body : (v : Wires) (n k : ℕ) (ks : List ℕ) → 4 ≤ v .place → v .place ≤ 6 → 1 ≤ n → G.sent v n ≡ k ∷ ks
+    → packetBytes (packetOf v (G.sent v n)) ≡ (length (G.sent v n) - 1) ∷ pairBytes v (G.sent v n)
+sent-body v n k ks h l c e = go (anyPending v) refl
+  where
+    go : (t : Bool) → anyPending v ≡ t → packetBytes (packetOf v (G.sent v n)) ≡ (length (G.sent v n) - 1) ∷ pairBytes v (G.sent v n)
+    go true q = sent-bytes v n c h l q
+    go false q = let z : _≡_ {A = ℕ} 0 1 = cc (sent-none v n h l q) in absurd (omega arith)

@@ -1,0 +1,113 @@
+-- No channel tells on another, for every channel x: two runs that differ in x's own calls alone show the same of all other calls, but for x's
+-- status bits and the CRC byte, and leave the same registers, the same other parts and the other channels' stores alike. P22 ("Wire traffic and
+-- channel 0") is the case of the wires; its mirror is that of channel 0.
+use Prim.Native.Nat.{ℕ, _-_, _*_, _/_, _%_}
+use mathlib.Core.Bool.{Bool, false}
+use mathlib.Core.List.{List, [], _∷_, _++_}
+use mathlib.Core.Path.{_≡_}
+use lib.Dec.{eqb}
+use lib.ListN.{getD, length, take}
+use Rattle.base.specs.Pick.{pick}
+use Rattle.state.specs.declared.State.{State}
+use Rattle.rules.specs.Rules.Channel.{Channel, peripheral, wires, part, same}
+use Rattle.rules.specs.Rules.Step.{World, Call, reset, exchange, board, short, lend, Outcome, step, run, shortStores}
+use Rattle.rules.specs.Statements.Fields.{isChannel0, isChannel1}
+
+-- ---- what is a channel's own: its opcodes, its stores, its status bits
+
+abbrev pub isOpcodeOf : Channel → ℕ → Bool
+isOpcodeOf peripheral op = isChannel0 op
+isOpcodeOf wires op = isChannel1 op
+
+-- the write and the read store are channel 0's: its commands and calls alone read and write them
+abbrev pub storesOf : Channel → (write read : List ℕ) → List (List ℕ)
+storesOf peripheral write read = write ∷ read ∷ []
+storesOf wires write read = []
+
+-- the status' low byte with the channel's bits at 0: 0, 1 and 4 (PC_FREE, NP_FREE, PC_AVAIL); 6 (VWIRE_AVAIL; 2, VWIRE_FREE, "always 1")
+abbrev pub clear : Channel → ℕ → ℕ
+clear peripheral n = n - n % 4 - n / 16 % 2 * 16
+clear wires n = n - n / 64 % 2 * 64
+
+-- ---- a channel's own calls
+
+-- "commands": those that begin with one of its opcodes
+abbrev pub isCommandOf : Channel → List ℕ → Bool
+isCommandOf x [] = false
+isCommandOf x (op ∷ rest) = isOpcodeOf x op
+
+-- refused ones too, and those that were lent too short a state
+abbrev pub isOf : Channel → Call → Bool
+isOf x (reset r) = false
+isOf x (exchange command reply) = isCommandOf x command
+isOf x (board k o) = same x k
+isOf x (short state c) = isOf x c
+isOf x (lend write read) = false
+
+unfoldable pub others : Channel → List Call → List Call
+others x [] = []
+others x (c ∷ cs) = pick (isOf x c) (others x cs) (c ∷ others x cs)
+
+-- ---- what a call shows
+
+-- a reply "but for [its] status bit[s] and the CRC byte": the last three bytes are status, low byte first, and CRC
+abbrev pub replyBut : Channel → List ℕ → List ℕ
+replyBut x reply =
+    pick (eqb (length reply) 0) []
+    (take (length reply - 3) reply ++ (clear x (getD reply (length reply - 3) 0) ∷ getD reply (length reply - 2) 0 ∷ []))
+
+-- the number, the value (a reply's length, a wire's value), a report, the reply
+pub record Seen : Type 0 where
+  pub number : ℕ
+  pub value : ℕ
+  pub report : List ℕ
+  pub reply : List ℕ
+
+unfoldable pub seen : Channel → Outcome → Seen
+seen x o = record { number = o .number; value = o .value; report = o .report; reply = replyBut x (o .reply) }
+
+-- what the calls of a run show, x's own apart
+unfoldable pub seeing : Channel → World → List Call → List Seen
+seeing x w [] = []
+seeing x w (c ∷ cs) = pick (isOf x c) (seeing x (step w c .next) cs) (seen x (step w c) ∷ seeing x (step w c .next) cs)
+
+pub record RunsAlike (x : Channel) (Same : World → World → Type 0) (w v : World) (cs ds : List Call) : Type 0 where
+  pub calls : seeing x w cs ≡ seeing x v ds
+  pub after : Same (run w cs) (run v ds)
+
+-- ---- the statement
+
+pub record StatesAlike (x : Channel) (s t : State) : Type 0 where
+  pub config : s .config ≡ t .config
+  pub parts : (y : Channel) → same x y ≡ false → part y s ≡ part y t
+
+-- alike but for x. Of x's own stores only this is asked: they are long enough for an exchange (10) in both worlds, or in neither
+pub record Alike (x : Channel) (w v : World) : Type 0 where
+  pub state : StatesAlike x (w .state) (v .state)
+  pub stores : (y : Channel) → same x y ≡ false → storesOf y (w .write) (w .read) ≡ storesOf y (v .write) (v .read)
+  pub room : (reply : List ℕ) → shortStores reply w ≡ shortStores reply v
+
+abbrev pub NoneTells : Type 0
+NoneTells = (x : Channel) (w v : World) (cs ds : List Call) → Alike x w v → others x cs ≡ others x ds → RunsAlike x (Alike x) w v cs ds
+
+-- ---- P22, and its mirror
+
+-- any two states that agree but for levels, marks and place, sound or not, and stores of any length: neither is needed
+pub record SameButWires (w v : World) : Type 0 where
+  pub config : w .state .config ≡ v .state .config
+  pub peripheral : w .state .peripheral ≡ v .state .peripheral
+  pub write : w .write ≡ v .write
+  pub read : w .read ≡ v .read
+
+abbrev pub WiresApart : Type 0
+WiresApart = (w v : World) (cs ds : List Call) → SameButWires w v → others wires cs ≡ others wires ds → RunsAlike wires SameButWires w v cs ds
+
+-- any two that agree but for held write, request and serial, and stores of any bytes
+pub record SameButPeripheral (w v : World) : Type 0 where
+  pub config : w .state .config ≡ v .state .config
+  pub wires : w .state .wires ≡ v .state .wires
+  pub room : (reply : List ℕ) → shortStores reply w ≡ shortStores reply v
+
+abbrev pub PeripheralApart : Type 0
+PeripheralApart =
+    (w v : World) (cs ds : List Call) → SameButPeripheral w v → others peripheral cs ≡ others peripheral ds → RunsAlike peripheral SameButPeripheral w v cs ds

@@ -1,0 +1,48 @@
+-- The case law for two worlds of one configuration: a call is the same case in both, for what it is depends on the configuration, on its own bytes
+-- and on whether its stores are long enough.
+use Prim.Native.Nat.{ℕ}
+use mathlib.Core.Bool.{false}
+use mathlib.Core.List.{List}
+use mathlib.Core.Path.{_≡_}
+use Rattle.registers.specs.Registers.{readAt, writeAt}
+use Rattle.command.specs.declared.Command.the-variants as C
+use Rattle.rules.specs.Rules.Reset.{Reset}
+use Rattle.rules.specs.Rules.Channel.{Channel, Command, Board, actOf}
+use Rattle.rules.specs.Rules.Lift as L
+use Rattle.rules.specs.Rules.Lift.{show, nonFatal, acceptThen, quietly}
+use Rattle.rules.specs.Rules.Exchange as E
+use Rattle.rules.specs.Rules.Exchange.{reconfigured, reset008h, wasReset}
+use Rattle.rules.specs.Rules.Step as S
+use Rattle.rules.specs.Rules.Step.{World, Call, Outcome, exchange, board, reset, short, lend, only, withState, shortStores, shortFor, exchanged, settled}
+use Rattle.rules.specs.Statements.Plans.{commandOf, Admits}
+use Rattle.rules.specs.declared.Body.the-variants as B
+
+pub data Both (w v : World) : Call → Outcome → Outcome → Type 0 where
+  idle : {c : Call} (n : ℕ) → Both w v c (only n w) (only n v)
+  status : {b r : List ℕ} → Both w v (exchange b r) (exchanged w b (show B.Nothing (w .state))) (exchanged v b (show B.Nothing (v .state)))
+  register : {b r : List ℕ} (a : ℕ)
+      → Both w v (exchange b r) (exchanged w b (show (B.Word (readAt (w .state .config) a)) (w .state))) (exchanged v b (show (B.Word (readAt (v .state .config) a)) (v .state)))
+  acted : {b r : List ℕ} (k : Channel) (o : Command k) → shortStores r w ≡ false → Admits (w .state) b (commandOf k o)
+      → Both w v (exchange b r) (exchanged w b (E.acted k (w .state) (actOf k (w .state .config) o b))) (exchanged v b (E.acted k (v .state) (actOf k (v .state .config) o b)))
+  settles : (k : Channel) (o : Board k) → shortFor k o w ≡ false
+      → Both w v (board k o) (settled k w o (L.settled k (w .state) o)) (settled k v o (L.settled k (v .state) o))
+  forbidden : {b r : List ℕ} → Both w v (exchange b r) (exchanged w b (nonFatal (w .state))) (exchanged v b (nonFatal (v .state)))
+  configured : {b r : List ℕ} (a n : ℕ) → Admits (w .state) b (C.SetConfiguration a n)
+      → Both w v (exchange b r) (exchanged w b (acceptThen (w .state) (reconfigured (w .state) (writeAt (w .state .config) a n))))
+      (exchanged v b (acceptThen (v .state) (reconfigured (v .state) (writeAt (v .state .config) a n))))
+  cleared : {b r : List ℕ} → Admits (w .state) b C.Reset
+      → Both w v (exchange b r) (exchanged w b (quietly (reset008h (w .state)))) (exchanged v b (quietly (reset008h (v .state))))
+  wiped : {r : Reset} → Both w v (reset r) (only 0 (withState w (wasReset r (w .state)))) (only 0 (withState v (wasReset r (v .state))))
+  lent : {write read : List ℕ}
+      → Both w v (lend write read) (only 0 (record { state = w .state; write = write; read = read })) (only 0 (record { state = v .state; write = write; read = read }))
+
+-- the call's stores are long enough in both worlds, or in neither
+abbrev pub SameRoom : World → World → Call → Type 0
+SameRoom w v (reset r) = Unit {0}
+SameRoom w v (exchange b r) = shortStores r w ≡ shortStores r v
+SameRoom w v (board k o) = shortFor k o w ≡ shortFor k o v
+SameRoom w v (short state c) = Unit {0}
+SameRoom w v (lend write read) = Unit {0}
+
+abbrev pub BothCases : Type 0
+BothCases = (w v : World) (c : Call) → w .state .config ≡ v .state .config → SameRoom w v c → Both w v c (S.step w c) (S.step v c)

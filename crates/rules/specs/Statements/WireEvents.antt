@@ -1,0 +1,71 @@
+-- The words of the statements over runs of channel 1: what a call was for the wires, in bytes and numbers.
+use Prim.Native.Nat.{ℕ, _+_, _%_}
+use mathlib.Core.Bool.{Bool, _&&_, not}
+use mathlib.Core.List.{List, [], _∷_}
+use lib.Dec.{eqb}
+use Rattle.base.specs.Pick.{pick}
+use Rattle.registers.specs.Registers.{operatingCount}
+use Rattle.wires.specs.declared.Wires.{Wires}
+use Rattle.state.specs.declared.State.{State}
+use Rattle.rules.specs.Rules.Wires as W
+use Rattle.rules.specs.Rules.Channel.{Channel, peripheral, wires, Board, on}
+use Rattle.rules.specs.Rules.Step.{World, Call, reset, exchange, board, short, lend, Outcome, step}
+use Rattle.rules.specs.Statements.Fields.{byte, registerAt, registerValue}
+use Rattle.rules.specs.Statements.Events.{accepted, registerOf, endsWith}
+
+-- ---- events: refused calls are idle, what an accepted exchange was its bytes say
+
+-- puts: PUT_VWIRE; gets: GET_VWIRE; sets: the board set a wire; enables: an enabling of channel 1; ends: "a start, such a reset or a disabling"
+pub data WireEvent : Type 0 where
+  idle puts gets sets enables ends : WireEvent
+
+-- an enabling: SET_CONFIGURATION of 020h, bit 0 of the value being 1 while the register's is 0
+abbrev pub switchesOn : State → List ℕ → Bool
+switchesOn s b = eqb (byte b 0) 0x22 && (eqb (registerAt b) (registerOf wires) && (not (on wires (s .config)) && eqb (registerValue b % 2) 1))
+
+abbrev pub commandWire : State → List ℕ → WireEvent
+commandWire s b = pick (eqb (byte b 0) 0x04) puts (pick (eqb (byte b 0) 0x05) gets (pick (switchesOn s b) enables idle))
+
+abbrev pub wiresBoard : W.Board → WireEvent
+wiresBoard (W.setWire index bit value) = sets
+wiresBoard (W.readWire index bit) = idle
+
+abbrev pub boardWire : (k : Channel) → Board k → WireEvent
+boardWire peripheral o = idle
+boardWire wires o = wiresBoard o
+
+-- of an accepted call that is no ending event
+abbrev pub acceptedWire : State → Call → WireEvent
+acceptedWire s (reset r) = idle
+acceptedWire s (exchange command reply) = commandWire s command
+acceptedWire s (board k o) = boardWire k o
+acceptedWire s (short state c) = idle
+acceptedWire s (lend write read) = idle
+
+-- a call on a state, and what it gave
+unfoldable pub wireEventOf : State → Call → Outcome → WireEvent
+wireEventOf s c o = pick (endsWith wires s c o) ends (pick (accepted o) (acceptedWire s c) idle)
+
+abbrev pub wireEvent : World → Call → WireEvent
+wireEvent w c = wireEventOf (w .state) c (step w c)
+
+-- ---- runs
+
+abbrev pub wiresOf : World → Wires
+wiresOf w = w .state .wires
+
+abbrev pub countOf : World → ℕ
+countOf w = operatingCount (w .state .config .r020)
+
+abbrev pub oneIfGets : WireEvent → ℕ
+oneIfGets idle = 0
+oneIfGets puts = 0
+oneIfGets gets = 1
+oneIfGets sets = 0
+oneIfGets enables = 0
+oneIfGets ends = 0
+
+-- the accepted GET_VWIREs of a run
+unfoldable pub getsIn : World → List Call → ℕ
+getsIn w [] = 0
+getsIn w (c ∷ cs) = oneIfGets (wireEvent w c) + getsIn (step w c .next) cs

@@ -1,0 +1,38 @@
+-- All that a call can do to the wires, by the call's event. The theorems about wires go by cases on it and look at no command again.
+use Prim.Native.Nat.{ℕ}
+use mathlib.Core.Bool.{true}
+use mathlib.Core.List.{List, _∷_}
+use mathlib.Core.Path.{_≡_}
+use Rattle.wires.specs.Groups as G
+use Rattle.wires.specs.Groups.{settable, putPairs, packetOf, packetBytes, afterSent, freshWires, platformWires}
+use Rattle.state.specs.Status.{status}
+use Rattle.rules.specs.Rules.Wires as W
+use Rattle.rules.specs.Rules.Channel.{wires, on}
+use Rattle.rules.specs.Rules.Reply.{closed}
+use Rattle.rules.specs.Rules.Step.{World, Call, exchange, board, Outcome, step}
+use Rattle.rules.specs.Statements.Fields.{pairs}
+use Rattle.rules.specs.Statements.WireEvents.{WireEvent, idle, puts, gets, sets, enables, ends, switchesOn, wireEvent, wiresOf, countOf}
+
+-- the board's calls
+abbrev pub setsWire : (index bit value : ℕ) → Call
+setsWire index bit value = board wires (W.setWire index bit value)
+
+abbrev pub readsWire : (index bit : ℕ) → Call
+readsWire index bit = board wires (W.readWire index bit)
+
+pub data WireMove (w : World) (c : Call) (o : Outcome) : WireEvent → Type 0 where
+  still : wiresOf (o .next) ≡ wiresOf w → WireMove w c o idle
+  put : (b r : List ℕ) → c ≡ exchange b r → wiresOf (o .next) ≡ putPairs (wiresOf w) (pairs b) → WireMove w c o puts
+  sent : (k : ℕ) (ks : List ℕ) → G.sent (wiresOf w) (countOf w) ≡ k ∷ ks
+      → wiresOf (o .next) ≡ afterSent (wiresOf w) (G.sent (wiresOf w) (countOf w))
+      → o .reply ≡ closed (0x08 ∷ packetBytes (packetOf (wiresOf w) (G.sent (wiresOf w) (countOf w)))) (status (o .next .state))
+      → WireMove w c o gets
+  set : (i bit value : ℕ) → c ≡ setsWire i bit value → settable i bit value ≡ true
+      → wiresOf (o .next) ≡ G.setWire (on wires (w .state .config)) (wiresOf w) i bit value → WireMove w c o sets
+  enabled : (b r : List ℕ) → c ≡ exchange b r → switchesOn (w .state) b ≡ true → wiresOf (o .next) ≡ G.enabled (wiresOf w) → WireMove w c o enables
+  disabled : wiresOf (o .next) ≡ G.disabled (wiresOf w) → WireMove w c o ends
+  wiped : wiresOf (o .next) ≡ freshWires → WireMove w c o ends
+  platformWiped : wiresOf (o .next) ≡ platformWires (wiresOf w) → WireMove w c o ends
+
+abbrev pub WireView : Type 0
+WireView = (w : World) (c : Call) → WireMove w c (step w c) (wireEvent w c)
