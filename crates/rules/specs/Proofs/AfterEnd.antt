@@ -64,7 +64,8 @@ module _ (w : World) (c : Call) (cs : List Call) (s : Story (step w c .next) cs)
   free-story k e h (lent write read f a b d x) = asked-later (s .fromFree (a ∙ h))
   free-story k e h (dropped a d x) = asked-later (s .fromFree (dropped-free a))
 
-  still : (n : ℕ) → serialOf (step w c .next) ≡ n → ToldIn (serialOf (step w c .next)) (step w c .next) cs ⊎ AskedIn (step w c .next) cs → ToldIn n w (c ∷ cs) ⊎ AskedIn w (c ∷ cs)
+  still : (n : ℕ) → serialOf (step w c .next) ≡ n → ToldIn (serialOf (step w c .next)) (step w c .next) cs ⊎ AskedIn (step w c .next) cs
+      → ToldIn n w (c ∷ cs) ⊎ AskedIn w (c ∷ cs)
   still n e (inl t) = inl (told-later (rw e at t))
   still n e (inr t) = inr (asked-later t)
 

@@ -153,7 +153,8 @@ dropped-answer w q k xs e cs d s few success bytes l = by (eqb n 0) refl
     by : (t : Bool) → eqb n 0 ≡ t → step (run (step w q .next) (xs ++ e ∷ cs)) (answersWith (serialOf (step w q .next)) success bytes) .number ≡ 20
     by true z =
         let free : held (run (step w q .next) (xs ++ e ∷ cs)) ≡ Free =
-        ap held (run-append xs (step w q .next) (e ∷ cs)) ∙ freed (run (step w q .next) xs) e cs d (omega (arith, asked-append xs (step w q .next) (e ∷ cs), eqb-true n 0 z)) in
+        ap held (run-append xs (step w q .next) (e ∷ cs))
+        ∙ freed (run (step w q .next) xs) e cs d (omega (arith, asked-append xs (step w q .next) (e ∷ cs), eqb-true n 0 z)) in
         refused-20 (run (step w q .next) (xs ++ e ∷ cs)) (serialOf (step w q .next)) success bytes l (λ p h m. absurd (true≢false (cc)))
     by false z = late-answer w q k (xs ++ e ∷ cs) s (omega (arith, eqb-false n 0 z)) few success bytes l
 
@@ -184,7 +185,8 @@ answered-done : (q : Request) (t : Bool) → unanswered (answeredAs q t) ≡ fal
 answered-done q true = refl
 answered-done q false = refl
 
-done-step : (w : World) (c : Call) (k : Event) → unanswered (held w) ≡ false → isAsk k ≡ false → Move w c (step w c) k → unanswered (held (step w c .next)) ≡ false
+done-step : (w : World) (c : Call) (k : Event) → unanswered (held w) ≡ false → isAsk k ≡ false → Move w c (step w c) k
+    → unanswered (held (step w c .next)) ≡ false
 done-step w c k h f (same a b d v) = ap unanswered a ∙ h
 done-step w c k h f (asked b r g a m n d z v) = absurd (true≢false f)
 done-step w c k h f (told p m t d g a b i n v r z) = ap unanswered n ∙ answered-done p (succeeded t)

@@ -35,7 +35,7 @@ use Rattle.rules.specs.Proofs.SoundBytes.{bytes-below}
 use Rattle.rules.specs.Proofs.Events.{head-unended, tail-unended, head-without, tail-without}
 use Rattle.rules.specs.Proofs.Requests.{end-is, asked-opcode}
 use Rattle.rules.specs.Proofs.View.{view, view-as}
-use Rattle.rules.specs.Proofs.Owed.{np-shown, pc-shown, shown-silent, down-shown}
+use Rattle.rules.specs.Proofs.Owed.{np-shown, pc-shown, shown-silent, down-now}
 use Rattle.rules.specs.declared.PeripheralChange.{PeripheralChange}
 
 -- ---- the request as it was accepted, until it is answered
@@ -65,8 +65,10 @@ waits q (c ∷ xs) w h x y =
     (rest .0, rest .1 ∙ one .1)
 
 module _ (w : World) (b r : List ℕ) (xs : List Call) (a : Asked w b r xs) where
-  pub kept : (held (since w (exchange b r) xs) ≡ Waiting (requestIn (w .state .config) b)) × (serialOf (since w (exchange b r) xs) ≡ serialOf (step w (exchange b r) .next))
-  kept = waits (requestIn (w .state .config) b) xs (step w (exchange b r) .next) (asked-as (view-as w (exchange b r) (a .accepted))) (a .unended) (a .unanswered)
+  pub kept : (held (since w (exchange b r) xs) ≡ Waiting (requestIn (w .state .config) b))
+      × (serialOf (since w (exchange b r) xs) ≡ serialOf (step w (exchange b r) .next))
+  kept =
+      waits (requestIn (w .state .config) b) xs (step w (exchange b r) .next) (asked-as (view-as w (exchange b r) (a .accepted))) (a .unended) (a .unanswered)
 
 -- ---- before the answer
 
@@ -102,7 +104,7 @@ before w b r xs a c =
       deferNp = d .np;
       deferPc = d .pc;
       noGet = λ e. no-get _ (since w (exchange b r) xs) c h (view-as (since w (exchange b r) xs) c e);
-      down = down-shown (since w (exchange b r) xs) c (event (since w (exchange b r) xs) c) (ap pcAvail h) (view (since w (exchange b r) xs) c);
+      down = down-now (since w (exchange b r) xs) c (ap pcAvail h);
       taken = taken-shown _ (since w (exchange b r) xs) c (event (since w (exchange b r) xs) c) h (view (since w (exchange b r) xs) c);
     }
 
@@ -139,7 +141,8 @@ four-bytes (op ∷ r) h =
     (λ e. data-low (0x44 ∷ r) 1 _ e (io1 (0x44 ∷ r))) (λ e. data-low (0x45 ∷ r) 2 _ e (io2 (0x45 ∷ r))) (λ e. data-low (0x47 ∷ r) 4 _ e (io4 (0x47 ∷ r)))
     (λ _. refl) (λ _. refl) (λ _. refl) op h
 
-looks-number : {p : Peripheral} {report : List ℕ} {x : PeripheralChange} (q : Request) → p .request ≡ Waiting q → P.Settled p (look report) x → x .out .number ≡ 0
+looks-number : {p : Peripheral} {report : List ℕ} {x : PeripheralChange} (q : Request) → p .request ≡ Waiting q → P.Settled p (look report) x
+    → x .out .number ≡ 0
 looks-number q h (P.looked e) = refl
 looks-number q h (P.noLook e) = absurd (true≢false (sym (ap P.unanswered h) ∙ e))
 

@@ -7,8 +7,9 @@ use native.Mathlib.Omega.{arith}
 use Rattle.base.specs.Pick.{pick-ind}
 use Rattle.base.specs.Bytes.{over}
 use Rattle.rules.specs.Rules.Reset.{Reset}
-use Rattle.rules.specs.Rules.Channel.{Channel, Board, part, settle}
-use Rattle.rules.specs.Rules.Lift.{lift, silent}
+use Rattle.rules.specs.Rules.Channel.{Channel, Board}
+use Rattle.rules.specs.Rules.Lift as L
+use Rattle.rules.specs.Rules.Lift.{silent}
 use Rattle.rules.specs.Rules.Exchange as E
 use Rattle.rules.specs.Rules.Reply.{replyBytes}
 use Rattle.rules.specs.Rules.Step as S
@@ -54,7 +55,6 @@ pub exchange-long : (w : World) (b r : List ℕ) → shortStores r w ≡ false �
 unfolding S.step
 exchange-long w b r l = rw l
 
-pub board-long : (k : Channel) (w : World) (o : Board k) → shortFor k o w ≡ false
-    → S.step w (board k o) ≡ S.settled k w o (lift k (w .state) (settle k (w .state .config) (part k (w .state)) o))
+pub board-long : (k : Channel) (w : World) (o : Board k) → shortFor k o w ≡ false → S.step w (board k o) ≡ S.settled k w o (L.settled k (w .state) o)
 unfolding S.step
 board-long k w o l = rw l

@@ -178,7 +178,9 @@ module _ (w : World) (b r : List ℕ) (xs : List Call) (serial success : ℕ) (d
 
   sound-then : Sound (then .state)
   unfolding allHanded
-  sound-then = sound-step at (answersWith serial success d) (sound-run (step w (exchange b r) .next) xs sound-asked (and-right (handedOver (exchange b r)) _ (a .handed))) refl
+  sound-then =
+      sound-step at (answersWith serial success d)
+      (sound-run (step w (exchange b r) .next) xs sound-asked (and-right (handedOver (exchange b r)) _ (a .handed))) refl
 
   -- a success, or a failure
   request-as : (t : Bool) → succeeded success ≡ t → held then ≡ answeredAs (requestIn (w .state .config) b) t
@@ -197,7 +199,8 @@ was-success q true n e f l = refl
 was-success q false n e f l = absurd (omega arith)
 
 read-delivers : (q : Request) (d rd : List ℕ) (w : World) → reading (q .kind) ≡ true → MadeRequest q → length d ≡ q .length → Sound (w .state)
-    → Owes (pieceOfRead q) 0 (blocks (q .address) (q .length) (q .payload)) (held w) → w .read ≡ over d rd → (ys : List Call) → unended peripheral w ys ≡ true → readHandedOn w ys → allHanded ys ≡ true
+    → Owes (pieceOfRead q) 0 (blocks (q .address) (q .length) (q .payload)) (held w) → w .read ≡ over d rd → (ys : List Call) → unended peripheral w ys ≡ true
+    → readHandedOn w ys → allHanded ys ≡ true
     → HandsOver (q .address) (q .length) (q .payload) (q .tag) d w ys
 unfolding pieces
 read-delivers q d rd w is m size safe owes i ys u s t =

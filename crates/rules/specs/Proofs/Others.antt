@@ -27,7 +27,8 @@ own-other wires e (K.Data from n) f = absurd (true≢false (sym f))
 
 pub acts-other : (k : Channel) → same peripheral k ≡ false → (p : Part k) (a : Act k) (x : Change k) → Acts k p a x → outOf k x .kept ≡ K.Nothing
 acts-other k e p a x L.Acts.refused = ap (λ (out : Out). out .kept) (out-change k p fatal)
-acts-other k e p a x (L.Acts.accepted q body kept f g) = ap (λ (out : Out). out .kept) (out-change k q (accepts (responseFor k a) body kept)) ∙ own-other k e kept g
+acts-other k e p a x (L.Acts.accepted q body kept f g) =
+    ap (λ (out : Out). out .kept) (out-change k q (accepts (responseFor k a) body kept)) ∙ own-other k e kept g
 
 pub settles-other : (k : Channel) → same peripheral k ≡ false → (p : Part k) (o : Board k) (x : Change k) → Settles k p o x → outOf k x .kept ≡ K.Nothing
 settles-other k e p o x (L.Settles.refused n f g h i) = ap (λ (out : Out). out .kept) (out-change k p (number n))

@@ -81,8 +81,9 @@ pub get-accepted : (w : World) (check : ℕ) (reply : List ℕ) (k : Completion)
 unfolding exchanged lift
 get-accepted w check reply k ks d u long fine =
     let b : List ℕ = 0x01 ∷ check ∷ [] in
+    let known = get-admitted (w .state) check (held-on (w .state) d (ready-taken (held w) k ks u)) fine in
     ap (λ (o : Outcome). o .number)
-    (exchange-long w b reply long ∙ ap (exchanged w b) (plan-admitted peripheral (w .state) b GetPc (get-admitted (w .state) check (held-on (w .state) d (ready-taken (held w) k ks u)) fine)))
+    (exchange-long w b reply long ∙ ap (exchanged w b) (plan-admitted peripheral (w .state) b GetPc known))
     ∙ ready-number k ks u (did peripheral (w .state .config) (w .state .peripheral) P₀.gets)
 
 -- ---- completions owed
@@ -103,7 +104,8 @@ data Goes (comp : ℕ → Completion) (rd : List ℕ) (k n : ℕ) (w : World) (c
       → Goes comp rd k n w c
 
 module _ (comp : ℕ → Completion) (rd : List ℕ) (k n : ℕ) (w : World) (i : w .read ≡ rd) where
-  goes : (c : Call) (x : Event) → event w c ≡ x → Owes comp k (suc n) (held w) → isEnd x ≡ false → sameStore (λ v. v .read) w c → Move w c (step w c) x → Goes comp rd k n w c
+  goes : (c : Call) (x : Event) → event w c ≡ x → Owes comp k (suc n) (held w) → isEnd x ≡ false → sameStore (λ v. v .read) w c → Move w c (step w c) x
+      → Goes comp rd k n w c
   unfolding upward
   goes c x e o q s (same a b d v) = stays (rw e) (rw a o) (d ∙ i)
   goes c x e o q s (asked b r f a m y d z v) = absurd (true≢false (cc (o .0)))
@@ -123,7 +125,8 @@ data-in : (k : Completion) (rd : List ℕ) (st : ℕ) → dataIn (closed (0x08 �
 unfolding closed
 data-in k rd st =
     let check = crc (0x08 ∷ bodyOf k rd ++ low2 st) ∷ [] in
-    ap (λ (l : List ℕ). take (suc (suc (suc (suc (length l)))) - 7) l) (append-assoc (dataBytes k rd) (low2 st) check) ∙ data-of (dataBytes k rd) (low2 st ++ check) refl
+    ap (λ (l : List ℕ). take (suc (suc (suc (suc (length l)))) - 7) l) (append-assoc (dataBytes k rd) (low2 st) check)
+    ∙ data-of (dataBytes k rd) (low2 st ++ check) refl
 
 unfoldable pub datas : (ℕ → Completion) → List ℕ → (k n : ℕ) → List ℕ
 datas comp rd k zero = []
@@ -158,7 +161,8 @@ module _ (comp : ℕ → Completion) (rd : List ℕ) where
         joins = rw e (λ h. rw (data-in (comp k) rd st, l .joins (omega arith)));
       }
 
-  pub left : (cs : List Call) (k n : ℕ) (w : World) → Owes comp k n (held w) → w .read ≡ rd → unended peripheral w cs ≡ true → readHandedOn w cs → Left comp rd k n w cs
+  pub left : (cs : List Call) (k n : ℕ) (w : World) → Owes comp k n (held w) → w .read ≡ rd → unended peripheral w cs ≡ true → readHandedOn w cs
+      → Left comp rd k n w cs
   unfolding got run joinedData datas storeHandedOn
   left [] k zero w o i q s = record { owes = λ j h. absurd (omega arith); read = λ j h. i; joins = λ h. refl }
   left [] k (suc n) w o i q s = record { owes = λ j h. rw (add-zero k, same-left h) o; read = λ j h. i; joins = λ h. refl }
@@ -192,7 +196,8 @@ pub busy : {n : Np} {a : List ℕ} {k : Completion} {ks : List Completion} → u
 busy {n} {a} {k} {ks} u x = (pc-shown true (ap some u) x, np-shown false (ready-taken n k ks u) x)
 
 -- before the last completion, every reply
-pub stood : (comp : ℕ → Completion) (k n : ℕ) (w : World) (c : Call) (x : Event) → Owes comp k (suc n) (held w) → length (completionIn x (step w c .reply)) < suc n
+pub stood : (comp : ℕ → Completion) (k n : ℕ) (w : World) (c : Call) (x : Event) → Owes comp k (suc n) (held w)
+    → length (completionIn x (step w c .reply)) < suc n
     → Move w c (step w c) x → Busy (step w c .reply)
 unfolding upward
 stood comp k n w c x o l (same a b d v) = busy (o .0) v
@@ -220,7 +225,7 @@ down-run [] w h q = h
 down-run (c ∷ es) w h q =
     down-run es (step w c .next) (down-step w c (event w c) h (head-without answers w c es q) (view w c)) (tail-without answers w c es q)
 
-pub down-shown : (w : World) (c : Call) (k : Event) → pcAvail (held w) ≡ false → Move w c (step w c) k → showsBit 4 0 (step w c .reply)
+down-shown : (w : World) (c : Call) (k : Event) → pcAvail (held w) ≡ false → Move w c (step w c) k → showsBit 4 0 (step w c .reply)
 unfolding upward
 down-shown w c k h (same a b d v) = pc-shown false h v
 down-shown w c k h (asked b r f a m y d z v) = pc-shown false (ap pcAvail m) v
@@ -228,6 +233,9 @@ down-shown w c k h (told p m t d f a b i y v r z) = shown-silent 4 0 z
 down-shown w c k h (sent p ps u a b d r v) = absurd (true≢false (sym (ap some u) ∙ h))
 down-shown w c k h (lent write read f a b d v) = shown-silent 4 0 v
 down-shown w c k h (dropped a d v) = pc-shown false h v
+
+pub down-now : (w : World) (c : Call) → pcAvail (held w) ≡ false → showsBit 4 0 (step w c .reply)
+down-now w c h = down-shown w c (event w c) h (view w c)
 
 free-step : (w : World) (c : Call) (k : Event) → held w ≡ Free → isAsk k ≡ false → Move w c (step w c) k → held (step w c .next) ≡ Free
 unfolding upward
@@ -253,15 +261,18 @@ free-shown w c k h q (sent p ps u a b d r v) = absurd (true≢false (cc))
 free-shown w c k h q (lent write read f a b d v) = shown-silent 1 1 v
 free-shown w c k h q (dropped a d v) = np-shown true (ap npFree h) v
 
+free-now : (w : World) (c : Call) → held w ≡ Free → requests w c ≡ false → showsBit 1 1 (step w c .reply)
+free-now w c h q = free-shown w c (event w c) h q (view w c)
+
 pub ended-by : (comp : ℕ → Completion) (k : ℕ) (w : World) (c : Call) → Owes comp k 1 (held w) → Move w c (step w c) gets → Over (step w c)
 unfolding upward
 ended-by comp k w c o (sent p ps u a b d r v) =
     let free : held (step w c .next) ≡ Free = a ∙ o .1 in
     record {
       drops = pc-shown false (ap pcAvail (o .1)) v;
-      staysDown = λ es x q. down-shown (run (step w c .next) es) x (event (run (step w c .next) es) x) (down-run es (step w c .next) (ap pcAvail free) q) (view (run (step w c .next) es) x);
+      staysDown = λ es x q. down-now (run (step w c .next) es) x (down-run es (step w c .next) (ap pcAvail free) q);
       frees = np-shown true (ap npFree (o .1)) v;
-      staysFree = λ es x q n. free-shown (run (step w c .next) es) x (event (run (step w c .next) es) x) (free-run es (step w c .next) free q) n (view (run (step w c .next) es) x);
+      staysFree = λ es x q n. free-now (run (step w c .next) es) x (free-run es (step w c .next) free q) n;
       free = free;
     }
 
@@ -273,7 +284,8 @@ joined-owed comp N w o cs q s e = rw (← e) (left comp (w .read) cs 0 N w o ref
 -- ---- what a world that owes N completions delivers, over any run
 
 module _ (comp : ℕ → Completion) (N : ℕ) (body : ℕ → List ℕ) (w : World) (d : Sound (w .state)) (o : Owes comp 0 N (held w))
-    (is : (j : ℕ) → j < N → bodyOf (comp j) (w .read) ≡ body j) (cs : List Call) (q : unended peripheral w cs ≡ true) (s : readHandedOn w cs) (h : allHanded cs ≡ true) where
+    (is : (j : ℕ) → j < N → bodyOf (comp j) (w .read) ≡ body j) (cs : List Call) (q : unended peripheral w cs ≡ true) (s : readHandedOn w cs)
+    (h : allHanded cs ≡ true) where
   -- with j completions handed over
   owed : (n : ℕ) → length (got w cs) + suc n ≡ N → Owes comp (length (got w cs)) (suc n) (held (run w cs))
   owed n e = subst (λ (k : ℕ). Owes comp k (suc n) (held (run w cs))) (zero-add (length (got w cs))) (left comp (w .read) cs 0 N w o refl q s .owes n e)

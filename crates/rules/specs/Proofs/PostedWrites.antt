@@ -1,7 +1,7 @@
 -- Proof of P13: one sweep over the case law for the place of a posted write and its store, then by induction over the run.
-use Prim.Native.Nat.{ℕ, _+_, _≤_}
+use Prim.Native.Nat.{ℕ, _≤_}
 use mathlib.Core.Bool.{Bool, true, false, _&&_, not, true≢false}
-use mathlib.Core.List.{List, [], _∷_, _++_}
+use mathlib.Core.List.{List, [], _∷_}
 use mathlib.Core.Path.{_≡_, refl, sym, ap, _∙_}
 use native.Mathlib.Omega.{arith}
 use lib.ListN.{length, take, drop}
@@ -19,7 +19,7 @@ use Rattle.state.specs.declared.Peripheral.{Peripheral}
 use Rattle.rules.specs.Rules.Reset.{Reset, start, espiReset, platformReset}
 use Rattle.rules.specs.Rules.Peripheral as P₀
 use Rattle.rules.specs.Rules.Channel.{Channel, peripheral, Command, Act, Board, Change, nextOf, part, put, on, actOf, same}
-use Rattle.rules.specs.Rules.Lift.{lift, acceptThen}
+use Rattle.rules.specs.Rules.Lift.{lift, acceptThen, settled as planned}
 use Rattle.rules.specs.Rules.Exchange.{reconfigured, wasReset}
 use Rattle.rules.specs.Rules.Reply.{keptBytes}
 use Rattle.rules.specs.Rules.Step.{World, Call, reset, exchange, board, lend, Outcome, step, run, only, withState, exchanged, settled, writeLength, takeLength}
@@ -34,7 +34,7 @@ use Rattle.rules.specs.Statements.Events as E
 use Rattle.rules.specs.Statements.Events.{accepted, endsWith, unended}
 use Rattle.rules.specs.Statements.Requests.{since, without, sameStore, storeHandedOn, writeHandedOn}
 use Rattle.rules.specs.Statements.Sizes.{isOf}
-use Rattle.rules.specs.Statements.Peripheral.Effects.{afterPosted}
+use Rattle.rules.specs.Statements.Effects.{commandEffect}
 use Rattle.rules.specs.Statements.PostedWrites.{isPost, isTake, posts, takes, takesWith, writePlace, Accepted, posting, Untaken, takenAt, Taken, PostedWrites}
 use Rattle.rules.specs.Proofs.Cases.{cases, board-long}
 use Rattle.rules.specs.Proofs.Channels as N
@@ -110,7 +110,9 @@ module _ (w : World) where
     where
       by : (t : Bool) → on peripheral (w .state .config) && not (on peripheral (writeAt (w .state .config) a v)) ≡ t
           → Place w (exchange b r) (exchanged w b (acceptThen (w .state) (reconfigured (w .state) (writeAt (w .state .config) a v))))
-      by true e = ended (ap (λ (t : Bool). pick t (F.dropped (w .state .peripheral)) (w .state .peripheral) .write) e) refl (disabling peripheral (w .state) b a v h ∙ e)
+      by true e =
+          ended (ap (λ (t : Bool). pick t (F.dropped (w .state .peripheral)) (w .state .peripheral) .write) e) refl
+          (disabling peripheral (w .state) b a v h ∙ e)
       by false e = stays (ap (λ (t : Bool). pick t (F.dropped (w .state .peripheral)) (w .state .peripheral) .write) e) refl
 
   reset-place : (r : Reset) → Place w (reset r) (only 0 (withState w (wasReset r (w .state))))
@@ -124,12 +126,14 @@ module _ (w : World) where
   case-place (C.shown h) = stays refl refl
   case-place (C.acted {b} {r} k o x e d) =
       own-or-other peripheral
-      (λ (k : Channel). (o : Command k) (x : Change k) → Admits (w .state) b (commandOf k o) → Did k (w .state .config) (part k (w .state)) (actOf k (w .state .config) o b) x
-      → Place w (exchange b r) (exchanged w b (lift k (w .state) x)))
+      (λ (k : Channel). (o : Command k) (x : Change k) → Admits (w .state) b (commandOf k o)
+      → Did k (w .state .config) (part k (w .state)) (actOf k (w .state .config) o b) x → Place w (exchange b r) (exchanged w b (lift k (w .state) x)))
       (λ o x e d. acted-place b r (reads (w .state) b _ e) d)
       (λ k n o x e d. acted-beside k n b r _ x (N.acts k (w .state .config) (part k (w .state)) _ x d)) k o x e d
   case-place (C.settles k o x e d) =
-      own-or-other peripheral (λ (k : Channel). (o : Board k) (x : Change k) → Settled k (w .state .config) (part k (w .state)) o x → Place w (board k o) (settled k w o (lift k (w .state) x)))
+      own-or-other peripheral
+      (λ (k : Channel). (o : Board k) (x : Change k) → Settled k (w .state .config) (part k (w .state)) o x
+      → Place w (board k o) (settled k w o (lift k (w .state) x)))
       (λ o x d. settled-place d) (λ k n o x d. settled-beside k n o x) k o x d
   case-place (C.forbidden a v e f) = stays refl refl
   case-place (C.configured {b} {r} a v e f) = set-place b r a v (reads (w .state) b _ e)
@@ -166,7 +170,8 @@ store-by w c e s (ended a b g) = b
 
 -- ---- a run
 
-held-run : (p : Posted) (w : World) (xs : List Call) → writePlace w ≡ Held p → unended peripheral w xs ≡ true → without takes w xs ≡ true → writePlace (run w xs) ≡ Held p
+held-run : (p : Posted) (w : World) (xs : List Call) → writePlace w ≡ Held p → unended peripheral w xs ≡ true → without takes w xs ≡ true
+    → writePlace (run w xs) ≡ Held p
 unfolding run
 held-run p w [] h e f = h
 held-run p w (c ∷ cs) h e f =
@@ -187,7 +192,7 @@ store-run w (c ∷ cs) e h = store-run (step w c .next) cs (tail-without posts w
 
 module _ (w : World) (report : List ℕ) (long : 256 ≤ length (w .write)) (room : 10 ≤ length report) where
   -- its change, by channel 0's law
-  take-is : step w (takesWith report) ≡ settled peripheral w (P₀.takeWrite report) (lift peripheral (w .state) (P₀.settle (w .state .config) (w .state .peripheral) (P₀.takeWrite report)))
+  take-is : step w (takesWith report) ≡ settled peripheral w (P₀.takeWrite report) (planned peripheral (w .state) (P₀.takeWrite report))
   take-is = board-long peripheral w (P₀.takeWrite report) (rw (le-ltb (length (w .write)) writeLength long, le-ltb (length report) takeLength room))
 
   settled-take : P.Settled (w .state .peripheral) (P₀.takeWrite report) (P₀.settle (w .state .config) (w .state .peripheral) (P₀.takeWrite report))
@@ -248,19 +253,22 @@ module _ (w : World) (b r : List ℕ) (h : Accepted w b r) where
   abbrev w′ : World
   w′ = step w (exchange b r) .next
 
-  row : w′ ≡ record { state = put peripheral (afterPosted (w .state .config) (w .state .peripheral) b) (w .state); write = writtenData b ++ drop (accessLength b) (w .write); read = w .read }
+  row : w′ ≡ commandEffect peripheral w b
   row = effects w (exchange b r) (h .number) ∙ rw (h .posted)
 
   whole : length (writtenData b) ≡ accessLength b
   whole = data-whole w b r (cases w (exchange b r)) (h .posted) (h .number)
 
   first-held : writePlace w′ ≡ Held (posting w b)
-  first-held = ap writePlace row
+  first-held = ap writePlace row ∙ rw (h .posted)
 
   first-bytes : take (accessLength b) (w′ .write) ≡ writtenData b
-  first-bytes = ap (λ (v : World). take (accessLength b) (v .write)) row ∙ take-at (writtenData b) (drop (accessLength b) (w .write)) (accessLength b) whole
+  first-bytes =
+      ap (λ (v : World). take (accessLength b) (v .write)) row
+      ∙ rw (h .posted) (take-at (writtenData b) (drop (accessLength b) (w .write)) (accessLength b) whole)
 
-  taken-once : (xs : List Call) → Untaken w b r xs → (report : List ℕ) → 256 ≤ length (since w (exchange b r) xs .write) → 10 ≤ length report → Taken w b r xs report
+  taken-once : (xs : List Call) → Untaken w b r xs → (report : List ℕ) → 256 ≤ length (since w (exchange b r) xs .write) → 10 ≤ length report
+      → Taken w b r xs report
   taken-once xs u report long room =
       let t = take-held (since w (exchange b r) xs) report long room (posting w b) (held-run (posting w b) w′ xs first-held (u .unended) (u .untaken)) in
       record {

@@ -158,7 +158,8 @@ module _ (w : World) where
   settled-seen {o} (P.miscounted e f g) = number-seen o 21 refl
   settled-seen (P.succeeds {serial} {success} {bytes = d} {q} e f g h) =
       told q serial success d refl e f (rw g h) (rw g) refl (ap (λ (x : List ℕ). over x (w .read)) (ap (λ (m : ℕ). take m d) (sym h) ∙ take-length d)) refl
-  settled-seen (P.fails {serial} {success} {bytes = d} {q} e f g h) = told q serial success d refl e f (rw g h) (rw g) refl (ap (λ (x : List ℕ). over x (w .read)) (sym (no-bytes d h))) refl
+  settled-seen (P.fails {serial} {success} {bytes = d} {q} e f g h) =
+      told q serial success d refl e f (rw g h) (rw g) refl (ap (λ (x : List ℕ). over x (w .read)) (sym (no-bytes d h))) refl
   settled-seen {o} (P.noTake e) = number-seen o 23 refl
   settled-seen (P.took e) = stays refl refl refl quiet
 
@@ -201,7 +202,8 @@ module _ (w : World) where
 
   forbidden-seen : (b r : List ℕ) → Plans b r (nonFatal (w .state))
   unfolding exchanged
-  forbidden-seen b r = seen idle (refused-event (w .state) (exchange b r) _ refl) (stays refl refl refl (shown (w .state) (S.Said NonFatal B.Nothing) (w .read)))
+  forbidden-seen b r =
+      seen idle (refused-event (w .state) (exchange b r) _ refl) (stays refl refl refl (shown (w .state) (S.Said NonFatal B.Nothing) (w .read)))
 
   cleared-seen : (b r : List ℕ) → Plain b → Plans b r (quietly (reset008h (w .state)))
   unfolding exchanged replyBytes
@@ -212,14 +214,19 @@ module _ (w : World) where
       → Move w (exchange b r) (exchanged w b (acceptThen (w .state) (reconfigured (w .state) c))) (pick t ends idle)
   unfolding exchanged
   written-seen b r c true e =
-      dropped (ap (λ (t : Bool). pick t (F.dropped (w .state .peripheral)) (w .state .peripheral)) e) refl (shown (w .state) (S.Said Accept B.Nothing) (w .read))
+      dropped (ap (λ (t : Bool). pick t (F.dropped (w .state .peripheral)) (w .state .peripheral)) e) refl
+      (shown (w .state) (S.Said Accept B.Nothing) (w .read))
   written-seen b r c false e =
       let kept : reconfigured (w .state) c .peripheral ≡ w .state .peripheral = ap (λ (t : Bool). pick t (F.dropped (w .state .peripheral)) (w .state .peripheral)) e in
       stays (ap (λ (q : Peripheral). q .request) kept) (ap (λ (q : Peripheral). q .serial) kept) refl (shown (w .state) (S.Said Accept B.Nothing) (w .read))
 
   set-seen : (b r : List ℕ) (a v : ℕ) → Writes b a v → Plans b r (acceptThen (w .state) (reconfigured (w .state) (writeAt (w .state .config) a v)))
   unfolding exchanged
-  set-seen b r a v h = seen _ (accepted-event (w .state) (exchange b r) _ refl ∙ ap₂ (λ (t : Bool) (e : Event). pick t ends e) (disabling peripheral (w .state) b a v h) (rw (h .opcode))) (written-seen b r _ _ refl)
+  set-seen b r a v h =
+      seen _
+      (accepted-event (w .state) (exchange b r) _ refl
+      ∙ ap₂ (λ (t : Bool) (e : Event). pick t ends e) (disabling peripheral (w .state) b a v h) (rw (h .opcode)))
+      (written-seen b r _ _ refl)
 
   reset-seen : (r : Reset) → Seen (reset r) (only 0 (withState w (wasReset r (w .state))))
   unfolding eventOf
@@ -245,12 +252,15 @@ module _ (w : World) where
   case-seen (C.shown {b} {r} {body} h) = shown-seen b r body (shows-plain h)
   case-seen (C.acted {b} {r} k o x e d) =
       own-or-other peripheral
-      (λ (k : Channel). (o : Command k) (x : Change k) → Admits (w .state) b (commandOf k o) → Did k (w .state .config) (part k (w .state)) (actOf k (w .state .config) o b) x
-      → Seen (exchange b r) (exchanged w b (lift k (w .state) x)))
-      (λ o x e d. acted-seen b r (reads (w .state) b _ e) d) (λ k n o x e d. acted-beside k n b r x (command-other k n (w .state .config) b o (reads (w .state) b _ e)))
+      (λ (k : Channel). (o : Command k) (x : Change k) → Admits (w .state) b (commandOf k o)
+      → Did k (w .state .config) (part k (w .state)) (actOf k (w .state .config) o b) x → Seen (exchange b r) (exchanged w b (lift k (w .state) x)))
+      (λ o x e d. acted-seen b r (reads (w .state) b _ e) d)
+      (λ k n o x e d. acted-beside k n b r x (command-other k n (w .state .config) b o (reads (w .state) b _ e)))
       k o x e d
   case-seen (C.settles k o x e d) =
-      own-or-other peripheral (λ (k : Channel). (o : Board k) (x : Change k) → Settled k (w .state .config) (part k (w .state)) o x → Seen (board k o) (settled k w o (lift k (w .state) x)))
+      own-or-other peripheral
+      (λ (k : Channel). (o : Board k) (x : Change k) → Settled k (w .state .config) (part k (w .state)) o x
+      → Seen (board k o) (settled k w o (lift k (w .state) x)))
       (λ o x d. settled-seen d) (λ k n o x d. settled-beside k n o x (N.settled k (w .state .config) (part k (w .state)) o x d)) k o x d
   case-seen (C.forbidden {b} {r} a v e f) = forbidden-seen b r
   case-seen (C.configured {b} {r} a v e f) = set-seen b r a v (reads (w .state) b _ e)
