@@ -76,7 +76,7 @@ ready-number : {c : Config} {p : Peripheral} {x : PeripheralChange} (k : Complet
 ready-number k ks u (noneReady e) = absurd (true≢false (cc))
 ready-number k ks u (handedOver e) = refl
 
-pub get-accepted : (w : World) (check : ℕ) (reply : List ℕ) (k : Completion) (ks : List Completion) → Sound (w .state) → upward (held w) ≡ k ∷ ks
+get-accepted : (w : World) (check : ℕ) (reply : List ℕ) (k : Completion) (ks : List Completion) → Sound (w .state) → upward (held w) ≡ k ∷ ks
     → shortStores reply w ≡ false → crcFine (w .state) (0x01 ∷ check ∷ []) ≡ true → step w (exchange (0x01 ∷ check ∷ []) reply) .number ≡ 0
 unfolding exchanged lift
 get-accepted w check reply k ks d u long fine =
@@ -134,10 +134,10 @@ datas comp rd k (suc n) = dataBytes (comp k) rd ++ datas comp rd (suc k) n
 
 -- ---- runs while completions are owed
 
-pub record Left (comp : ℕ → Completion) (rd : List ℕ) (k n : ℕ) (w : World) (cs : List Call) : Type 0 where
-  pub owes : (j : ℕ) → length (got w cs) + suc j ≡ n → Owes comp (k + length (got w cs)) (suc j) (held (run w cs))
-  pub read : (j : ℕ) → length (got w cs) + suc j ≡ n → run w cs .read ≡ rd
-  pub joins : length (got w cs) ≤ n → joinedData (got w cs) ≡ datas comp rd k (length (got w cs))
+record Left (comp : ℕ → Completion) (rd : List ℕ) (k n : ℕ) (w : World) (cs : List Call) : Type 0 where
+  owes : (j : ℕ) → length (got w cs) + suc j ≡ n → Owes comp (k + length (got w cs)) (suc j) (held (run w cs))
+  read : (j : ℕ) → length (got w cs) + suc j ≡ n → run w cs .read ≡ rd
+  joins : length (got w cs) ≤ n → joinedData (got w cs) ≡ datas comp rd k (length (got w cs))
 
 same-left : {j n : ℕ} → 0 + suc j ≡ suc n → j ≡ n
 same-left h = omega arith
@@ -161,7 +161,7 @@ module _ (comp : ℕ → Completion) (rd : List ℕ) where
         joins = rw e (λ h. rw (data-in (comp k) rd st, l .joins (omega arith)));
       }
 
-  pub left : (cs : List Call) (k n : ℕ) (w : World) → Owes comp k n (held w) → w .read ≡ rd → unended peripheral w cs ≡ true → readHandedOn w cs
+  left : (cs : List Call) (k n : ℕ) (w : World) → Owes comp k n (held w) → w .read ≡ rd → unended peripheral w cs ≡ true → readHandedOn w cs
       → Left comp rd k n w cs
   unfolding got run joinedData datas storeHandedOn
   left [] k zero w o i q s = record { owes = λ j h. absurd (omega arith); read = λ j h. i; joins = λ h. refl }
@@ -189,14 +189,14 @@ pub np-shown : {n : Np} {a : List ℕ} (t : Bool) → npFree n ≡ t → Shown n
 np-shown {n} {a} t e x = subst (λ (u : Bool). showsBit 1 (bit u) a) e (x .np)
 
 -- PC_AVAIL at 1, NP_FREE at 0
-abbrev pub Busy : List ℕ → Type 0
+abbrev Busy : List ℕ → Type 0
 Busy a = showsBit 4 1 a × showsBit 1 0 a
 
-pub busy : {n : Np} {a : List ℕ} {k : Completion} {ks : List Completion} → upward n ≡ k ∷ ks → Shown n a → Busy a
+busy : {n : Np} {a : List ℕ} {k : Completion} {ks : List Completion} → upward n ≡ k ∷ ks → Shown n a → Busy a
 busy {n} {a} {k} {ks} u x = (pc-shown true (ap some u) x, np-shown false (ready-taken n k ks u) x)
 
 -- before the last completion, every reply
-pub stood : (comp : ℕ → Completion) (k n : ℕ) (w : World) (c : Call) (x : Event) → Owes comp k (suc n) (held w)
+stood : (comp : ℕ → Completion) (k n : ℕ) (w : World) (c : Call) (x : Event) → Owes comp k (suc n) (held w)
     → length (completionIn x (step w c .reply)) < suc n
     → Move w c (step w c) x → Busy (step w c .reply)
 unfolding upward
@@ -264,7 +264,7 @@ free-shown w c k h q (dropped a d v) = np-shown true (ap npFree h) v
 free-now : (w : World) (c : Call) → held w ≡ Free → requests w c ≡ false → showsBit 1 1 (step w c .reply)
 free-now w c h q = free-shown w c (event w c) h q (view w c)
 
-pub ended-by : (comp : ℕ → Completion) (k : ℕ) (w : World) (c : Call) → Owes comp k 1 (held w) → Move w c (step w c) gets → Over (step w c)
+ended-by : (comp : ℕ → Completion) (k : ℕ) (w : World) (c : Call) → Owes comp k 1 (held w) → Move w c (step w c) gets → Over (step w c)
 unfolding upward
 ended-by comp k w c o (sent p ps u a b d r v) =
     let free : held (step w c .next) ≡ Free = a ∙ o .1 in

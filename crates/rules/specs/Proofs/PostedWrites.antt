@@ -1,4 +1,4 @@
--- Proof of P13: one sweep over the case law for the place of a posted write and its store, then by induction over the run.
+-- Proof of P13: one sweep over the case law for the held write and the write store, then by induction over the run.
 use Prim.Native.Nat.{ℕ, _≤_}
 use mathlib.Core.Bool.{Bool, true, false, _&&_, not, true≢false}
 use mathlib.Core.List.{List, [], _∷_}
@@ -35,7 +35,7 @@ use Rattle.rules.specs.Statements.Events.{accepted, endsWith, unended}
 use Rattle.rules.specs.Statements.Requests.{since, without, sameStore, storeHandedOn, writeHandedOn}
 use Rattle.rules.specs.Statements.Sizes.{isOf}
 use Rattle.rules.specs.Statements.Effects.{commandEffect}
-use Rattle.rules.specs.Statements.PostedWrites.{isPost, isTake, posts, takes, takesWith, writePlace, Accepted, posting, Untaken, takenAt, Taken, PostedWrites}
+use Rattle.rules.specs.Statements.PostedWrites.{isPost, isTake, posts, takes, takesWith, heldWrite, AcceptedPost, posting, Untaken, takenAt, Taken, PostedWrites}
 use Rattle.rules.specs.Proofs.Cases.{cases, board-long}
 use Rattle.rules.specs.Proofs.Channels as N
 use Rattle.rules.specs.Proofs.Peripheral as L
@@ -49,14 +49,14 @@ use Rattle.rules.specs.Proofs.Others.{acts-other}
 use Rattle.rules.specs.declared.Kept.{Kept}
 use Rattle.rules.specs.declared.PeripheralChange.{PeripheralChange}
 
--- ---- what a call does to the place and the store
+-- ---- what a call does to the held write and the write store
 
-data Place (w : World) (c : Call) (o : Outcome) : Type 0 where
-  stays : writePlace (o .next) ≡ writePlace w → o .next .write ≡ w .write → Place w c o
-  lent : (write read : List ℕ) → c ≡ lend write read → writePlace (o .next) ≡ writePlace w → o .next .write ≡ write → Place w c o
-  posted : writePlace w ≡ Empty → accepted o && isPost c ≡ true → Place w c o
-  taken : writePlace (o .next) ≡ Empty → o .next .write ≡ w .write → accepted o && isTake c ≡ true → Place w c o
-  ended : writePlace (o .next) ≡ Empty → o .next .write ≡ w .write → endsWith peripheral (w .state) c o ≡ true → Place w c o
+data WriteMove (w : World) (c : Call) (o : Outcome) : Type 0 where
+  stays : heldWrite (o .next) ≡ heldWrite w → o .next .write ≡ w .write → WriteMove w c o
+  lent : (write read : List ℕ) → c ≡ lend write read → heldWrite (o .next) ≡ heldWrite w → o .next .write ≡ write → WriteMove w c o
+  posted : heldWrite w ≡ Empty → accepted o && isPost c ≡ true → WriteMove w c o
+  taken : heldWrite (o .next) ≡ Empty → o .next .write ≡ w .write → accepted o && isTake c ≡ true → WriteMove w c o
+  ended : heldWrite (o .next) ≡ Empty → o .next .write ≡ w .write → endsWith peripheral (w .state) c o ≡ true → WriteMove w c o
 
 no-write : (x : Write) → pcFree x ≡ true → x ≡ Empty
 no-write Empty e = refl
@@ -64,104 +64,104 @@ no-write (Held p) e = absurd (true≢false (sym e))
 
 module _ (w : World) where
   -- channel 0's commands and calls
-  acted-place : (b r : List ℕ) {a : P₀.Act} {x : PeripheralChange} → R.Peripheral (w .state .config) b a → P.Did (w .state .config) (w .state .peripheral) a x
-      → Place w (exchange b r) (exchanged w b (lift peripheral (w .state) x))
+  acted-write : (b r : List ℕ) {a : P₀.Act} {x : PeripheralChange} → R.Peripheral (w .state .config) b a → P.Did (w .state .config) (w .state .peripheral) a x
+      → WriteMove w (exchange b r) (exchanged w b (lift peripheral (w .state) x))
   unfolding exchanged lift over
-  acted-place b r f (P.writeHeld e) = stays refl refl
-  acted-place b r f (P.writeLarge e g) = stays refl refl
-  acted-place b r (R.posts h n) (P.posted e g) = posted (no-write (writePlace w) e) h
-  acted-place b r f (P.requestHeld e) = stays refl refl
-  acted-place b r f (P.requestLarge e g) = stays refl refl
-  acted-place b r f (P.asked e g) = stays refl refl
-  acted-place b r f (P.noneReady e) = stays refl refl
-  acted-place b r f (P.handedOver e) = stays refl refl
+  acted-write b r f (P.writeHeld e) = stays refl refl
+  acted-write b r f (P.writeLarge e g) = stays refl refl
+  acted-write b r (R.posts h n) (P.posted e g) = posted (no-write (heldWrite w) e) h
+  acted-write b r f (P.requestHeld e) = stays refl refl
+  acted-write b r f (P.requestLarge e g) = stays refl refl
+  acted-write b r f (P.asked e g) = stays refl refl
+  acted-write b r f (P.noneReady e) = stays refl refl
+  acted-write b r f (P.handedOver e) = stays refl refl
 
-  settled-place : {o : P₀.Board} {x : PeripheralChange} → P.Settled (w .state .peripheral) o x
-      → Place w (board peripheral o) (settled peripheral w o (lift peripheral (w .state) x))
+  settled-write : {o : P₀.Board} {x : PeripheralChange} → P.Settled (w .state .peripheral) o x
+      → WriteMove w (board peripheral o) (settled peripheral w o (lift peripheral (w .state) x))
   unfolding settled lift
-  settled-place (P.looked e) = stays refl refl
-  settled-place (P.noLook e) = stays refl refl
-  settled-place (P.noSuch e) = stays refl refl
-  settled-place (P.miscounted e f g) = stays refl refl
-  settled-place (P.succeeds e f g h) = stays refl refl
-  settled-place (P.fails e f g h) = stays refl refl
-  settled-place (P.noTake e) = stays refl refl
-  settled-place (P.took e) = taken refl refl refl
+  settled-write (P.looked e) = stays refl refl
+  settled-write (P.noLook e) = stays refl refl
+  settled-write (P.noSuch e) = stays refl refl
+  settled-write (P.miscounted e f g) = stays refl refl
+  settled-write (P.succeeds e f g h) = stays refl refl
+  settled-write (P.fails e f g h) = stays refl refl
+  settled-write (P.noTake e) = stays refl refl
+  settled-write (P.took e) = taken refl refl refl
 
   -- another channel's
   module _ (k : Channel) (other : same peripheral k ≡ false) where
-    kept-place : (x : Change k) → put k (nextOf k x) (w .state) .peripheral .write ≡ writePlace w
-    kept-place x = ap (λ (p : Peripheral). p .write) (part-stays k peripheral (nextOf k x) (w .state) (same-turned peripheral k other))
+    kept-write : (x : Change k) → put k (nextOf k x) (w .state) .peripheral .write ≡ heldWrite w
+    kept-write x = ap (λ (p : Peripheral). p .write) (part-stays k peripheral (nextOf k x) (w .state) (same-turned peripheral k other))
 
-    acted-beside : (b r : List ℕ) (a : Act k) (x : Change k) → Acts k (part k (w .state)) a x → Place w (exchange b r) (exchanged w b (lift k (w .state) x))
+    acted-beside : (b r : List ℕ) (a : Act k) (x : Change k) → Acts k (part k (w .state)) a x → WriteMove w (exchange b r) (exchanged w b (lift k (w .state) x))
     unfolding exchanged lift
     acted-beside b r a x d =
-        stays (kept-place x) (ap (λ (kept : Kept). over (keptBytes kept b) (w .write)) (acts-other k other (part k (w .state)) a x d) ∙ over-none (w .write))
+        stays (kept-write x) (ap (λ (kept : Kept). over (keptBytes kept b) (w .write)) (acts-other k other (part k (w .state)) a x d) ∙ over-none (w .write))
 
-    settled-beside : (o : Board k) (x : Change k) → Place w (board k o) (settled k w o (lift k (w .state) x))
+    settled-beside : (o : Board k) (x : Change k) → WriteMove w (board k o) (settled k w o (lift k (w .state) x))
     unfolding settled lift
-    settled-beside o x = stays (kept-place x) refl
+    settled-beside o x = stays (kept-write x) refl
 
   -- a write of a register
-  set-place : (b r : List ℕ) (a v : ℕ) → Writes b a v
-      → Place w (exchange b r) (exchanged w b (acceptThen (w .state) (reconfigured (w .state) (writeAt (w .state .config) a v))))
+  set-write : (b r : List ℕ) (a v : ℕ) → Writes b a v
+      → WriteMove w (exchange b r) (exchanged w b (acceptThen (w .state) (reconfigured (w .state) (writeAt (w .state .config) a v))))
   unfolding exchanged over
-  set-place b r a v h = by (on peripheral (w .state .config) && not (on peripheral (writeAt (w .state .config) a v))) refl
+  set-write b r a v h = by (on peripheral (w .state .config) && not (on peripheral (writeAt (w .state .config) a v))) refl
     where
       by : (t : Bool) → on peripheral (w .state .config) && not (on peripheral (writeAt (w .state .config) a v)) ≡ t
-          → Place w (exchange b r) (exchanged w b (acceptThen (w .state) (reconfigured (w .state) (writeAt (w .state .config) a v))))
+          → WriteMove w (exchange b r) (exchanged w b (acceptThen (w .state) (reconfigured (w .state) (writeAt (w .state .config) a v))))
       by true e =
           ended (ap (λ (t : Bool). pick t (F.dropped (w .state .peripheral)) (w .state .peripheral) .write) e) refl
           (disabling peripheral (w .state) b a v h ∙ e)
       by false e = stays (ap (λ (t : Bool). pick t (F.dropped (w .state .peripheral)) (w .state .peripheral) .write) e) refl
 
-  reset-place : (r : Reset) → Place w (reset r) (only 0 (withState w (wasReset r (w .state))))
-  reset-place start = ended refl refl refl
-  reset-place espiReset = ended refl refl refl
-  reset-place platformReset = ended refl refl refl
+  reset-write : (r : Reset) → WriteMove w (reset r) (only 0 (withState w (wasReset r (w .state))))
+  reset-write start = ended refl refl refl
+  reset-write espiReset = ended refl refl refl
+  reset-write platformReset = ended refl refl refl
 
-  case-place : {c : Call} {o : Outcome} → Case w c o → Place w c o
+  case-write : {c : Call} {o : Outcome} → Case w c o → WriteMove w c o
   unfolding exchanged over
-  case-place (C.idle n h) = stays refl refl
-  case-place (C.shown h) = stays refl refl
-  case-place (C.acted {b} {r} k o x e d) =
+  case-write (C.idle n h) = stays refl refl
+  case-write (C.shown h) = stays refl refl
+  case-write (C.acted {b} {r} k o x e d) =
       own-or-other peripheral
       (λ (k : Channel). (o : Command k) (x : Change k) → Admits (w .state) b (commandOf k o)
-      → Did k (w .state .config) (part k (w .state)) (actOf k (w .state .config) o b) x → Place w (exchange b r) (exchanged w b (lift k (w .state) x)))
-      (λ o x e d. acted-place b r (reads (w .state) b _ e) d)
+      → Did k (w .state .config) (part k (w .state)) (actOf k (w .state .config) o b) x → WriteMove w (exchange b r) (exchanged w b (lift k (w .state) x)))
+      (λ o x e d. acted-write b r (reads (w .state) b _ e) d)
       (λ k n o x e d. acted-beside k n b r _ x (N.acts k (w .state .config) (part k (w .state)) _ x d)) k o x e d
-  case-place (C.settles k o x e d) =
+  case-write (C.settles k o x e d) =
       own-or-other peripheral
       (λ (k : Channel). (o : Board k) (x : Change k) → Settled k (w .state .config) (part k (w .state)) o x
-      → Place w (board k o) (settled k w o (lift k (w .state) x)))
-      (λ o x d. settled-place d) (λ k n o x d. settled-beside k n o x) k o x d
-  case-place (C.forbidden a v e f) = stays refl refl
-  case-place (C.configured {b} {r} a v e f) = set-place b r a v (reads (w .state) b _ e)
-  case-place (C.cleared e) = stays refl refl
-  case-place (C.wiped {r}) = reset-place r
-  case-place (C.lent {write} {read}) = lent write read refl refl refl
+      → WriteMove w (board k o) (settled k w o (lift k (w .state) x)))
+      (λ o x d. settled-write d) (λ k n o x d. settled-beside k n o x) k o x d
+  case-write (C.forbidden a v e f) = stays refl refl
+  case-write (C.configured {b} {r} a v e f) = set-write b r a v (reads (w .state) b _ e)
+  case-write (C.cleared e) = stays refl refl
+  case-write (C.wiped {r}) = reset-write r
+  case-write (C.lent {write} {read}) = lent write read refl refl refl
 
-place : (w : World) (c : Call) → Place w c (step w c)
-place w c = case-place w (cases w c)
+write-view : (w : World) (c : Call) → WriteMove w c (step w c)
+write-view w c = case-write w (cases w c)
 
 -- ---- one call
 
-held-by : (p : Posted) (w : World) (c : Call) → writePlace w ≡ Held p → E.ends peripheral w c ≡ false → takes w c ≡ false → Place w c (step w c)
-    → writePlace (step w c .next) ≡ Held p
+held-by : (p : Posted) (w : World) (c : Call) → heldWrite w ≡ Held p → E.ends peripheral w c ≡ false → takes w c ≡ false → WriteMove w c (step w c)
+    → heldWrite (step w c .next) ≡ Held p
 held-by p w c h e f (stays a b) = a ∙ h
 held-by p w c h e f (lent write read g a b) = a ∙ h
 held-by p w c h e f (posted a b) = absurd (true≢false (cc))
 held-by p w c h e f (taken a b g) = absurd (true≢false (sym g ∙ f))
 held-by p w c h e f (ended a b g) = absurd (true≢false (sym g ∙ e))
 
-empty-by : (w : World) (c : Call) → writePlace w ≡ Empty → posts w c ≡ false → Place w c (step w c) → writePlace (step w c .next) ≡ Empty
+empty-by : (w : World) (c : Call) → heldWrite w ≡ Empty → posts w c ≡ false → WriteMove w c (step w c) → heldWrite (step w c .next) ≡ Empty
 empty-by w c h e (stays a b) = a ∙ h
 empty-by w c h e (lent write read g a b) = a ∙ h
 empty-by w c h e (posted a b) = absurd (true≢false (sym b ∙ e))
 empty-by w c h e (taken a b g) = a
 empty-by w c h e (ended a b g) = a
 
-store-by : (w : World) (c : Call) → posts w c ≡ false → sameStore (λ v. v .write) w c → Place w c (step w c) → step w c .next .write ≡ w .write
+store-by : (w : World) (c : Call) → posts w c ≡ false → sameStore (λ v. v .write) w c → WriteMove w c (step w c) → step w c .next .write ≡ w .write
 store-by w c e s (stays a b) = b
 store-by w c e s (lent write read g a b) = b ∙ (rw g at s)
 store-by w c e s (posted a b) = absurd (true≢false (sym b ∙ e))
@@ -170,23 +170,23 @@ store-by w c e s (ended a b g) = b
 
 -- ---- a run
 
-held-run : (p : Posted) (w : World) (xs : List Call) → writePlace w ≡ Held p → unended peripheral w xs ≡ true → without takes w xs ≡ true
-    → writePlace (run w xs) ≡ Held p
+held-run : (p : Posted) (w : World) (xs : List Call) → heldWrite w ≡ Held p → unended peripheral w xs ≡ true → without takes w xs ≡ true
+    → heldWrite (run w xs) ≡ Held p
 unfolding run
 held-run p w [] h e f = h
 held-run p w (c ∷ cs) h e f =
-    held-run p (step w c .next) cs (held-by p w c h (head-unended peripheral w c cs e) (head-without takes w c cs f) (place w c))
+    held-run p (step w c .next) cs (held-by p w c h (head-unended peripheral w c cs e) (head-without takes w c cs f) (write-view w c))
     (tail-unended peripheral w c cs e) (tail-without takes w c cs f)
 
-empty-run : (w : World) (xs : List Call) → writePlace w ≡ Empty → without posts w xs ≡ true → writePlace (run w xs) ≡ Empty
+empty-run : (w : World) (xs : List Call) → heldWrite w ≡ Empty → without posts w xs ≡ true → heldWrite (run w xs) ≡ Empty
 unfolding run
 empty-run w [] h e = h
-empty-run w (c ∷ cs) h e = empty-run (step w c .next) cs (empty-by w c h (head-without posts w c cs e) (place w c)) (tail-without posts w c cs e)
+empty-run w (c ∷ cs) h e = empty-run (step w c .next) cs (empty-by w c h (head-without posts w c cs e) (write-view w c)) (tail-without posts w c cs e)
 
 store-run : (w : World) (xs : List Call) → without posts w xs ≡ true → writeHandedOn w xs → run w xs .write ≡ w .write
 unfolding run storeHandedOn
 store-run w [] e h = refl
-store-run w (c ∷ cs) e h = store-run (step w c .next) cs (tail-without posts w c cs e) (h .1) ∙ store-by w c (head-without posts w c cs e) (h .0) (place w c)
+store-run w (c ∷ cs) e h = store-run (step w c .next) cs (tail-without posts w c cs e) (h .1) ∙ store-by w c (head-without posts w c cs e) (h .0) (write-view w c)
 
 -- ---- the take
 
@@ -198,7 +198,7 @@ module _ (w : World) (report : List ℕ) (long : 256 ≤ length (w .write)) (roo
   settled-take : P.Settled (w .state .peripheral) (P₀.takeWrite report) (P₀.settle (w .state .config) (w .state .peripheral) (P₀.takeWrite report))
   settled-take = L.settles (w .state .config) (w .state .peripheral) (P₀.takeWrite report)
 
-  take-none : writePlace w ≡ Empty → step w (takesWith report) .number ≡ 23
+  take-none : heldWrite w ≡ Empty → step w (takesWith report) .number ≡ 23
   unfolding settled lift
   take-none h = ap (λ (o : Outcome). o .number) take-is ∙ by settled-take
     where
@@ -209,15 +209,15 @@ module _ (w : World) (report : List ℕ) (long : 256 ≤ length (w .write)) (roo
   record Takes (p : Posted) : Type 0 where
     number : step w (takesWith report) .number ≡ 0
     yields : step w (takesWith report) .report ≡ P₀.postedReport p
-    frees : writePlace (step w (takesWith report) .next) ≡ Empty
+    frees : heldWrite (step w (takesWith report) .next) ≡ Empty
 
-  take-held : (p : Posted) → writePlace w ≡ Held p → Takes p
+  take-held : (p : Posted) → heldWrite w ≡ Held p → Takes p
   unfolding settled lift
   take-held p h =
       record {
         number = ap (λ (o : Outcome). o .number) take-is ∙ by settled-take .0;
         yields = ap (λ (o : Outcome). o .report) take-is ∙ ap P₀.takeReport h;
-        frees = ap (λ (o : Outcome). writePlace (o .next)) take-is ∙ by settled-take .1;
+        frees = ap (λ (o : Outcome). heldWrite (o .next)) take-is ∙ by settled-take .1;
       }
     where
       by : {x : PeripheralChange} → P.Settled (w .state .peripheral) (P₀.takeWrite report) x → (x .out .number ≡ 0) × (x .next .write ≡ Empty)
@@ -249,7 +249,7 @@ module _ (w : World) (b r : List ℕ) where
   data-whole (C.configured a v e f) p z = absurd (true≢false (sym p ∙ ap isPosted (reads (w .state) b _ e .opcode)))
   data-whole (C.cleared e) p z = absurd (true≢false (sym p ∙ ap isPosted (reads (w .state) b _ e)))
 
-module _ (w : World) (b r : List ℕ) (h : Accepted w b r) where
+module _ (w : World) (b r : List ℕ) (h : AcceptedPost w b r) where
   abbrev w′ : World
   w′ = step w (exchange b r) .next
 
@@ -259,8 +259,8 @@ module _ (w : World) (b r : List ℕ) (h : Accepted w b r) where
   whole : length (writtenData b) ≡ accessLength b
   whole = data-whole w b r (cases w (exchange b r)) (h .posted) (h .number)
 
-  first-held : writePlace w′ ≡ Held (posting w b)
-  first-held = ap writePlace row ∙ rw (h .posted)
+  first-held : heldWrite w′ ≡ Held (posting w b)
+  first-held = ap heldWrite row ∙ rw (h .posted)
 
   first-bytes : take (accessLength b) (w′ .write) ≡ writtenData b
   first-bytes =

@@ -53,13 +53,13 @@ takes w c = accepted (step w c) && isTake c
 abbrev pub takesWith : List ℕ → Call
 takesWith report = board peripheral (P.takeWrite report)
 
--- the place of a posted write
-abbrev pub writePlace : World → Write
-writePlace w = w .state .peripheral .write
+-- the write that is held
+abbrev pub heldWrite : World → Write
+heldWrite w = w .state .peripheral .write
 
 -- ---- an accepted posted write, and the calls since
 
-pub record Accepted (w : World) (b reply : List ℕ) : Type 0 where
+pub record AcceptedPost (w : World) (b reply : List ℕ) : Type 0 where
   pub posted : isPosted (byte b 0) ≡ true
   pub number : step w (exchange b reply) .number ≡ 0
 
@@ -80,7 +80,7 @@ pub record Untaken (w : World) (b reply : List ℕ) (xs : List Call) : Type 0 wh
 abbrev pub takenAt : World → List ℕ → List ℕ → List Call → List ℕ → World
 takenAt w b reply xs report = step (since w (exchange b reply) xs) (takesWith report) .next
 
--- the take yields them, and frees the place: another take is refused until a write is accepted
+-- the take yields them, and nothing is held after it: another take is refused until a write is accepted
 pub record Taken (w : World) (b reply : List ℕ) (xs : List Call) (report : List ℕ) : Type 0 where
   pub number : step (since w (exchange b reply) xs) (takesWith report) .number ≡ 0
   pub yields : step (since w (exchange b reply) xs) (takesWith report) .report ≡ takeBytes b
@@ -93,9 +93,9 @@ pub record PostedWrite (w : World) (b reply : List ℕ) (xs : List Call) : Type 
   -- until the next accepted write, its first L bytes are the command's data, "if nobody else writes the store"
   pub bytes : without posts (step w (exchange b reply) .next) xs ≡ true → writeHandedOn (step w (exchange b reply) .next) xs
       → take (accessLength b) (since w (exchange b reply) xs .write) ≡ writtenData b
-  pub held : Untaken w b reply xs → writePlace (since w (exchange b reply) xs) ≡ Held (posting w b)
+  pub held : Untaken w b reply xs → heldWrite (since w (exchange b reply) xs) ≡ Held (posting w b)
   pub taken : Untaken w b reply xs → (report : List ℕ) → 256 ≤ length (since w (exchange b reply) xs .write) → 10 ≤ length report
       → Taken w b reply xs report
 
 abbrev pub PostedWrites : Type 0
-PostedWrites = (w : World) (b reply : List ℕ) → Accepted w b reply → (xs : List Call) → PostedWrite w b reply xs
+PostedWrites = (w : World) (b reply : List ℕ) → AcceptedPost w b reply → (xs : List Call) → PostedWrite w b reply xs

@@ -47,7 +47,7 @@ pub record AsksFor (b : List ℕ) (q : Request) : Type 0 where
   pub tag : q .tag ≡ accessTag b
   pub bytes : q .bytes ≡ ioBytes b
 
-pub record Held (w : World) (b r : List ℕ) : Type 0 where
+pub record HeldRequest (w : World) (b r : List ℕ) : Type 0 where
   pub request : Request
   pub waits : held (step w (exchange b r) .next) ≡ Waiting request
   pub asks : AsksFor b request
@@ -55,7 +55,7 @@ pub record Held (w : World) (b r : List ℕ) : Type 0 where
 pub record ByteWords : Type 0 where
   pub get : (w : World) (c : Call) → Exactly (event w c ≡ gets) (Accepted w c × GetPc c)
   pub ask : (w : World) (c : Call) → Exactly (event w c ≡ asks) (Accepted w c × NonPosted c)
-  pub held : (w : World) (b r : List ℕ) → event w (exchange b r) ≡ asks → Held w b r
+  pub held : (w : World) (b r : List ℕ) → event w (exchange b r) ≡ asks → HeldRequest w b r
   pub tell : (w : World) (c : Call) → Exactly (event w c ≡ tells) (Accepted w c × Answer c)
   pub end : (w : World) (c : Call) → Exactly (event w c ≡ R.ends) (ends peripheral w c ≡ true)
   pub ends : (k : Channel) (w : World) (c : Call) → Exactly (ends k w c ≡ true) (Accepted w c × Ending k (w .state .config) c)
