@@ -28,6 +28,9 @@ pub mod Asked
 pub mod Demand3
 pub mod Words
 pub mod Answers
+pub mod WireView
+pub mod Bound
+pub mod WireSteps
 pub mod Vectors
 pub mod Becomes
 pub mod Effects

@@ -13,17 +13,14 @@ use Rattle.base.specs.Bytes.{low2, over}
 use Rattle.crc.specs.Crc.{crc}
 use Rattle.registers.specs.Registers.{fresh008, readAt, writeAt}
 use Rattle.registers.specs.declared.Config.{Config}
-use Rattle.wires.specs.Groups.{anyPending}
 use Rattle.command.specs.declared.Command as C₀
-use Rattle.state.specs.Status.{status, peripheralStatus, wiresStatus, pcFree, npFree, pcAvail}
+use Rattle.state.specs.Status.{status, peripheralStatus, wiresStatus}
 use Rattle.state.specs.declared.Peripheral.{Peripheral}
 use Rattle.state.specs.declared.State.{State}
 use Rattle.rules.specs.Rules.Out.{responseByte}
 use Rattle.rules.specs.Rules.Channel.{Channel, peripheral, wires, Part, Command, Act, Board, Change, change, nextOf, outOf, actOf, acting, settle, reportOf, valueOf, given, ownBody, ownKept, part, put, each, on, edge, same}
 use Rattle.rules.specs.Rules.Channel as N
-use Rattle.rules.specs.Rules.Lift as L₀
 use Rattle.rules.specs.Rules.Lift.{lift, withStatus, show}
-use Rattle.rules.specs.Rules.Exchange as E
 use Rattle.rules.specs.Rules.Exchange.{reconfigured, configReset}
 use Rattle.rules.specs.Rules.Reply.{closed, replyBytes, bodyBytes, keptBytes}
 use Rattle.rules.specs.Rules.Step.{World, Call, Outcome, exchange, board, reset, short, lend, step, run, exchanged, settled, shortStores, shortFor, writeLength, readLength, replyLength}
@@ -31,18 +28,20 @@ use Rattle.rules.specs.Statements.Plans.{Settled, Admits}
 use Rattle.rules.specs.Statements.Channels.{Acts, Settles}
 use Rattle.rules.specs.Statements.Channels as L
 use Rattle.rules.specs.Statements.Fields.{byte}
+use Rattle.rules.specs.Statements.Sizes.{isOf}
 use Rattle.rules.specs.Statements.Both as T
 use Rattle.rules.specs.Statements.Both.{Both, SameRoom}
-use Rattle.rules.specs.Statements.Apart.{isOpcodeOf, storesOf, clear, isCommandOf, isOf, others, replyBut, Seen, seen, seeing, RunsAlike, StatesAlike, Alike, NoneTells, SameButWires, WiresApart, SameButPeripheral, PeripheralApart}
+use Rattle.rules.specs.Statements.Apart.{storesOf, clear, isCommandOf, isCallOf, others, replyBut, Seen, seen, seeing, RunsAlike, StatesAlike, Alike, NoneTells, SameButWires, WiresApart, SameButPeripheral, PeripheralApart}
 use Rattle.rules.specs.Proofs.Plans as Q
 use Rattle.rules.specs.Proofs.Channels as L₁
 use Rattle.rules.specs.Proofs.Peripheral.Apart as P₁
 use Rattle.rules.specs.Proofs.Wires.Apart as W₁
-use Rattle.rules.specs.Proofs.Whose.{begins, own-command, no-set, no-reset}
+use Rattle.rules.specs.Proofs.Whose.{begins, own-command}
+use Rattle.rules.specs.Proofs.Effects.{above}
 use Rattle.rules.specs.Proofs.Both.{both}
 use Rattle.rules.specs.Proofs.Lift.{out-change, part-stays, lift-change, put-config, put-both, part-each, same-is, planned}
 use Rattle.rules.specs.Proofs.Reads.{reads}
-use Rattle.rules.specs.Proofs.Reply.{closed-as, closed-length, bit-below, status-small, over-long}
+use Rattle.rules.specs.Proofs.Reply.{closed-as, closed-length, status-bits, status-small, over-long}
 use Rattle.rules.specs.declared.Body.{Body}
 use Rattle.rules.specs.declared.Body.the-variants as B
 use Rattle.rules.specs.declared.Say.{Say}
@@ -61,10 +60,8 @@ left wires s = peripheralStatus (s .peripheral) + 4
 
 cleared : (x : Channel) (s : State) → clear x (status s % 256) ≡ left x s
 unfolding status
-cleared peripheral s =
-    omega (arith, bit-below (pcFree (s .peripheral .write)), bit-below (npFree (s .peripheral .request)), bit-below (pcAvail (s .peripheral .request)), bit-below (anyPending (s .wires)))
-cleared wires s =
-    omega (arith, bit-below (pcFree (s .peripheral .write)), bit-below (npFree (s .peripheral .request)), bit-below (pcAvail (s .peripheral .request)), bit-below (anyPending (s .wires)))
+cleared peripheral s = omega (arith, status-bits s)
+cleared wires s = omega (arith, status-bits s)
 
 left-alike : (x : Channel) (s t : State) → StatesAlike x s t → left x s ≡ left x t
 left-alike peripheral s t h = ap wiresStatus (h .parts wires refl)
@@ -167,11 +164,13 @@ none-own peripheral = refl
 none-own wires = refl
 
 -- the same data laid over a store of two worlds
-stores-written : (y : Channel) (d write read write′ read′ : List ℕ) → storesOf y write read ≡ storesOf y write′ read′ → storesOf y (over d write) read ≡ storesOf y (over d write′) read′
+stores-written : (y : Channel) (d write read write′ read′ : List ℕ) → storesOf y write read ≡ storesOf y write′ read′
+    → storesOf y (over d write) read ≡ storesOf y (over d write′) read′
 stores-written peripheral d write read write′ read′ e = ap (λ (l : List (List ℕ)). over d (getD l 0 []) ∷ getD l 1 [] ∷ []) e
 stores-written wires d write read write′ read′ e = refl
 
-stores-answered : (y : Channel) (d write read write′ read′ : List ℕ) → storesOf y write read ≡ storesOf y write′ read′ → storesOf y write (over d read) ≡ storesOf y write′ (over d read′)
+stores-answered : (y : Channel) (d write read write′ read′ : List ℕ) → storesOf y write read ≡ storesOf y write′ read′
+    → storesOf y write (over d read) ≡ storesOf y write′ (over d read′)
 stores-answered peripheral d write read write′ read′ e = ap (λ (l : List (List ℕ)). getD l 0 [] ∷ over d (getD l 1 []) ∷ []) e
 stores-answered wires d write read write′ read′ e = refl
 
@@ -183,12 +182,14 @@ abbrev SameLack : (write read write′ read′ : List ℕ) → Type 0
 SameLack write read write′ read′ = (reply : List ℕ) → lacks reply write read ≡ lacks reply write′ read′
 
 module _ (write read write′ read′ : List ℕ) where
-  lack-written : (k : Channel) (kept : Kept) (b : List ℕ) → ownKept k kept ≡ true → storesOf k write read ≡ storesOf k write′ read′ → SameLack write read write′ read′
+  lack-written : (k : Channel) (kept : Kept) (b : List ℕ) → ownKept k kept ≡ true → storesOf k write read ≡ storesOf k write′ read′
+      → SameLack write read write′ read′
       → SameLack (over (keptBytes kept b) write) read (over (keptBytes kept b) write′) read′
   lack-written peripheral kept b o e h reply = ap (λ (l : List (List ℕ)). lacks reply (over (keptBytes kept b) (getD l 0 [])) (getD l 1 [])) e
   lack-written wires kept b o e h reply = W₁.kept-none (λ (f : List ℕ → List ℕ). SameLack (f write) read (f write′) read′) kept b o h reply
 
-  lack-answered : (k : Channel) (kept : Kept) (b : List ℕ) → ownKept k kept ≡ true → storesOf k write read ≡ storesOf k write′ read′ → SameLack write read write′ read′
+  lack-answered : (k : Channel) (kept : Kept) (b : List ℕ) → ownKept k kept ≡ true → storesOf k write read ≡ storesOf k write′ read′
+      → SameLack write read write′ read′
       → SameLack write (over (keptBytes kept b) read) write′ (over (keptBytes kept b) read′)
   lack-answered peripheral kept b o e h reply = ap (λ (l : List (List ℕ)). lacks reply (getD l 0 []) (over (keptBytes kept b) (getD l 1 []))) e
   lack-answered wires kept b o e h reply = W₁.kept-none (λ (f : List ℕ → List ℕ). SameLack write (f read) write′ (f read′)) kept b o h reply
@@ -235,7 +236,8 @@ module _ (x : Channel) (w v : World) (h : Alike x w v) where
         (subst (λ (p : Plan). Together x (exchanged w b (planned (put k q (w .state)) out)) (exchanged v b p)) (sym (lift-change k (v .state) q out))
         (exchanged-together b n y kept _ _ _ _ g g e (lack-written (w .write) (w .read) (v .write) (v .read) k kept b o (h .stores k other) (h .room))))
 
-    acts-together : (b : List ℕ) {p : Part k} {a : Act k} {c : Change k} → Acts k p a c → Together x (exchanged w b (lift k (w .state) c)) (exchanged v b (lift k (v .state) c))
+    acts-together : (b : List ℕ) {p : Part k} {a : Act k} {c : Change k} → Acts k p a c
+        → Together x (exchanged w b (lift k (w .state) c)) (exchanged v b (lift k (v .state) c))
     acts-together b {p = p} L.Acts.refused = out-together b p 1 _ K.Nothing refl (none-own k)
     acts-together b (L.Acts.accepted q body kept o n) =
         out-together b q 0 (Y.Said _ body) kept (own-bytes k body (w .write) (w .read) (v .write) (v .read) o (h .stores k other)) n
@@ -248,7 +250,9 @@ module _ (x : Channel) (w v : World) (h : Alike x w v) where
         ∙ ap (λ (p : Part k). acting k (v .state .config) p (actOf k (v .state .config) o b)) (h .state .parts k other)
 
     settle-alike : (o : Board k) → settle k (w .state .config) (part k (w .state)) o ≡ settle k (v .state .config) (part k (v .state)) o
-    settle-alike o = ap (λ (c : Config). settle k c (part k (w .state)) o) (h .state .config) ∙ ap (λ (p : Part k). settle k (v .state .config) p o) (h .state .parts k other)
+    settle-alike o =
+        ap (λ (c : Config). settle k c (part k (w .state)) o) (h .state .config)
+        ∙ ap (λ (p : Part k). settle k (v .state .config) p o) (h .state .parts k other)
 
     settled-together : (o : Board k) (q : Part k) (out : Out) → ownKept k (out .kept) ≡ true
         → Together x (settled k w o (lift k (w .state) (change k q out))) (settled k v o (lift k (v .state) (change k q out)))
@@ -268,38 +272,45 @@ module _ (x : Channel) (w v : World) (h : Alike x w v) where
               };
             }
 
-    settles-together : (o : Board k) {p : Part k} {c : Change k} → Settles k p o c → Together x (settled k w o (lift k (w .state) c)) (settled k v o (lift k (v .state) c))
+    settles-together : (o : Board k) {p : Part k} {c : Change k} → Settles k p o c
+        → Together x (settled k w o (lift k (w .state) c)) (settled k v o (lift k (v .state) c))
     settles-together o {p = p} (L.Settles.refused n a b e f) = settled-together o p _ (none-own k)
     settles-together o (L.Settles.accepted q kept n) = settled-together o q _ n
 
-  reconfigured-alike : (a n : ℕ) → StatesAlike x (reconfigured (w .state) (writeAt (w .state .config) a n)) (reconfigured (v .state) (writeAt (v .state .config) a n))
+  reconfigured-alike : (a n : ℕ)
+      → StatesAlike x (reconfigured (w .state) (writeAt (w .state .config) a n)) (reconfigured (v .state) (writeAt (v .state .config) a n))
   reconfigured-alike a n =
       each-alike x _ _ _ _ (w .state) (v .state) (ap (λ (c : Config). writeAt c a n) (h .state .config))
       (λ k p. ap (λ (c : Config). edge k (on k c) (on k (writeAt c a n)) p) (h .state .config)) (h .state)
 
-  other-call : {c : Call} {o q : Outcome} → Both w v c o q → isOf x c ≡ false → Together x o q
+  other-call : {c : Call} {o q : Outcome} → Both w v c o q → isCallOf x c ≡ false → Together x o q
   unfolding seen
   other-call (T.idle n) e = record { shows = refl; next = h }
   other-call (T.status {b = b}) e = above-together b 0 (Y.Said Accept B.Nothing) (w .state) (v .state) (h .state) refl
   other-call (T.register {b = b} a) e =
-      subst (λ (c : Config). Together x (exchanged w b (show (B.Word (readAt (w .state .config) a)) (w .state))) (exchanged v b (show (B.Word (readAt c a)) (v .state)))) (h .state .config)
+      subst (λ (c : Config). Together x (T.registered b a w) (exchanged v b (show (B.Word (readAt c a)) (v .state)))) (h .state .config)
       (above-together b 0 (Y.Said Accept (B.Word (readAt (w .state .config) a))) (w .state) (v .state) (h .state) refl)
   other-call (T.acted {b = b} k o r a) e =
       let n = sym (own-command x k (w .state) b o a) ∙ e in
-      subst (λ (c : Change k). Together x (exchanged w b (E.acted k (w .state) (actOf k (w .state .config) o b))) (exchanged v b (lift k (v .state) c))) (acting-alike k n o b)
+      subst (λ (c : Change k). Together x (T.actedOn k o b w) (exchanged v b (lift k (v .state) c))) (acting-alike k n o b)
       (acts-together k n b (L₁.acts k _ _ _ _ (Q.did k _ _ _)))
   other-call (T.settles k o r) e =
-      subst (λ (c : Change k). Together x (settled k w o (L₀.settled k (w .state) o)) (settled k v o (lift k (v .state) c))) (settle-alike k e o)
+      subst (λ (c : Change k). Together x (T.boarded k o w) (settled k v o (lift k (v .state) c))) (settle-alike k e o)
       (settles-together k e o (L₁.board-settles k (w .state) o))
   other-call (T.forbidden {b = b}) e = above-together b 2 (Y.Said NonFatal B.Nothing) (w .state) (v .state) (h .state) refl
   other-call (T.configured {b = b} a n r) e = above-together b 0 (Y.Said Accept B.Nothing) _ _ (reconfigured-alike a n) refl
   other-call (T.cleared {b = b} r) e =
       above-together b 0 Y.Silent _ _
-      (each-alike x (λ k p. p) (λ k p. p) _ _ (w .state) (v .state) (ap (λ (c : Config). record { r008 = fresh008; r010 = c .r010; r020 = c .r020 }) (h .state .config)) (λ k p. refl) (h .state)) refl
+      (each-alike x (λ k p. p) (λ k p. p) _ _ (w .state) (v .state)
+      (ap (λ (c : Config). record { r008 = fresh008; r010 = c .r010; r020 = c .r020 }) (h .state .config)) (λ k p. refl) (h .state)) refl
   other-call (T.wiped {r = r}) e =
       record {
         shows = refl;
-        next = record { state = each-alike x (λ k. N.reset k r) (λ k. N.reset k r) _ _ (w .state) (v .state) (ap (configReset r) (h .state .config)) (λ k p. refl) (h .state); stores = h .stores; room = h .room };
+        next = record {
+          state = each-alike x (λ k. N.reset k r) (λ k. N.reset k r) _ _ (w .state) (v .state) (ap (configReset r) (h .state .config)) (λ k p. refl) (h .state);
+          stores = h .stores;
+          room = h .room;
+        };
       }
   other-call T.lent e = record { shows = refl; next = record { state = h .state; stores = λ y f. refl; room = λ r. refl } }
 
@@ -326,7 +337,8 @@ module _ (b write read : List ℕ) where
   stores-own wires peripheral kept o e = W₁.kept-none (StoresStay peripheral) kept b o (refl, refl)
 
 module _ (k : Channel) (w : World) where
-  acts-own : (b r : List ℕ) {p : Part k} {a : Act k} {c : Change k} → Acts k p a c → shortStores r w ≡ false → Alike k (exchanged w b (lift k (w .state) c) .next) w
+  acts-own : (b r : List ℕ) {p : Part k} {a : Act k} {c : Change k} → Acts k p a c → shortStores r w ≡ false
+      → Alike k (exchanged w b (lift k (w .state) c) .next) w
   unfolding exchanged lift
   acts-own b r {c = c} d s =
       record {
@@ -342,7 +354,8 @@ module _ (k : Channel) (w : World) where
       kept-own {p = p} L.Acts.refused = ap (λ (out : Out). ownKept k (out .kept)) (out-change k p _) ∙ none-own k
       kept-own (L.Acts.accepted q body kept o n) = ap (λ (out : Out). ownKept k (out .kept)) (out-change k q _) ∙ n
 
-  settled-own : (o : Board k) (x : Change k) → Settled k (w .state .config) (part k (w .state)) o x → shortFor k o w ≡ false → Alike k (settled k w o (lift k (w .state) x) .next) w
+  settled-own : (o : Board k) (x : Change k) → Settled k (w .state .config) (part k (w .state)) o x → shortFor k o w ≡ false
+      → Alike k (settled k w o (lift k (w .state) x) .next) w
   unfolding settled lift
   settled-own o x d s =
       record {
@@ -356,28 +369,28 @@ module _ (k : Channel) (w : World) where
       kept-own (L.Settles.accepted q kept n) = ap (λ (out : Out). ownKept k (out .kept)) (out-change k q _) ∙ n
 
 module _ (x : Channel) (w : World) where
-  no-command : (b : List ℕ) (o : C₀.Command) (op : ℕ) → Admits (w .state) b o → byte b 0 ≡ op → isOpcodeOf x op ≡ false → isCommandOf x b ≡ true → ⊥
-  no-command b o op a e f g = true≢false (sym g ∙ begins x (w .state) b o a ∙ ap (isOpcodeOf x) e ∙ f)
+  no-command : (b : List ℕ) (o : C₀.Command) (op : ℕ) → Admits (w .state) b o → byte b 0 ≡ op → isOf x op ≡ false → isCommandOf x b ≡ true → ⊥
+  no-command b o op a e f g = true≢false (sym g ∙ begins x (w .state) b o a ∙ ap (isOf x) e ∙ f)
 
-  own-call : {c : Call} {o q : Outcome} → Both w w c o q → isOf x c ≡ true → Alike x (o .next) w
+  own-call : {c : Call} {o q : Outcome} → Both w w c o q → isCallOf x c ≡ true → Alike x (o .next) w
   unfolding exchanged over
   own-call (T.idle n) e = self x w
   own-call T.status e = self x w
   own-call (T.register a) e = self x w
   own-call (T.acted {b = b} {r = r} k o s a) e =
       let n = same-is x k (sym (own-command x k (w .state) b o a) ∙ e) in
-      subst (λ (z : Channel). Alike z (exchanged w b (E.acted k (w .state) (actOf k (w .state .config) o b)) .next) w) n (acts-own k w b r (L₁.acts k _ _ _ _ (Q.did k _ _ _)) s)
+      subst (λ (z : Channel). Alike z (T.actedOn k o b w .next) w) n (acts-own k w b r (L₁.acts k _ _ _ _ (Q.did k _ _ _)) s)
   own-call (T.settles k o s) e =
-      subst (λ (z : Channel). Alike z (settled k w o (L₀.settled k (w .state) o) .next) w) (same-is x k e) (settled-own k w o _ (Q.settled k _ _ o) s)
+      subst (λ (z : Channel). Alike z (T.boarded k o w .next) w) (same-is x k e) (settled-own k w o _ (Q.settled k _ _ o) s)
   own-call T.forbidden e = self x w
-  own-call (T.configured {b = b} a n r) e = absurd (no-command b _ 0x22 r (reads (w .state) b _ r .opcode) (no-set x) e)
-  own-call (T.cleared {b = b} r) e = absurd (no-command b _ 0xFF r (reads (w .state) b _ r) (no-reset x) e)
+  own-call (T.configured {b = b} a n r) e = absurd (no-command b _ 0x22 r (reads (w .state) b _ r .opcode) (above x .at22) e)
+  own-call (T.cleared {b = b} r) e = absurd (no-command b _ 0xFF r (reads (w .state) b _ r) (above x .atFF) e)
   own-call T.wiped e = absurd (true≢false (sym e))
   own-call T.lent e = absurd (true≢false (sym e))
 
 -- ---- runs: a run shows what it shows without x's calls
 
-same-room : (x : Channel) (w v : World) → Alike x w v → (c : Call) → isOf x c ≡ false → SameRoom w v c
+same-room : (x : Channel) (w v : World) → Alike x w v → (c : Call) → isCallOf x c ≡ false → SameRoom w v c
 same-room x w v h (reset r) e = tt
 same-room x w v h (exchange b r) e = h .room r
 same-room x w v h (board k o) e = short-alike k o (h .stores k e)
@@ -389,19 +402,19 @@ same-room x w v h (short state c) e = tt
 same-room x w v h (lend write read) e = tt
 
 module _ (x : Channel) (w : World) (c : Call) (cs : List Call) where
-  others-own : isOf x c ≡ true → others x (c ∷ cs) ≡ others x cs
+  others-own : isCallOf x c ≡ true → others x (c ∷ cs) ≡ others x cs
   unfolding others
   others-own e = rw e
 
-  others-other : isOf x c ≡ false → others x (c ∷ cs) ≡ c ∷ others x cs
+  others-other : isCallOf x c ≡ false → others x (c ∷ cs) ≡ c ∷ others x cs
   unfolding others
   others-other e = rw e
 
-  seeing-own : isOf x c ≡ true → seeing x w (c ∷ cs) ≡ seeing x (step w c .next) cs
+  seeing-own : isCallOf x c ≡ true → seeing x w (c ∷ cs) ≡ seeing x (step w c .next) cs
   unfolding seeing
   seeing-own e = rw e
 
-  seeing-other : isOf x c ≡ false → seeing x w (c ∷ cs) ≡ seen x (step w c) ∷ seeing x (step w c .next) cs
+  seeing-other : isCallOf x c ≡ false → seeing x w (c ∷ cs) ≡ seen x (step w c) ∷ seeing x (step w c .next) cs
   unfolding seeing
   seeing-other e = rw e
 
@@ -415,9 +428,10 @@ self-room w (lend write read) = tt
 sifted : (x : Channel) (cs : List Call) (w v : World) → Alike x w v → RunsAlike x (Alike x) w v cs (others x cs)
 unfolding others seeing run
 sifted x [] w v h = record { calls = refl; after = h }
-sifted x (c ∷ cs) w v h = go (isOf x c) refl (sifted x cs)
+sifted x (c ∷ cs) w v h = go (isCallOf x c) refl (sifted x cs)
   where
-    go : (t : Bool) → isOf x c ≡ t → ((w v : World) → Alike x w v → RunsAlike x (Alike x) w v cs (others x cs)) → RunsAlike x (Alike x) w v (c ∷ cs) (others x (c ∷ cs))
+    go : (t : Bool) → isCallOf x c ≡ t → ((w v : World) → Alike x w v → RunsAlike x (Alike x) w v cs (others x cs))
+        → RunsAlike x (Alike x) w v (c ∷ cs) (others x (c ∷ cs))
     go true e rest =
         let r = rest (step w c .next) v (joined (own-call x w (both w w c refl (self-room w c)) e) h) in
         subst (RunsAlike x (Alike x) w v (c ∷ cs)) (sym (others-own x w c cs e)) (record { calls = seeing-own x w c cs e ∙ r .calls; after = r .after })

@@ -23,7 +23,8 @@ use Rattle.rules.specs.Statements.Both.{Both, idle, status, register, ac
 use Rattle.rules.specs.declared.Plan.{Plan}
 
 -- a test that comes out alike
-either : {w v : World} {c : Call} {a b a′ b′ : Outcome} (t u : Bool) → t ≡ u → Both w v c a a′ → (t ≡ false → Both w v c b b′) → Both w v c (pick t a b) (pick u a′ b′)
+either : {w v : World} {c : Call} {a b a′ b′ : Outcome} (t u : Bool) → t ≡ u → Both w v c a a′ → (t ≡ false → Both w v c b b′)
+    → Both w v c (pick t a b) (pick u a′ b′)
 either {w} {v} {c} {a} {b} {a′} {b′} t u e f g = subst (λ (z : Bool). Both w v c (pick t a b) (pick z a′ b′)) e (go t g)
   where
     go : (t : Bool) → (t ≡ false → Both w v c b b′) → Both w v c (pick t a b) (pick t a′ b′)
@@ -62,7 +63,8 @@ module _ (w v : World) (b r : List ℕ) (room : shortStores r w ≡ false) where
   exchange-both : w .state .config ≡ v .state .config → Twice (E.exchange (w .state) b) (E.exchange (v .state) b)
   unfolding E.exchange
   exchange-both c =
-      subst (λ (x : Config). Twice (byDecoded (w .state) b (admitted (w .state .config))) (byDecoded (v .state) b (admitted x))) c (decoded-both (admitted (w .state .config)) refl)
+      subst (λ (x : Config). Twice (byDecoded (w .state) b (admitted (w .state .config))) (byDecoded (v .state) b (admitted x))) c
+      (decoded-both (admitted (w .state .config)) refl)
 
 pub both : BothCases
 unfolding S.step

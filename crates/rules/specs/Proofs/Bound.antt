@@ -38,7 +38,7 @@ use Rattle.rules.specs.Proofs.WireView.{wire-view, wires-sound, sent-bod
 
 -- ---- the pairs of a reply
 
-pub pairs-length : (v : Wires) (ks : List ℕ) → length (pairBytes v ks) ≡ length ks * 2
+pairs-length : (v : Wires) (ks : List ℕ) → length (pairBytes v ks) ≡ length ks * 2
 unfolding pairBytes
 pairs-length v [] = refl
 pairs-length v (k ∷ ks) = omega (arith, pairs-length v ks)
@@ -69,7 +69,8 @@ pair-at v ks g (List·Memᴰ·tail {x = x} {xs = xs} m) =
       byte = ap (λ (k : ℕ). getD (pairBytes v (x ∷ xs)) k 0) e₁ ∙ p .byte;
     }
 
-pub carried : (v : Wires) (ks : List ℕ) (g n t : ℕ) → n ≡ length ks - 1 → List·Memᴰ g ks → Carries (closed (0x08 ∷ n ∷ pairBytes v ks) t) (g + 4) (groupByte v (g + 4))
+carried : (v : Wires) (ks : List ℕ) (g n t : ℕ) → n ≡ length ks - 1 → List·Memᴰ g ks
+    → Carries (closed (0x08 ∷ n ∷ pairBytes v ks) t) (g + 4) (groupByte v (g + 4))
 carried v ks g n t e m =
     let p = pair-at v ks g m in
     let l = pairs-length v ks in
@@ -112,11 +113,14 @@ no-end w c e =
     ∙ pick-ind (λ (k : WireEvent). isEnd k ≡ false) (accepted (step w c)) (λ _. unended-wire (w .state) c) (λ _. refl)
 
 switched-off : (s : State) (b : List ℕ) → switchesOn s b ≡ true → on wires (s .config) ≡ false
-switched-off s b e = not-true _ (and-left (not (on wires (s .config))) (eqb (registerValue b % 2) 1) (and-right (eqb (registerAt b) (registerOf wires)) _ (and-right (eqb (byte b 0) 0x22) _ e)))
+switched-off s b e =
+    not-true _ (and-left (not (on wires (s .config))) (eqb (registerValue b % 2) 1)
+    (and-right (eqb (registerAt b) (registerOf wires)) _ (and-right (eqb (byte b 0) 0x22) _ e)))
 
 data Fate (g j : ℕ) (w : World) (o : Outcome) : WireEvent → Type 0 where
   goes : Carries (o .reply) (g + 4) (groupByte (wiresOf w) (g + 4)) → Fate g j w o gets
-  waits : (k : WireEvent) (i : ℕ) → i + oneIfGets k ≤ j → markAt (wiresOf (o .next)) (g + 4) ≡ true → steps senders i (wiresOf (o .next) .place - 4) ≡ g → Fate g j w o k
+  waits : (k : WireEvent) (i : ℕ) → i + oneIfGets k ≤ j → markAt (wiresOf (o .next)) (g + 4) ≡ true → steps senders i (wiresOf (o .next) .place - 4) ≡ g
+      → Fate g j w o k
 
 module _ (w : World) (sound : Sound (w .state)) (g j : ℕ) (below : g < 3) (near : j < 3)
     (marked : markAt (wiresOf w) (g + 4) ≡ true) (there : steps senders j (wiresOf w .place - 4) ≡ g)
@@ -167,7 +171,8 @@ later {c = c} m l t =
       carries = t .carries;
     }
 
-bounded : (cs : List Call) (w : World) (g j : ℕ) → Sound (w .state) → g < 3 → j < 3 → markAt (wiresOf w) (g + 4) ≡ true → steps senders j (wiresOf w .place - 4) ≡ g
+bounded : (cs : List Call) (w : World) (g j : ℕ) → Sound (w .state) → g < 3 → j < 3 → markAt (wiresOf w) (g + 4) ≡ true
+    → steps senders j (wiresOf w .place - 4) ≡ g
     → allHanded cs ≡ true → unended wires w cs ≡ true → j < getsIn w cs → SentBy (g + 4) (suc j) w cs
 unfolding allHanded getsIn run
 bounded [] w g j s b n m t h q l = absurd (omega arith)

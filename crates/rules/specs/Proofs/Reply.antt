@@ -24,15 +24,21 @@ closed-length m t = simp length-append (omega arith)
 
 -- ---- the status
 
-pub bit-below : (b : Bool) → bit b ≤ 1
+bit-below : (b : Bool) → bit b ≤ 1
 bit-below true = omega arith
 bit-below false = omega arith
+
+-- the four bits that change
+pub status-bits : (s : State)
+    → (bit (pcFree (s .peripheral .write)) ≤ 1) × (bit (npFree (s .peripheral .request)) ≤ 1)
+    × (bit (pcAvail (s .peripheral .request)) ≤ 1) × (bit (anyPending (s .wires)) ≤ 1)
+status-bits s =
+    (bit-below (pcFree (s .peripheral .write)), bit-below (npFree (s .peripheral .request)), bit-below (pcAvail (s .peripheral .request)), bit-below (anyPending (s .wires)))
 
 -- all its bits are in the low byte
 pub status-small : (s : State) → status s < 256
 unfolding status
-status-small s =
-    omega (arith, bit-below (pcFree (s .peripheral .write)), bit-below (npFree (s .peripheral .request)), bit-below (pcAvail (s .peripheral .request)), bit-below (anyPending (s .wires)))
+status-small s = omega (arith, status-bits s)
 
 -- ---- what is kept
 

@@ -74,7 +74,8 @@ put-of w b r o s (put b′ r′ x e) = let q : b′ ≡ b = cc in put-made w o b
 
 -- ---- set and read
 
-set-of : (w : World) (i bit value : ℕ) (o : Outcome) → Sound (w .state) → settable i bit value ≡ true → wiresOf (o .next) ≡ G.setWire (on wires (w .state .config)) (wiresOf w) i bit value
+set-of : (w : World) (i bit value : ℕ) (o : Outcome) → Sound (w .state) → settable i bit value ≡ true
+    → wiresOf (o .next) ≡ G.setWire (on wires (w .state .config)) (wiresOf w) i bit value
     → Set w (o .next) i bit value
 set-of w i bit value o s t e =
     let on = on wires (w .state .config) in
@@ -105,7 +106,8 @@ module _ (w : World) (o : W₀.Board) (n : step w (board wires o) .number ≡ 0)
   unfolding settled lift
   board-law = board-did (D.settled wires (w .state .config) (wiresOf w) o) (sym (ap (λ (q : Outcome). q .number) (board-long wires w o refl)) ∙ n)
 
-set-step : (w : World) (i bit value : ℕ) → Sound (w .state) → step w (setsWire i bit value) .number ≡ 0 → Set w (step w (setsWire i bit value) .next) i bit value
+set-step : (w : World) (i bit value : ℕ) → Sound (w .state) → step w (setsWire i bit value) .number ≡ 0
+    → Set w (step w (setsWire i bit value) .next) i bit value
 unfolding settled lift
 set-step w i bit value s n =
     let o = W₀.setWire i bit value in

@@ -32,7 +32,7 @@ use Rattle.rules.specs.Statements.Cases.{Case}
 use Rattle.rules.specs.Statements.Events.{accepted, ending, registerOf}
 use Rattle.rules.specs.Statements.Fields.{byte, isChannel1, registerAt, registerValue}
 use Rattle.rules.specs.Statements.Reads as R
-use Rattle.rules.specs.Statements.Apart.{isOpcodeOf}
+use Rattle.rules.specs.Statements.Sizes.{isOf}
 use Rattle.rules.specs.Statements.WireEvents.{WireEvent, idle, puts, gets, enables, ends, switchesOn, commandWire, boardWire, acceptedWire, wireEventOf, wiresOf}
 use Rattle.rules.specs.Statements.WireView.{WireMove, still, put, sent, set, enabled, disabled, wiped, platformWiped, WireView}
 use Rattle.rules.specs.Proofs.Cases.{cases}
@@ -40,7 +40,8 @@ use Rattle.rules.specs.Proofs.SoundParts.{parts}
 use Rattle.rules.specs.Proofs.Reads.{reads}
 use Rattle.rules.specs.Proofs.Events.{rising-edge, no-disabling, disabling}
 use Rattle.rules.specs.Proofs.Lift.{same-turned, own-or-other, part-stays}
-use Rattle.rules.specs.Proofs.Whose.{opcode-of, own-opcode, no-set}
+use Rattle.rules.specs.Proofs.Effects.{command-own, above}
+use Rattle.rules.specs.Proofs.Whose.{own-opcode}
 use Rattle.rules.specs.declared.WiresChange.{WiresChange}
 use Rattle.rules.specs.declared.Body.{Body}
 
@@ -70,8 +71,8 @@ module _ (s : State) (c : Call) (o : Outcome) where
 module _ (s : State) (b r : List ℕ) (write : eqb (byte b 0) 0x22 ≡ false) where
   by-byte : commandWire s b ≡ pick (eqb (byte b 0) 0x04) puts (pick (eqb (byte b 0) 0x05) gets idle)
   by-byte =
-      ap (λ (t : Bool). pick (eqb (byte b 0) 0x04) puts (pick (eqb (byte b 0) 0x05) gets (pick (t && (eqb (registerAt b) (registerOf wires) && (not (on wires (s .config)) && eqb (registerValue b % 2) 1))) enables idle)))
-      write
+      ap (λ (t : Bool). pick (eqb (byte b 0) 0x04) puts (pick (eqb (byte b 0) 0x05) gets (pick t enables idle)))
+      (ap (λ (t : Bool). t && (eqb (registerAt b) (registerOf wires) && (not (on wires (s .config)) && eqb (registerValue b % 2) 1))) write)
 
   quiet-exchange : (o : Outcome) → isChannel1 (byte b 0) ≡ false → wireEventOf s (exchange b r) o ≡ idle
   quiet-exchange o e = quiet-wire s (exchange b r) o (no-disabling wires s b write) (by-byte ∙ go (eqb (byte b 0) 0x04) (eqb (byte b 0) 0x05) e)
@@ -90,11 +91,11 @@ as-is {w} {c} {o} q m = subst (WireMove w c o) (sym q) m
 
 -- ---- another channel's change
 
-never-set : (k : Channel) (op : ℕ) → isOpcodeOf k op ≡ true → eqb op 0x22 ≡ false
+never-set : (k : Channel) (op : ℕ) → isOf k op ≡ true → eqb op 0x22 ≡ false
 never-set k op e = go (eqb op 0x22) refl
   where
     go : (t : Bool) → eqb op 0x22 ≡ t → t ≡ false
-    go true f = absurd (true≢false (sym e ∙ ap (isOpcodeOf k) (eqb-true op 0x22 f) ∙ no-set k))
+    go true f = absurd (true≢false (sym e ∙ ap (isOf k) (eqb-true op 0x22 f) ∙ above k .at22))
     go false f = refl
 
 board-other : (k : Channel) → same wires k ≡ false → (o : Board k) → boardWire k o ≡ idle
@@ -122,7 +123,8 @@ module _ (w : World) where
 
   -- ---- above all channels
 
-  quiet-seen : (b r : List ℕ) (o : Outcome) (op : ℕ) → byte b 0 ≡ op → eqb op 0x22 ≡ false → isChannel1 op ≡ false → wiresOf (o .next) ≡ wiresOf w → Seen (exchange b r) o
+  quiet-seen : (b r : List ℕ) (o : Outcome) (op : ℕ) → byte b 0 ≡ op → eqb op 0x22 ≡ false → isChannel1 op ≡ false → wiresOf (o .next) ≡ wiresOf w
+      → Seen (exchange b r) o
   quiet-seen b r o op e f g h = as-is (quiet-exchange (w .state) b r (not-22 b op e f) o (ap isChannel1 e ∙ g)) (still h)
 
   silent-seen : (c : Call) (n : ℕ) → 10 ≤ n → Seen c (only n w)
@@ -177,7 +179,8 @@ module _ (w : World) where
 
   -- ---- channel 1
 
-  acted-seen : (b r : List ℕ) {a : W₀.Act} {x : WiresChange} → W.Did (w .state .config) (wiresOf w) a x → R.Wires b a → Seen (exchange b r) (exchanged w b (lift wires (w .state) x))
+  acted-seen : (b r : List ℕ) {a : W₀.Act} {x : WiresChange} → W.Did (w .state .config) (wiresOf w) a x → R.Wires b a
+      → Seen (exchange b r) (exchanged w b (lift wires (w .state) x))
   unfolding exchanged lift replyBytes
   acted-seen b r (W.overCount e) h = as-is (refused-wire (w .state) (exchange b r) _ refl) (still refl)
   acted-seen b r (W.put e) (R.Wires.puts h) = as-is (command-event b r 0x04 puts h refl refl _ refl) (put b r refl refl)
@@ -188,7 +191,8 @@ module _ (w : World) where
       as-is (command-event b r 0x05 gets h refl refl _ refl)
       (sent k ks e (ap (afterSent v) (sym e)) (ap (λ (l : List ℕ). closed (0x08 ∷ packetBytes (packetOf v l)) t) (sym e)))
 
-  settled-seen : {o : W₀.Board} {x : WiresChange} → W.Settled (w .state .config) (wiresOf w) o x → Seen (board wires o) (settled wires w o (lift wires (w .state) x))
+  settled-seen : {o : W₀.Board} {x : WiresChange} → W.Settled (w .state .config) (wiresOf w) o x
+      → Seen (board wires o) (settled wires w o (lift wires (w .state) x))
   unfolding settled lift wireEventOf
   settled-seen (W.notBoards e) = still refl
   settled-seen (W.set {index = i} {bit = bit} {value = value} e) = set i bit value refl e refl
@@ -208,10 +212,11 @@ module _ (w : World) where
       others : (k : Channel) → same wires k ≡ false → (o : Command k) (x : Change k) → Admits (w .state) b (commandOf k o)
           → Did k (w .state .config) (part k (w .state)) (actOf k (w .state .config) o b) x → Seen (exchange b r) (exchanged w b (lift k (w .state) x))
       others k n o x e d =
-          let c = opcode-of k (w .state) b o e in
+          let c = command-own k (w .state) b o e in
           as-is (quiet-exchange (w .state) b r (never-set k (byte b 0) c) _ (own-opcode wires k (byte b 0) c ∙ n)) (still (lift-wires k n b x))
 
-  any-settled : (k : Channel) (o : Board k) (x : Change k) → Settled k (w .state .config) (part k (w .state)) o x → Seen (board k o) (settled k w o (lift k (w .state) x))
+  any-settled : (k : Channel) (o : Board k) (x : Change k) → Settled k (w .state .config) (part k (w .state)) o x
+      → Seen (board k o) (settled k w o (lift k (w .state) x))
   any-settled =
       own-or-other wires (λ (k : Channel). (o : Board k) (x : Change k) → Settled k (w .state .config) (part k (w .state)) o x → Seen (board k o) (settled k w o (lift k (w .state) x)))
       (λ o x d. settled-seen d)

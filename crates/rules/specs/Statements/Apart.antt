@@ -11,13 +11,9 @@ use Rattle.base.specs.Pick.{pick}
 use Rattle.state.specs.declared.State.{State}
 use Rattle.rules.specs.Rules.Channel.{Channel, peripheral, wires, part, same}
 use Rattle.rules.specs.Rules.Step.{World, Call, reset, exchange, board, short, lend, Outcome, step, run, shortStores}
-use Rattle.rules.specs.Statements.Fields.{isChannel0, isChannel1}
+use Rattle.rules.specs.Statements.Sizes.{isOf}
 
--- ---- what is a channel's own: its opcodes, its stores, its status bits
-
-abbrev pub isOpcodeOf : Channel → ℕ → Bool
-isOpcodeOf peripheral op = isChannel0 op
-isOpcodeOf wires op = isChannel1 op
+-- ---- what is a channel's own besides its opcodes: its stores, its status bits
 
 -- the write and the read store are channel 0's: its commands and calls alone read and write them
 abbrev pub storesOf : Channel → (write read : List ℕ) → List (List ℕ)
@@ -34,19 +30,19 @@ clear wires n = n - n / 64 % 2 * 64
 -- "commands": those that begin with one of its opcodes
 abbrev pub isCommandOf : Channel → List ℕ → Bool
 isCommandOf x [] = false
-isCommandOf x (op ∷ rest) = isOpcodeOf x op
+isCommandOf x (op ∷ rest) = isOf x op
 
 -- refused ones too, and those that were lent too short a state
-abbrev pub isOf : Channel → Call → Bool
-isOf x (reset r) = false
-isOf x (exchange command reply) = isCommandOf x command
-isOf x (board k o) = same x k
-isOf x (short state c) = isOf x c
-isOf x (lend write read) = false
+abbrev pub isCallOf : Channel → Call → Bool
+isCallOf x (reset r) = false
+isCallOf x (exchange command reply) = isCommandOf x command
+isCallOf x (board k o) = same x k
+isCallOf x (short state c) = isCallOf x c
+isCallOf x (lend write read) = false
 
 unfoldable pub others : Channel → List Call → List Call
 others x [] = []
-others x (c ∷ cs) = pick (isOf x c) (others x cs) (c ∷ others x cs)
+others x (c ∷ cs) = pick (isCallOf x c) (others x cs) (c ∷ others x cs)
 
 -- ---- what a call shows
 
@@ -69,7 +65,7 @@ seen x o = record { number = o .number; value = o .value; report = o .report; re
 -- what the calls of a run show, x's own apart
 unfoldable pub seeing : Channel → World → List Call → List Seen
 seeing x w [] = []
-seeing x w (c ∷ cs) = pick (isOf x c) (seeing x (step w c .next) cs) (seen x (step w c) ∷ seeing x (step w c .next) cs)
+seeing x w (c ∷ cs) = pick (isCallOf x c) (seeing x (step w c .next) cs) (seen x (step w c) ∷ seeing x (step w c .next) cs)
 
 pub record RunsAlike (x : Channel) (Same : World → World → Type 0) (w v : World) (cs ds : List Call) : Type 0 where
   pub calls : seeing x w cs ≡ seeing x v ds

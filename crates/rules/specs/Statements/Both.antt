@@ -17,24 +17,36 @@ use Rattle.rules.specs.Rules.Step.{World, Call, Outcome, exchange, board
 use Rattle.rules.specs.Statements.Plans.{commandOf, Admits}
 use Rattle.rules.specs.declared.Body.the-variants as B
 
+-- a call's outcome, of each world
+
+abbrev pub registered : List ℕ → ℕ → World → Outcome
+registered b a w = exchanged w b (show (B.Word (readAt (w .state .config) a)) (w .state))
+
+abbrev pub actedOn : (k : Channel) → Command k → List ℕ → World → Outcome
+actedOn k o b w = exchanged w b (E.acted k (w .state) (actOf k (w .state .config) o b))
+
+abbrev pub boarded : (k : Channel) → Board k → World → Outcome
+boarded k o w = settled k w o (L.settled k (w .state) o)
+
+abbrev pub written : List ℕ → ℕ → ℕ → World → Outcome
+written b a n w = exchanged w b (acceptThen (w .state) (reconfigured (w .state) (writeAt (w .state .config) a n)))
+
+abbrev pub restored : (write read : List ℕ) → World → Outcome
+restored write read w = only 0 (record { state = w .state; write = write; read = read })
+
 pub data Both (w v : World) : Call → Outcome → Outcome → Type 0 where
   idle : {c : Call} (n : ℕ) → Both w v c (only n w) (only n v)
   status : {b r : List ℕ} → Both w v (exchange b r) (exchanged w b (show B.Nothing (w .state))) (exchanged v b (show B.Nothing (v .state)))
-  register : {b r : List ℕ} (a : ℕ)
-      → Both w v (exchange b r) (exchanged w b (show (B.Word (readAt (w .state .config) a)) (w .state))) (exchanged v b (show (B.Word (readAt (v .state .config) a)) (v .state)))
+  register : {b r : List ℕ} (a : ℕ) → Both w v (exchange b r) (registered b a w) (registered b a v)
   acted : {b r : List ℕ} (k : Channel) (o : Command k) → shortStores r w ≡ false → Admits (w .state) b (commandOf k o)
-      → Both w v (exchange b r) (exchanged w b (E.acted k (w .state) (actOf k (w .state .config) o b))) (exchanged v b (E.acted k (v .state) (actOf k (v .state .config) o b)))
-  settles : (k : Channel) (o : Board k) → shortFor k o w ≡ false
-      → Both w v (board k o) (settled k w o (L.settled k (w .state) o)) (settled k v o (L.settled k (v .state) o))
+      → Both w v (exchange b r) (actedOn k o b w) (actedOn k o b v)
+  settles : (k : Channel) (o : Board k) → shortFor k o w ≡ false → Both w v (board k o) (boarded k o w) (boarded k o v)
   forbidden : {b r : List ℕ} → Both w v (exchange b r) (exchanged w b (nonFatal (w .state))) (exchanged v b (nonFatal (v .state)))
-  configured : {b r : List ℕ} (a n : ℕ) → Admits (w .state) b (C.SetConfiguration a n)
-      → Both w v (exchange b r) (exchanged w b (acceptThen (w .state) (reconfigured (w .state) (writeAt (w .state .config) a n))))
-      (exchanged v b (acceptThen (v .state) (reconfigured (v .state) (writeAt (v .state .config) a n))))
+  configured : {b r : List ℕ} (a n : ℕ) → Admits (w .state) b (C.SetConfiguration a n) → Both w v (exchange b r) (written b a n w) (written b a n v)
   cleared : {b r : List ℕ} → Admits (w .state) b C.Reset
       → Both w v (exchange b r) (exchanged w b (quietly (reset008h (w .state)))) (exchanged v b (quietly (reset008h (v .state))))
   wiped : {r : Reset} → Both w v (reset r) (only 0 (withState w (wasReset r (w .state)))) (only 0 (withState v (wasReset r (v .state))))
-  lent : {write read : List ℕ}
-      → Both w v (lend write read) (only 0 (record { state = w .state; write = write; read = read })) (only 0 (record { state = v .state; write = write; read = read }))
+  lent : {write read : List ℕ} → Both w v (lend write read) (restored write read w) (restored write read v)
 
 -- the call's stores are long enough in both worlds, or in neither
 abbrev pub SameRoom : World → World → Call → Type 0

@@ -1,36 +1,25 @@
--- What no channel telling on another asks of channel 0: its commands' opcodes, and what its calls ask and leave of its stores.
+-- What no channel telling on another asks of channel 0: what its calls ask and leave of its stores.
 use Prim.Native.Nat.{ℕ}
-use mathlib.Core.Bool.{Bool, true, false, _||_}
+use mathlib.Core.Bool.{false, _||_}
 use mathlib.Core.List.{List, []}
 use mathlib.Core.Path.{_≡_, refl, ap}
-use lib.Dec.{eqb, ltb}
+use lib.Dec.{ltb}
 use lib.ListN.{getD, length}
 use Rattle.base.specs.Bytes.{over}
-use Rattle.registers.specs.declared.Config.{Config}
 use Rattle.state.specs.declared.Peripheral.{Peripheral}
 use Rattle.rules.specs.Rules.Peripheral as P₀
 use Rattle.rules.specs.Rules.Channel.{peripheral}
 use Rattle.rules.specs.Rules.Reply.{keptBytes}
 use Rattle.rules.specs.Rules.Step.{World, shortPeripheral, writeLength, readLength, takeLength}
 use Rattle.rules.specs.Statements.Peripheral as P
-use Rattle.rules.specs.Statements.Fields.{byte, isChannel0, isPosted, isNonPosted}
-use Rattle.rules.specs.Statements.Reads as R
 use Rattle.rules.specs.Statements.Apart.{storesOf}
 use Rattle.rules.specs.Proofs.Reply.{over-long}
 use Rattle.rules.specs.declared.Kept.the-variants as K
 use Rattle.rules.specs.declared.PeripheralChange.{PeripheralChange}
 
-pub opcode : {c : Config} {b : List ℕ} {a : P₀.Act} → R.Peripheral c b a → isChannel0 (byte b 0) ≡ true
-opcode {b = b} (R.Peripheral.posts h n) = ap (λ (t : Bool). t || (isNonPosted (byte b 0) || eqb (byte b 0) 0x01)) h
-opcode {b = b} (R.Peripheral.asks h) = go (isPosted (byte b 0)) (isNonPosted (byte b 0)) h
-  where
-    go : (t u : Bool) → u ≡ true → (t || (u || eqb (byte b 0) 0x01)) ≡ true
-    go true u h = refl
-    go false u h = ap (λ (z : Bool). z || eqb (byte b 0) 0x01) h
-opcode (R.Peripheral.gets e) = rw e
-
 -- number 10 of its calls goes by its own stores
-pub short-alike : (w v : World) (o : P₀.Board) → storesOf peripheral (w .write) (w .read) ≡ storesOf peripheral (v .write) (v .read) → shortPeripheral o w ≡ shortPeripheral o v
+pub short-alike : (w v : World) (o : P₀.Board) → storesOf peripheral (w .write) (w .read) ≡ storesOf peripheral (v .write) (v .read)
+    → shortPeripheral o w ≡ shortPeripheral o v
 short-alike w v (P₀.look report) e = refl
 short-alike w v (P₀.answer serial success d) e = ap (λ (l : List (List ℕ)). ltb (length (getD l 1 [])) readLength) e
 short-alike w v (P₀.takeWrite report) e = ap (λ (l : List (List ℕ)). ltb (length (getD l 0 [])) writeLength || ltb (length report) takeLength) e

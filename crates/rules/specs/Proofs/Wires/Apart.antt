@@ -1,4 +1,4 @@
--- What no channel telling on another asks of channel 1: its commands' opcodes; it has no stores, so its bodies read none and its calls keep nothing.
+-- What no channel telling on another asks of channel 1: it has no stores, so its bodies read none and its calls keep nothing.
 use Prim.Native.Nat.{ℕ}
 use mathlib.Core.Bool.{true, true≢false}
 use mathlib.Core.List.{List, []}
@@ -13,17 +13,11 @@ use Rattle.rules.specs.Rules.Channel.{wires, ownBody, ownKept}
 use Rattle.rules.specs.Rules.Reply.{bodyBytes, keptBytes}
 use Rattle.rules.specs.Rules.Step.{World, readLength}
 use Rattle.rules.specs.Statements.Wires as W
-use Rattle.rules.specs.Statements.Fields.{byte, isChannel1}
-use Rattle.rules.specs.Statements.Reads as R
 use Rattle.rules.specs.declared.Body.{Body}
 use Rattle.rules.specs.declared.Body.the-variants as B
 use Rattle.rules.specs.declared.Kept.{Kept}
 use Rattle.rules.specs.declared.Kept.the-variants as K
 use Rattle.rules.specs.declared.WiresChange.{WiresChange}
-
-pub opcode : {b : List ℕ} {a : W₀.Act} → R.Wires b a → isChannel1 (byte b 0) ≡ true
-opcode (R.Wires.puts e) = rw e
-opcode (R.Wires.gets e) = rw e
 
 pub own-bytes : (body : Body) (read read′ : List ℕ) → ownBody wires body ≡ true → bodyBytes body read ≡ bodyBytes body read′
 own-bytes B.Nothing read read′ o = refl
