@@ -37,6 +37,3 @@ pub mod Effects
 pub mod ConfigWrites
 pub mod Replies
 pub mod PostedWrites
-pub mod WireView
-pub mod Bound
-pub mod WireSteps

@@ -26,7 +26,3 @@ pub mod WireEvents
 pub mod WireView
 pub mod Bound
 pub mod WireSteps
-pub mod Vectors
-pub mod Sizes
-pub mod Effects
-pub mod ConfigWrites

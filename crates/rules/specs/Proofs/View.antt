@@ -13,9 +13,8 @@ use Rattle.base.specs.Bytes.{over, low2}
 use Rattle.crc.specs.Crc.{crc}
 use Rattle.registers.specs.Registers.{writeAt}
 use Rattle.registers.specs.declared.Config.{Config}
-use Rattle.wires.specs.Groups.{anyPending}
 use Rattle.state.specs.Fresh as F
-use Rattle.state.specs.Status.{status, bit, npFree, pcFree, pcAvail}
+use Rattle.state.specs.Status.{status, bit, npFree, pcAvail}
 use Rattle.state.specs.declared.Np.{Np}
 use Rattle.state.specs.declared.Peripheral.{Peripheral}
 use Rattle.state.specs.declared.State.{State}
@@ -43,7 +42,7 @@ use Rattle.rules.specs.Proofs.Channels as N
 use Rattle.rules.specs.Proofs.Fields.{by-posted}
 use Rattle.rules.specs.Proofs.Peripheral.Effects.{no-bytes}
 use Rattle.rules.specs.Proofs.Reads.{reads}
-use Rattle.rules.specs.Proofs.Reply.{closed-as, bit-below, status-small}
+use Rattle.rules.specs.Proofs.Reply.{closed-as, status-bits, status-small}
 use Rattle.rules.specs.Proofs.Events.{disabling}
 use Rattle.rules.specs.Proofs.Requests.{refused-event, accepted-event, exchange-event, asked-event, got-event}
 use Rattle.rules.specs.Proofs.Lift.{own-or-other, same-turned, part-stays}
@@ -65,12 +64,7 @@ record Bits (s : State) : Type 0 where
 
 bits : (s : State) → Bits s
 unfolding status
-bits s =
-    let a = bit-below (pcFree (s .peripheral .write)) in
-    let b = bit-below (npFree (s .peripheral .request)) in
-    let c = bit-below (pcAvail (s .peripheral .request)) in
-    let d = bit-below (anyPending (s .wires)) in
-    record { np = omega (arith, a, b, c, d); pc = omega (arith, a, b, c, d) }
+bits s = let h = status-bits s in record { np = omega (arith, h); pc = omega (arith, h) }
 
 quiet : {n : Np} → Shown n []
 quiet = record { np = λ h. absurd (omega arith); pc = λ h. absurd (omega arith) }
