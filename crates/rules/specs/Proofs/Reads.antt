@@ -80,13 +80,13 @@ module _ (b : List ℕ) where
   spell : (n : ℕ) → bytesOf n b ≡ spelt n
   spell n = rw (taken-byte n 0 b, taken-byte n 1 b, taken-byte n 2 b, taken-byte n 3 b)
 
-  io1 : bytesOf 1 b ≡ lowFirst 1 3 b
+  pub io1 : bytesOf 1 b ≡ lowFirst 1 3 b
   io1 = spell 1 ∙ omega arith
 
-  io2 : bytesOf 2 b ≡ lowFirst 2 3 b
+  pub io2 : bytesOf 2 b ≡ lowFirst 2 3 b
   io2 = spell 2 ∙ omega arith
 
-  io4 : bytesOf 4 b ≡ lowFirst 4 3 b
+  pub io4 : bytesOf 4 b ≡ lowFirst 4 3 b
   io4 = spell 4 ∙ omega arith
 
 -- ---- an act of these numbers is the one that Fields reads
