@@ -9,7 +9,7 @@ use lib.ListN.{length, take, length-append}
 use lib.Seq.{getD-append-add, take-length}
 use borrow.Author.Tests.{ne-eqb}
 use Rattle.base.specs.Pick.{pick}
-use Rattle.base.specs.Bytes.{over, low2, bit-below, bit}
+use Rattle.base.specs.Bytes.{over, low2, bit}
 use Rattle.crc.specs.Crc.{crc}
 use Rattle.registers.specs.Registers.{writeAt}
 use Rattle.registers.specs.declared.Config.{Config}

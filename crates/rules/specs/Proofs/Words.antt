@@ -1,6 +1,6 @@
 -- The words of runs in bytes and numbers: by their definitions.
 use Prim.Native.Nat.{ℕ, _%_}
-use mathlib.Core.Bool.{true, false, _&&_, true≢false}
+use mathlib.Core.Bool.{true, _&&_, true≢false}
 use mathlib.Core.Path.{_≡_, refl, sym, ap, _∙_}
 use mathlib.Core.List.{List}
 use lib.Dec.{eqb}
