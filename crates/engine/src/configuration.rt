@@ -42,7 +42,7 @@ fn non_fatally(s: State) -> Plan
     ensures { λ r. ⌜ r ≡ nonFatal s ⌝ }
 {
     Plan {
-        number: 2,
+        number: rules::NON_FATAL,
         reply: Reply::Said(Response::NonFatal, Body::Nothing, s.status()),
         next: s,
         kept: Kept::Nothing,

@@ -11,7 +11,7 @@ pub(crate) fn fatal() -> Out
     ensures { λ r. ⌜ r ≡ O.fatal ⌝ }
 {
     Out {
-        number: 1,
+        number: rules::FATAL,
         say: Say::Said(Response::Fatal, Body::Nothing),
         kept: Kept::Nothing,
     }

@@ -276,11 +276,11 @@ fn answer_waiting(
     ensures { λ r. ⌜ r ≡ P.answeringWaiting p q serial success n ⌝ }
 {
     if serial != p.serial {
-        return refused(p, 20);
+        return refused(p, rules::NO_SUCH_REQUEST);
     }
     let want = bytes_for(q, success);
     if n != (want as usize) {
-        return refused(p, 21);
+        return refused(p, rules::COUNT_WRONG);
     }
     answered(p, q, success)
 }
@@ -290,10 +290,10 @@ pub(crate) fn answer_to(p: Peripheral, serial: u32, success: bool, n: usize) -> 
 {
     let h = p.request;
     match h {
-        Np::Free => refused(p, 20),
+        Np::Free => refused(p, rules::NO_SUCH_REQUEST),
         Np::Waiting(q) => answer_waiting(p, q, serial, success, n),
-        Np::Ready(_, _) => refused(p, 20),
-        Np::Failed(_) => refused(p, 20),
+        Np::Ready(_, _) => refused(p, rules::NO_SUCH_REQUEST),
+        Np::Failed(_) => refused(p, rules::NO_SUCH_REQUEST),
     }
 }
 
@@ -315,7 +315,7 @@ pub(crate) fn taken(p: Peripheral) -> PeripheralChange
 {
     let w = p.write;
     match w {
-        Write::Empty => refused(p, 23),
+        Write::Empty => refused(p, rules::NOTHING_THERE),
         Write::Held(_) => PeripheralChange {
             next: emptied(p),
             out: out::keep(Kept::Nothing),

@@ -75,7 +75,7 @@ pub(crate) fn setting(c: Config, w: Wires, index: u32, bit: u32, value: u32) -> 
     if !wires::settable(index, bit, value) {
         return WiresChange {
             next: w,
-            out: out::number(22),
+            out: out::number(rules::NO_SUCH_WIRE),
         };
     }
     let r = c.r020;

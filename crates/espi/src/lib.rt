@@ -28,7 +28,7 @@ pub extern "C" fn espi_start(state: &mut [u8]) -> u32
     ensures { λ r. ⌜ done r (now (state .exit)) ≡ startCall (now (state .entry)) ⌝ }
 {
     if state.len() < STATE {
-        return 10;
+        return rules::STORE_TOO_SHORT;
     }
     pack(State::fresh(), state);
     0
@@ -39,11 +39,11 @@ pub extern "C" fn espi_reset(state: &mut [u8]) -> u32
     ensures { λ r. ⌜ done r (now (state .exit)) ≡ espiResetCall (now (state .entry)) ⌝ }
 {
     if state.len() < STATE {
-        return 10;
+        return rules::STORE_TOO_SHORT;
     }
     let got = load(state);
     if !got.ok {
-        return 11;
+        return rules::STATE_NOT_SOUND;
     }
     let s = got.state;
     pack(engine::espi_reset(s), state);
@@ -55,11 +55,11 @@ pub extern "C" fn espi_platform_reset(state: &mut [u8]) -> u32
     ensures { λ r. ⌜ done r (now (state .exit)) ≡ platformResetCall (now (state .entry)) ⌝ }
 {
     if state.len() < STATE {
-        return 10;
+        return rules::STORE_TOO_SHORT;
     }
     let got = load(state);
     if !got.ok {
-        return 11;
+        return rules::STATE_NOT_SOUND;
     }
     let s = got.state;
     pack(engine::platform_reset(s), state);
@@ -98,20 +98,20 @@ pub extern "C" fn espi_exchange(
     ensures { λ r. ⌜ exchanged r (now (state .exit)) (now (reply .exit)) (now («write_store» .exit)) ≡ exchangeCall (now (state .entry)) (now (command .entry)) (now (reply .entry)) (now («write_store» .entry)) (now («read_store» .entry)) ⌝ }
 {
     if state.len() < STATE {
-        return 10;
+        return rules::STORE_TOO_SHORT;
     }
     if reply.len() < REPLY {
-        return 10;
+        return rules::STORE_TOO_SHORT;
     }
     if write_store.len() < WRITE_STORE {
-        return 10;
+        return rules::STORE_TOO_SHORT;
     }
     if read_store.len() < READ_STORE {
-        return 10;
+        return rules::STORE_TOO_SHORT;
     }
     let got = load(state);
     if !got.ok {
-        return 11;
+        return rules::STATE_NOT_SOUND;
     }
     let s = got.state;
     let p = engine::exchange(s, command);
@@ -123,26 +123,26 @@ pub extern "C" fn espi_look(state: &[u8], report: &mut [u8]) -> u32
     ensures { λ r. ⌜ looked r (now (report .exit)) ≡ lookCall (now (state .entry)) (now (report .entry)) ⌝ }
 {
     if state.len() < STATE {
-        return 10;
+        return rules::STORE_TOO_SHORT;
     }
     if report.len() < LOOK_REPORT {
-        return 10;
+        return rules::STORE_TOO_SHORT;
     }
     let got = load(state);
     if !got.ok {
-        return 11;
+        return rules::STATE_NOT_SOUND;
     }
     let s = got.state;
     let p = s.peripheral;
     let n = p.request;
     match n {
-        Np::Free => 23,
+        Np::Free => rules::NOTHING_THERE as u32,
         Np::Waiting(q) => {
             reply::put_request(report, q, p.serial);
             0
         }
-        Np::Ready(_, _) => 23,
-        Np::Failed(_) => 23,
+        Np::Ready(_, _) => rules::NOTHING_THERE as u32,
+        Np::Failed(_) => rules::NOTHING_THERE as u32,
     }
 }
 
@@ -157,14 +157,14 @@ pub extern "C" fn espi_answer(
     ensures { λ r. ⌜ stored r (now (state .exit)) (now («read_store» .exit)) ≡ answerCall (now (state .entry)) (now («read_store» .entry)) serial success (now (bytes .entry)) ⌝ }
 {
     if state.len() < STATE {
-        return 10;
+        return rules::STORE_TOO_SHORT;
     }
     if read_store.len() < READ_STORE {
-        return 10;
+        return rules::STORE_TOO_SHORT;
     }
     let got = load(state);
     if !got.ok {
-        return 11;
+        return rules::STATE_NOT_SOUND;
     }
     let s = got.state;
     let p = engine::answer(s, serial, success != 0, bytes.len());
@@ -180,17 +180,17 @@ pub extern "C" fn espi_take_write(state: &mut [u8], write_store: &[u8], report: 
     ensures { λ r. ⌜ stored r (now (state .exit)) (now (report .exit)) ≡ takeWriteCall (now (state .entry)) (now («write_store» .entry)) (now (report .entry)) ⌝ }
 {
     if state.len() < STATE {
-        return 10;
+        return rules::STORE_TOO_SHORT;
     }
     if write_store.len() < WRITE_STORE {
-        return 10;
+        return rules::STORE_TOO_SHORT;
     }
     if report.len() < TAKE_REPORT {
-        return 10;
+        return rules::STORE_TOO_SHORT;
     }
     let got = load(state);
     if !got.ok {
-        return 11;
+        return rules::STATE_NOT_SOUND;
     }
     let s = got.state;
     let h = s.peripheral;
@@ -207,11 +207,11 @@ pub extern "C" fn espi_set_wire(state: &mut [u8], index: u32, bit: u32, value: u
     ensures { λ r. ⌜ done r (now (state .exit)) ≡ setWireCall (now (state .entry)) index bit value ⌝ }
 {
     if state.len() < STATE {
-        return 10;
+        return rules::STORE_TOO_SHORT;
     }
     let got = load(state);
     if !got.ok {
-        return 11;
+        return rules::STATE_NOT_SOUND;
     }
     let s = got.state;
     let p = engine::set_wire(s, index, bit, value);
@@ -225,14 +225,14 @@ pub extern "C" fn espi_read_wire(state: &[u8], index: u32, bit: u32) -> u32
     ensures { λ r. ⌜ r ≡ readWireCall (now (state .entry)) index bit ⌝ }
 {
     if state.len() < STATE {
-        return 10;
+        return rules::STORE_TOO_SHORT;
     }
     let got = load(state);
     if !got.ok {
-        return 11;
+        return rules::STATE_NOT_SOUND;
     }
     if !wires::defined_bit(index, bit) {
-        return 22;
+        return rules::NO_SUCH_WIRE as u32;
     }
     let s = got.state;
     let w = s.wires;

@@ -1,3 +1,4 @@
+pub mod Numbers
 pub mod Reset
 pub mod Out
 pub mod Peripheral

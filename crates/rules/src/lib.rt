@@ -5,6 +5,23 @@ use state::State;
 use wires::Packet;
 use wires::Wires;
 
+// The numbers of refusals that stand above the decoder (01, Replies and refusals); its own are in the crate command.
+pub const FATAL: u8 = 1;
+
+pub const NON_FATAL: u8 = 2;
+
+pub const STORE_TOO_SHORT: u32 = 10;
+
+pub const STATE_NOT_SOUND: u32 = 11;
+
+pub const NO_SUCH_REQUEST: u8 = 20;
+
+pub const COUNT_WRONG: u8 = 21;
+
+pub const NO_SUCH_WIRE: u8 = 22;
+
+pub const NOTHING_THERE: u8 = 23;
+
 // The response byte.
 pub enum Response {
     Accept,

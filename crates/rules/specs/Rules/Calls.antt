@@ -9,6 +9,7 @@ use Rattle.base.specs.Bytes.{over}
 use Rattle.state.specs.Fresh.{freshState}
 use Rattle.state.specs.declared.State.{State}
 use Rattle.state.specs.Layout.{stateLength, packed, unpacked, holds}
+use Rattle.rules.specs.Rules.Numbers.{storeTooShort, stateNotSound}
 use Rattle.rules.specs.Rules.Reset.{Reset, espiReset, platformReset}
 use Rattle.rules.specs.Rules.Peripheral as P
 use Rattle.rules.specs.Rules.Wires as W
@@ -62,12 +63,12 @@ kept s st = over (packed s) st
 -- ---- start and resets
 
 unfoldable pub startCall : List ℕ → Done
-startCall st = pick (ltb (length st) stateLength) (done 10 st) (done 0 (kept freshState st))
+startCall st = pick (ltb (length st) stateLength) (done storeTooShort st) (done 0 (kept freshState st))
 
 unfoldable pub resetCall : Reset → List ℕ → Done
 resetCall r st =
-    pick (ltb (length st) stateLength) (done 10 st)
-    (pick (not (holds st)) (done 11 st)
+    pick (ltb (length st) stateLength) (done storeTooShort st)
+    (pick (not (holds st)) (done stateNotSound st)
     (done 0 (kept (E.wasReset r (unpacked st)) st)))
 
 unfoldable pub espiResetCall : List ℕ → Done
@@ -85,49 +86,49 @@ exchangePlanned p st command reply write read =
 
 unfoldable pub exchangeCall : (st command reply write read : List ℕ) → Exchanged
 exchangeCall st command reply write read =
-    pick (ltb (length st) stateLength) (exchanged 10 st reply write)
-    (pick (ltb (length reply) replyLength) (exchanged 10 st reply write)
-    (pick (ltb (length write) writeLength) (exchanged 10 st reply write)
-    (pick (ltb (length read) readLength) (exchanged 10 st reply write)
-    (pick (not (holds st)) (exchanged 11 st reply write)
+    pick (ltb (length st) stateLength) (exchanged storeTooShort st reply write)
+    (pick (ltb (length reply) replyLength) (exchanged storeTooShort st reply write)
+    (pick (ltb (length write) writeLength) (exchanged storeTooShort st reply write)
+    (pick (ltb (length read) readLength) (exchanged storeTooShort st reply write)
+    (pick (not (holds st)) (exchanged stateNotSound st reply write)
     (exchangePlanned (E.exchange (unpacked st) command) st command reply write read)))))
 
 -- ---- the board's calls
 
 unfoldable pub lookCall : (st report : List ℕ) → Looked
 lookCall st report =
-    pick (ltb (length st) stateLength) (looked 10 report)
-    (pick (ltb (length report) lookLength) (looked 10 report)
-    (pick (not (holds st)) (looked 11 report)
+    pick (ltb (length st) stateLength) (looked storeTooShort report)
+    (pick (ltb (length report) lookLength) (looked storeTooShort report)
+    (pick (not (holds st)) (looked stateNotSound report)
     (looked (P.lookNumber (unpacked st .peripheral .request))
     (over (P.lookReport (unpacked st .peripheral .request) (unpacked st .peripheral .serial)) report))))
 
 unfoldable pub answerCall : (st read : List ℕ) (serial success : ℕ) (bytes : List ℕ) → Stored
 answerCall st read serial success bytes =
-    pick (ltb (length st) stateLength) (stored 10 st read)
-    (pick (ltb (length read) readLength) (stored 10 st read)
-    (pick (not (holds st)) (stored 11 st read)
+    pick (ltb (length st) stateLength) (stored storeTooShort st read)
+    (pick (ltb (length read) readLength) (stored storeTooShort st read)
+    (pick (not (holds st)) (stored stateNotSound st read)
     (let p = L.settled peripheral (unpacked st) (P.answer serial success bytes) in
     stored (p .number) (kept (p .next) st) (over (keptBytes (p .kept) bytes) read))))
 
 unfoldable pub takeWriteCall : (st write report : List ℕ) → Stored
 takeWriteCall st write report =
-    pick (ltb (length st) stateLength) (stored 10 st report)
-    (pick (ltb (length write) writeLength) (stored 10 st report)
-    (pick (ltb (length report) takeLength) (stored 10 st report)
-    (pick (not (holds st)) (stored 11 st report)
+    pick (ltb (length st) stateLength) (stored storeTooShort st report)
+    (pick (ltb (length write) writeLength) (stored storeTooShort st report)
+    (pick (ltb (length report) takeLength) (stored storeTooShort st report)
+    (pick (not (holds st)) (stored stateNotSound st report)
     (let p = L.settled peripheral (unpacked st) (P.takeWrite report) in
     stored (p .number) (kept (p .next) st) (over (P.takeReport (unpacked st .peripheral .write)) report)))))
 
 unfoldable pub setWireCall : (st : List ℕ) (index bit value : ℕ) → Done
 setWireCall st index bit value =
-    pick (ltb (length st) stateLength) (done 10 st)
-    (pick (not (holds st)) (done 11 st)
+    pick (ltb (length st) stateLength) (done storeTooShort st)
+    (pick (not (holds st)) (done stateNotSound st)
     (let p = L.settled wires (unpacked st) (W.setWire index bit value) in
     done (p .number) (kept (p .next) st)))
 
 unfoldable pub readWireCall : (st : List ℕ) (index bit : ℕ) → ℕ
 readWireCall st index bit =
-    pick (ltb (length st) stateLength) 10
-    (pick (not (holds st)) 11
+    pick (ltb (length st) stateLength) storeTooShort
+    (pick (not (holds st)) stateNotSound
     (word (W.readNumber index bit) (W.readValue (unpacked st .wires) index bit)))

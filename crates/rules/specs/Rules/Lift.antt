@@ -2,6 +2,7 @@
 use Prim.Native.Nat.{ℕ}
 use Rattle.state.specs.Status.{status}
 use Rattle.state.specs.declared.State.{State}
+use Rattle.rules.specs.Rules.Numbers.{nonFatalError}
 use Rattle.rules.specs.Rules.Channel.{Channel, Board, Change, nextOf, outOf, part, put, settle}
 use Rattle.rules.specs.declared.Response.the-variants.{Accept, NonFatal}
 use Rattle.rules.specs.declared.Body.{Body}
@@ -44,7 +45,7 @@ show body s = record { number = 0; reply = Said Accept body (status s); next = s
 
 -- number 2: "NON_FATAL, 4 bytes; otherwise unchanged"
 abbrev pub nonFatal : State → Plan
-nonFatal s = record { number = 2; reply = Said NonFatal B.Nothing (status s); next = s; kept = K.Nothing }
+nonFatal s = record { number = nonFatalError; reply = Said NonFatal B.Nothing (status s); next = s; kept = K.Nothing }
 
 -- "A write takes effect after its own reply, whose CRC rule and status are the old ones"
 abbrev pub acceptThen : State → State → Plan

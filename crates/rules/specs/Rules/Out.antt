@@ -1,5 +1,6 @@
 -- What goes out of a channel's change (01, Replies and refusals): number, response and body, bytes to keep.
 use Prim.Native.Nat.{ℕ}
+use Rattle.rules.specs.Rules.Numbers.{fatalError}
 use Rattle.rules.specs.declared.Response.{Response}
 use Rattle.rules.specs.declared.Response.the-variants.{Accept, Defer, NonFatal, Fatal}
 use Rattle.rules.specs.declared.Body.{Body}
@@ -18,7 +19,7 @@ responseByte Fatal = 0x03
 
 -- number 1: "FATAL, 4 bytes"
 abbrev pub fatal : Out
-fatal = record { number = 1; say = Said Fatal B.Nothing; kept = K.Nothing }
+fatal = record { number = fatalError; say = Said Fatal B.Nothing; kept = K.Nothing }
 
 abbrev pub accept : Body → Kept → Out
 accept body kept = record { number = 0; say = Said Accept body; kept = kept }

@@ -30,6 +30,7 @@ use Rattle.peripheral.specs.declared.Write.the-variants.{Empty, Held}
 use Rattle.peripheral.specs.declared.Peripheral.{Peripheral}
 use Rattle.peripheral.specs.declared.Completion.{Completion}
 use Rattle.peripheral.specs.Sound.{within}
+use Rattle.rules.specs.Rules.Numbers.{noSuchRequest, countWrong, nothingThere}
 use Rattle.rules.specs.Rules.Reset.{Reset, start, espiReset, platformReset}
 use Rattle.rules.specs.Rules.Out.{fatal, accept, defer, number, keep}
 use Rattle.rules.specs.declared.Body.the-variants as B
@@ -165,15 +166,15 @@ answered p q false = change (withRequest p (Failed q)) (keep K.Nothing)
 
 abbrev pub answeringWaiting : Peripheral → Request → ℕ → Bool → ℕ → PeripheralChange
 answeringWaiting p q serial success n =
-    pick (not (eqb serial (p .serial))) (change p (number 20))
-    (pick (not (eqb n (bytesFor q success))) (change p (number 21))
+    pick (not (eqb serial (p .serial))) (change p (number noSuchRequest))
+    (pick (not (eqb n (bytesFor q success))) (change p (number countWrong))
     (answered p q success))
 
 abbrev pub answering : Peripheral → ℕ → Bool → ℕ → Np → PeripheralChange
-answering p serial success n Free = change p (number 20)
+answering p serial success n Free = change p (number noSuchRequest)
 answering p serial success n (Waiting q) = answeringWaiting p q serial success n
-answering p serial success n (Ready q sent) = change p (number 20)
-answering p serial success n (Failed q) = change p (number 20)
+answering p serial success n (Ready q sent) = change p (number noSuchRequest)
+answering p serial success n (Failed q) = change p (number noSuchRequest)
 
 unfoldable pub answerTo : Peripheral → (serial : ℕ) (success : Bool) (n : ℕ) → PeripheralChange
 answerTo p serial success n = answering p serial success n (p .request)
@@ -184,7 +185,7 @@ abbrev pub emptied : Peripheral → Peripheral
 emptied p = record { write = Empty; request = p .request; serial = p .serial }
 
 abbrev pub taking : Peripheral → Write → PeripheralChange
-taking p Empty = change p (number 23)
+taking p Empty = change p (number nothingThere)
 taking p (Held w) = change (emptied p) (keep K.Nothing)
 
 unfoldable pub taken : Peripheral → PeripheralChange
@@ -203,10 +204,10 @@ abbrev pub requestReport : Request → ℕ → List ℕ
 requestReport q serial = kindNumber (q .kind) ∷ (low8 (q .address) ++ (low2 (q .length) ++ (low4 serial ++ low4 (q .bytes))))
 
 abbrev pub lookNumber : Np → ℕ
-lookNumber Free = 23
+lookNumber Free = nothingThere
 lookNumber (Waiting q) = 0
-lookNumber (Ready q sent) = 23
-lookNumber (Failed q) = 23
+lookNumber (Ready q sent) = nothingThere
+lookNumber (Failed q) = nothingThere
 
 abbrev pub lookReport : Np → ℕ → List ℕ
 lookReport Free serial = []

@@ -8,6 +8,7 @@ use Rattle.base.specs.Pick.{pick}
 use Rattle.base.specs.Bytes.{over}
 use Rattle.state.specs.declared.State.{State}
 use Rattle.state.specs.Layout.{stateLength}
+use Rattle.rules.specs.Rules.Numbers.{storeTooShort}
 use Rattle.rules.specs.Rules.Reset.{Reset}
 use Rattle.rules.specs.Rules.Peripheral as P
 use Rattle.rules.specs.Rules.Channel.{Channel, peripheral, wires, Board, part, reportOf, valueOf, given}
@@ -100,9 +101,9 @@ shortFor wires o w = false
 
 unfoldable pub step : World → Call → Outcome
 step w (reset r) = only 0 (withState w (E.wasReset r (w .state)))
-step w (exchange command reply) = pick (shortStores reply w) (only 10 w) (exchanged w command (E.exchange (w .state) command))
-step w (board k o) = pick (shortFor k o w) (only 10 w) (settled k w o (L.settled k (w .state) o))
-step w (short state c) = only 10 w
+step w (exchange command reply) = pick (shortStores reply w) (only storeTooShort w) (exchanged w command (E.exchange (w .state) command))
+step w (board k o) = pick (shortFor k o w) (only storeTooShort w) (settled k w o (L.settled k (w .state) o))
+step w (short state c) = only storeTooShort w
 step w (lend write read) = only 0 (record { state = w .state; write = write; read = read })
 
 -- a run: each call gets what the last one left

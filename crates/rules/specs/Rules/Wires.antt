@@ -12,6 +12,7 @@ use Rattle.wires.specs.Groups.{putPairs, sent, packetOf, afterSent, enabled, di
 use Rattle.wires.specs.declared.Wires.{Wires}
 use Rattle.command.specs.declared.WiresCommand.{WiresCommand}
 use Rattle.command.specs.declared.WiresCommand.the-variants.{PutVwire, GetVwire}
+use Rattle.rules.specs.Rules.Numbers.{noSuchWire}
 use Rattle.rules.specs.Rules.Reset.{Reset, start, espiReset, platformReset}
 use Rattle.rules.specs.Rules.Out.{fatal, accept, number, keep}
 use Rattle.rules.specs.declared.Body.the-variants as B
@@ -60,11 +61,11 @@ pub data Board : Type 0 where
 
 unfoldable pub setting : Config → Wires → (index bit value : ℕ) → WiresChange
 setting c w index bit value =
-    pick (not (settable index bit value)) (change w (number 22))
+    pick (not (settable index bit value)) (change w (number noSuchWire))
     (change (G.setWire (on1 (c .r020)) w index bit value) (keep K.Nothing))
 
 abbrev pub readNumber : ℕ → ℕ → ℕ
-readNumber index bit = pick (definedBit index bit) 0 22
+readNumber index bit = pick (definedBit index bit) 0 noSuchWire
 
 abbrev pub readValue : Wires → ℕ → ℕ → ℕ
 readValue w index bit = pick (definedBit index bit) (G.readWire w index bit) 0

@@ -21,6 +21,7 @@ use Rattle.peripheral.specs.declared.Write.the-variants.{Empty, Held}
 use Rattle.peripheral.specs.declared.Peripheral.{Peripheral}
 use Rattle.peripheral.specs.declared.Completion.{Completion}
 use Rattle.peripheral.specs.Sound.{within}
+use Rattle.rules.specs.Rules.Numbers.{noSuchRequest, countWrong, nothingThere}
 use Rattle.rules.specs.Rules.Out.{fatal, accept, defer, number, keep}
 use Rattle.rules.specs.Rules.Peripheral.{Act, posts, asks, gets, Board, look, answer, takeWrite, change, withRequest, holding, asking, emptied, sizeFor, succeeded, answerLength, bytesFor}
 use Rattle.rules.specs.declared.Body.the-variants as B
@@ -52,15 +53,15 @@ unanswered (Failed q) = false
 
 pub data Settled (p : Peripheral) : Board → PeripheralChange → Type 0 where
   looked : {report : List ℕ} {q : Request} → p .request ≡ Waiting q → Settled p (look report) (change p (number 0))
-  noLook : {report : List ℕ} → unanswered (p .request) ≡ false → Settled p (look report) (change p (number 23))
+  noLook : {report : List ℕ} → unanswered (p .request) ≡ false → Settled p (look report) (change p (number nothingThere))
   noSuch : {serial success : ℕ} {bytes : List ℕ} → unanswered (p .request) && eqb serial (p .serial) ≡ false
-      → Settled p (answer serial success bytes) (change p (number 20))
+      → Settled p (answer serial success bytes) (change p (number noSuchRequest))
   miscounted : {serial success : ℕ} {bytes : List ℕ} {q : Request} → p .request ≡ Waiting q → serial ≡ p .serial
-      → eqb (length bytes) (bytesFor q (succeeded success)) ≡ false → Settled p (answer serial success bytes) (change p (number 21))
+      → eqb (length bytes) (bytesFor q (succeeded success)) ≡ false → Settled p (answer serial success bytes) (change p (number countWrong))
   succeeds : {serial success : ℕ} {bytes : List ℕ} {q : Request} → p .request ≡ Waiting q → serial ≡ p .serial → succeeded success ≡ true
       → length bytes ≡ answerLength (q .kind) q
       → Settled p (answer serial success bytes) (change (withRequest p (Ready q 0)) (keep (K.Data 0 (answerLength (q .kind) q))))
   fails : {serial success : ℕ} {bytes : List ℕ} {q : Request} → p .request ≡ Waiting q → serial ≡ p .serial → succeeded success ≡ false
       → length bytes ≡ 0 → Settled p (answer serial success bytes) (change (withRequest p (Failed q)) (keep K.Nothing))
-  noTake : {report : List ℕ} → p .write ≡ Empty → Settled p (takeWrite report) (change p (number 23))
+  noTake : {report : List ℕ} → p .write ≡ Empty → Settled p (takeWrite report) (change p (number nothingThere))
   took : {report : List ℕ} {x : Posted} → p .write ≡ Held x → Settled p (takeWrite report) (change (emptied p) (keep K.Nothing))

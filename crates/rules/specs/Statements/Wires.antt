@@ -11,6 +11,7 @@ use Rattle.registers.specs.declared.Config.{Config}
 use Rattle.wires.specs.Groups as G
 use Rattle.wires.specs.Groups.{putPairs, sent, packetOf, afterSent, settable, definedBit}
 use Rattle.wires.specs.declared.Wires.{Wires}
+use Rattle.rules.specs.Rules.Numbers.{noSuchWire}
 use Rattle.rules.specs.Rules.Out.{fatal, accept, number, keep}
 use Rattle.rules.specs.Rules.Wires.{Act, puts, gets, Board, setWire, readWire, change}
 use Rattle.rules.specs.declared.Body.the-variants as B
@@ -29,8 +30,8 @@ pub data Did (c : Config) (w : Wires) : Act → WiresChange → Type 0 where
 -- ---- the board's calls
 
 pub data Settled (c : Config) (w : Wires) : Board → WiresChange → Type 0 where
-  notBoards : {index bit value : ℕ} → settable index bit value ≡ false → Settled c w (setWire index bit value) (change w (number 22))
+  notBoards : {index bit value : ℕ} → settable index bit value ≡ false → Settled c w (setWire index bit value) (change w (number noSuchWire))
   set : {index bit value : ℕ} → settable index bit value ≡ true
       → Settled c w (setWire index bit value) (change (G.setWire (on1 (c .r020)) w index bit value) (keep K.Nothing))
-  noWire : {index bit : ℕ} → definedBit index bit ≡ false → Settled c w (readWire index bit) (change w (number 22))
+  noWire : {index bit : ℕ} → definedBit index bit ≡ false → Settled c w (readWire index bit) (change w (number noSuchWire))
   read : {index bit : ℕ} → definedBit index bit ≡ true → Settled c w (readWire index bit) (change w (number 0))
