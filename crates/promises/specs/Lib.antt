@@ -2,3 +2,5 @@ pub mod ByteRuns
 pub mod Lifted
 pub mod LiftedProof
 pub mod Coincide
+pub mod Words
+pub mod Bridge
