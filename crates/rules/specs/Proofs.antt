@@ -27,6 +27,10 @@ pub mod SoundParts
 pub mod Sound
 pub mod SoundRegisters
 pub mod SoundMeans
+pub mod Asked
+pub mod Demand3
+pub mod Words
+pub mod Answers
 pub mod WireView
 pub mod Bound
 pub mod WireSteps
@@ -39,3 +43,4 @@ pub mod Fits
 pub mod Sizes
 pub mod Status
 pub mod StatusSays
+pub mod PostedWrites

@@ -46,10 +46,10 @@ asked-later {w} {c} {cs} t =
 
 -- ---- a run at whose end a completion is ready
 
--- from a free place, and from a request not yet answered
-pub record Story (w : World) (cs : List Call) : Type 0 where
-  pub fromFree : held w ≡ Free → AskedIn w cs
-  pub fromWaiting : (q : Request) → held w ≡ Waiting q → ToldIn (serialOf w) w cs ⊎ AskedIn w cs
+-- from nothing held, and from a request not yet answered
+record Story (w : World) (cs : List Call) : Type 0 where
+  fromFree : held w ≡ Free → AskedIn w cs
+  fromWaiting : (q : Request) → held w ≡ Waiting q → ToldIn (serialOf w) w cs ⊎ AskedIn w cs
 
 module _ (w : World) (c : Call) (cs : List Call) (s : Story (step w c .next) cs) where
   free-story : (k : Event) → event w c ≡ k → held w ≡ Free → Move w c (step w c) k → AskedIn w (c ∷ cs)
@@ -65,7 +65,8 @@ module _ (w : World) (c : Call) (cs : List Call) (s : Story (step w c .next) cs)
   free-story k e h (lent write read f a b d x) = asked-later (s .fromFree (a ∙ h))
   free-story k e h (dropped a d x) = asked-later (s .fromFree (dropped-free a))
 
-  still : (n : ℕ) → serialOf (step w c .next) ≡ n → ToldIn (serialOf (step w c .next)) (step w c .next) cs ⊎ AskedIn (step w c .next) cs → ToldIn n w (c ∷ cs) ⊎ AskedIn w (c ∷ cs)
+  still : (n : ℕ) → serialOf (step w c .next) ≡ n → ToldIn (serialOf (step w c .next)) (step w c .next) cs ⊎ AskedIn (step w c .next) cs
+      → ToldIn n w (c ∷ cs) ⊎ AskedIn w (c ∷ cs)
   still n e (inl t) = inl (told-later (rw e at t))
   still n e (inr t) = inr (asked-later t)
 

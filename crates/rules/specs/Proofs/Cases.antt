@@ -6,12 +6,14 @@ use mathlib.Core.Path.{_≡_, refl, subst}
 use native.Mathlib.Omega.{arith}
 use Rattle.base.specs.Pick.{pick, pick-ind}
 use Rattle.base.specs.Bytes.{over}
-use Rattle.rules.specs.Rules.Channel.{Channel, Board, part, settle}
-use Rattle.rules.specs.Rules.Lift.{lift, silent}
+use Rattle.rules.specs.Rules.Reset.{Reset}
+use Rattle.rules.specs.Rules.Channel.{Channel, Board}
+use Rattle.rules.specs.Rules.Lift as L
+use Rattle.rules.specs.Rules.Lift.{silent}
 use Rattle.rules.specs.Rules.Exchange as E
 use Rattle.rules.specs.Rules.Reply.{replyBytes}
 use Rattle.rules.specs.Rules.Step as S
-use Rattle.rules.specs.Rules.Step.{World, exchange, board, reset, short, lend, only, shortStores, shortFor, exchanged}
+use Rattle.rules.specs.Rules.Step.{World, exchange, board, reset, short, lend, only, withState, shortStores, shortFor, exchanged}
 use Rattle.rules.specs.Statements.Plans as N
 use Rattle.rules.specs.Statements.Plans.{Silent, Planned}
 use Rattle.rules.specs.Statements.Cases.{Case, idle, shown, acted, settles, forbidden, configured, cleared, wiped, lent, Cases}
@@ -48,13 +50,16 @@ pub exchange-step : (w : World) (b r : List ℕ) → S.step w (exchange b r) ≡
 unfolding S.step
 exchange-step w b r = refl
 
--- ---- with long enough slices
+-- ---- a reset, and calls with long enough slices
+
+pub reset-is : (w : World) (r : Reset) → S.step w (reset r) ≡ only 0 (withState w (E.wasReset r (w .state)))
+unfolding S.step
+reset-is w r = refl
 
 pub exchange-long : (w : World) (b r : List ℕ) → shortStores r w ≡ false → S.step w (exchange b r) ≡ exchanged w b (E.exchange (w .state) b)
 unfolding S.step
 exchange-long w b r l = rw l
 
-pub board-long : (k : Channel) (w : World) (o : Board k) → shortFor k o w ≡ false
-    → S.step w (board k o) ≡ S.settled k w o (lift k (w .state) (settle k (w .state .config) (part k (w .state)) o))
+pub board-long : (k : Channel) (w : World) (o : Board k) → shortFor k o w ≡ false → S.step w (board k o) ≡ S.settled k w o (L.settled k (w .state) o)
 unfolding S.step
 board-long k w o l = rw l

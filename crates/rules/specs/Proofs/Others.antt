@@ -5,44 +5,32 @@ use mathlib.Core.List.{List, [], _∷_}
 use mathlib.Core.Path.{_≡_, refl, sym, ap, _∙_}
 use lib.Dec.{eqb}
 use Rattle.registers.specs.declared.Config.{Config}
-use Rattle.state.specs.declared.State.{State}
 use Rattle.rules.specs.Rules.Out.{fatal, number, keep}
 use Rattle.rules.specs.Rules.Wires as W
-use Rattle.rules.specs.Rules.Channel.{Channel, peripheral, wires, Part, Command, Act, Board, Change, change, outOf, part, put, ownKept, same}
+use Rattle.rules.specs.Rules.Channel.{Channel, peripheral, wires, Part, Command, Act, Board, Change, outOf, ownKept, same}
 use Rattle.rules.specs.Statements.Cases.{commandOf}
 use Rattle.rules.specs.Statements.Channels as L
 use Rattle.rules.specs.Statements.Channels.{responseFor, accepts, Acts, Settles}
 use Rattle.rules.specs.Statements.Fields.{byte}
 use Rattle.rules.specs.Statements.Reads.{Wires, puts, gets, ReadAs}
+use Rattle.rules.specs.Proofs.Lift.{out-change}
 use Rattle.rules.specs.Statements.Requests.{idle, commandEvent, boardEvent}
 use Rattle.rules.specs.declared.Kept.{Kept}
 use Rattle.rules.specs.declared.Kept.the-variants as K
 use Rattle.rules.specs.declared.Out.{Out}
 
--- channel 0, or another
-pub by-channel : (Q : Channel → Type 0) → Q peripheral → ((k : Channel) → same k peripheral ≡ false → Q k) → (k : Channel) → Q k
-by-channel Q q other peripheral = q
-by-channel Q q other wires = other wires refl
-
-pub part-other : (k : Channel) → same k peripheral ≡ false → (q : Part k) (s : State) → part peripheral (put k q s) ≡ part peripheral s
-part-other peripheral e q s = absurd (true≢false e)
-part-other wires e q s = refl
-
 -- its calls keep nothing in channel 0's stores
-own-other : (k : Channel) → same k peripheral ≡ false → (kept : Kept) → ownKept k kept ≡ true → kept ≡ K.Nothing
+own-other : (k : Channel) → same peripheral k ≡ false → (kept : Kept) → ownKept k kept ≡ true → kept ≡ K.Nothing
 own-other peripheral e kept f = absurd (true≢false e)
 own-other wires e K.Nothing f = refl
 own-other wires e (K.Data from n) f = absurd (true≢false (sym f))
 
-out-change : (k : Channel) (q : Part k) (out : Out) → outOf k (change k q out) ≡ out
-out-change peripheral q out = refl
-out-change wires q out = refl
-
-pub acts-other : (k : Channel) → same k peripheral ≡ false → (p : Part k) (a : Act k) (x : Change k) → Acts k p a x → outOf k x .kept ≡ K.Nothing
+pub acts-other : (k : Channel) → same peripheral k ≡ false → (p : Part k) (a : Act k) (x : Change k) → Acts k p a x → outOf k x .kept ≡ K.Nothing
 acts-other k e p a x L.Acts.refused = ap (λ (out : Out). out .kept) (out-change k p fatal)
-acts-other k e p a x (L.Acts.accepted q body kept f g) = ap (λ (out : Out). out .kept) (out-change k q (accepts (responseFor k a) body kept)) ∙ own-other k e kept g
+acts-other k e p a x (L.Acts.accepted q body kept f g) =
+    ap (λ (out : Out). out .kept) (out-change k q (accepts (responseFor k a) body kept)) ∙ own-other k e kept g
 
-pub settles-other : (k : Channel) → same k peripheral ≡ false → (p : Part k) (o : Board k) (x : Change k) → Settles k p o x → outOf k x .kept ≡ K.Nothing
+pub settles-other : (k : Channel) → same peripheral k ≡ false → (p : Part k) (o : Board k) (x : Change k) → Settles k p o x → outOf k x .kept ≡ K.Nothing
 settles-other k e p o x (L.Settles.refused n f g h i) = ap (λ (out : Out). out .kept) (out-change k p (number n))
 settles-other k e p o x (L.Settles.accepted q kept f) = ap (λ (out : Out). out .kept) (out-change k q (keep kept)) ∙ own-other k e kept f
 
@@ -60,10 +48,10 @@ wires-plain : {b : List ℕ} {a : W.Act} → Wires b a → Plain b
 wires-plain (puts e) = plain _ 0x04 e refl refl
 wires-plain (gets e) = plain _ 0x05 e refl refl
 
-pub command-other : (k : Channel) → same k peripheral ≡ false → (c : Config) (b : List ℕ) (o : Command k) → ReadAs c b (commandOf k o) → Plain b
+pub command-other : (k : Channel) → same peripheral k ≡ false → (c : Config) (b : List ℕ) (o : Command k) → ReadAs c b (commandOf k o) → Plain b
 command-other peripheral e c b o r = absurd (true≢false e)
 command-other wires e c b o r = wires-plain r
 
-pub board-other : (k : Channel) → same k peripheral ≡ false → (o : Board k) → boardEvent k o ≡ idle
+pub board-other : (k : Channel) → same peripheral k ≡ false → (o : Board k) → boardEvent k o ≡ idle
 board-other peripheral e o = absurd (true≢false e)
 board-other wires e o = refl

@@ -9,11 +9,11 @@ pub mod Status
 use Prim.Native.Nat.{ℕ}
 use mathlib.Core.Bool.{Bool, true, false, _&&_, not}
 use mathlib.Core.List.{List, [], _∷_}
-use mathlib.Core.Path.{_≡_, refl, sym, ap, subst, _∙_}
+use mathlib.Core.Path.{_≡_, refl, ap, _∙_}
 use lib.Dec.{eqb}
 use lib.ListN.{length}
 use borrow.Author.Tests.{eqb-true, not-false, not-true}
-use Rattle.base.specs.Pick.{pick, pick-ind}
+use Rattle.base.specs.Pick.{pick-ind}
 use Rattle.registers.specs.Registers.{payloadSize}
 use Rattle.registers.specs.declared.Config.{Config}
 use Rattle.peripheral.specs.Upward.{upward}

@@ -9,7 +9,7 @@ use lib.Dec.{eqb, ltb}
 use lib.ListN.{length, getD, take, drop, length-take, List·getD-eq-default}
 use lib.Seq.{getD-take, getD-drop}
 use borrow.Author.Tests.{ltb-true, ltb-false}
-use Rattle.base.specs.Pick.{pick, pick-ind}
+use Rattle.base.specs.Pick.{pick}
 use Rattle.base.specs.Bytes.{joined4}
 use Rattle.registers.specs.Registers.{crcChecked}
 use Rattle.registers.specs.declared.Config.{Config}
@@ -21,15 +21,12 @@ use Rattle.command.specs.declared.Opcode.{Opcode}
 use Rattle.command.specs.declared.Opcode.the-variants as O
 use Rattle.peripheral.specs.declared.Kind.{Kind}
 use Rattle.peripheral.specs.declared.Kind.the-variants as R
-use Rattle.peripheral.specs.declared.Request.{Request}
-use Rattle.state.specs.declared.State.{State}
 use Rattle.rules.specs.Rules.Peripheral as P
 use Rattle.rules.specs.Rules.Peripheral.{requestOf, bytesOf}
 use Rattle.rules.specs.Rules.Wires as W
 use Rattle.rules.specs.Rules.Exchange.{channelsOf}
-use Rattle.rules.specs.Statements.Cases.{Admits}
-use Rattle.rules.specs.Statements.Fields.{byte, isPosted, isNonPosted, highFirst, lowFirst, cycleWidth, accessAddress, accessLength, accessTag, dataFrom, requestKind, ioBytes, groups, pairs, registerAt, registerValue}
-use Rattle.rules.specs.Statements.Reads.{requestIn, Peripheral, posts, asks, Wires, puts, ReadAs, Reads}
+use Rattle.rules.specs.Statements.Fields.{byte, isPosted, isNonPosted, highFirst, lowFirst, cycleWidth, accessAddress, accessLength, accessTag, dataFrom, requestKind, ioBytes, groups, registerAt}
+use Rattle.rules.specs.Statements.Reads.{Peripheral, posts, asks, Wires, puts, ReadAs, Reads}
 use Rattle.rules.specs.Statements.Reads as S
 use Rattle.rules.specs.Proofs.Fields.{by-opcode, one}
 
@@ -80,13 +77,13 @@ module _ (b : List ℕ) where
   spell : (n : ℕ) → bytesOf n b ≡ spelt n
   spell n = rw (taken-byte n 0 b, taken-byte n 1 b, taken-byte n 2 b, taken-byte n 3 b)
 
-  io1 : bytesOf 1 b ≡ lowFirst 1 3 b
+  pub io1 : bytesOf 1 b ≡ lowFirst 1 3 b
   io1 = spell 1 ∙ omega arith
 
-  io2 : bytesOf 2 b ≡ lowFirst 2 3 b
+  pub io2 : bytesOf 2 b ≡ lowFirst 2 3 b
   io2 = spell 2 ∙ omega arith
 
-  io4 : bytesOf 4 b ≡ lowFirst 4 3 b
+  pub io4 : bytesOf 4 b ≡ lowFirst 4 3 b
   io4 = spell 4 ∙ omega arith
 
 -- ---- an act of these numbers is the one that Fields reads

@@ -1,15 +1,14 @@
 -- P5 proved of `step`: a refused plan is one of three, whatever the channel; and a plan keeps no more than its data.
 use Prim.Native.Nat.{ℕ, zero, suc, _+_, _-_, _≤_, _<_, zero-le}
-use mathlib.Core.Bool.{Bool, true, false, not, true≢false}
-use mathlib.Core.List.{List, [], _∷_, _++_}
+use mathlib.Core.Bool.{true, false, true≢false}
+use mathlib.Core.List.{List, _++_}
 use mathlib.Core.Path.{_≡_, refl, sym, ap, _∙_, subst}
-use native.Mathlib.Nat.{le-refl, le-trans}
+use native.Mathlib.Nat.{le-trans}
 use native.Mathlib.Omega.{arith}
-use lib.Dec.{eqb, ltb}
+use lib.Dec.{ltb}
 use lib.ListN.{length, drop, length-take}
 use lib.Seq.{drop-append-add, drop-drop}
-use borrow.Author.Tests.{lt-ltb, eqb-true}
-use Rattle.base.specs.Pick.{pick, pick-ind}
+use borrow.Author.Tests.{lt-ltb}
 use Rattle.base.specs.Bytes.{over, over-none}
 use Rattle.state.specs.declared.State.{State}
 use Rattle.rules.specs.Rules.Out.{fatal, number}
@@ -18,15 +17,14 @@ use Rattle.rules.specs.Rules.Lift.{lift, silent, nonFatal}
 use Rattle.rules.specs.Rules.Lift as M
 use Rattle.rules.specs.Rules.Exchange as E
 use Rattle.rules.specs.Rules.Reply.{replyBytes, closed, keptBytes}
-use Rattle.rules.specs.Rules.Step.{World, Call, exchange, board, lend, Outcome, step, exchanged, settled, only}
-use Rattle.rules.specs.Statements.Fields.{byte, isPosted, accessLength}
+use Rattle.rules.specs.Rules.Step.{World, Call, exchange, board, Outcome, exchanged, settled}
 use Rattle.rules.specs.Statements.Plans as N
-use Rattle.rules.specs.Statements.Plans.{Did, Settled, Silent, Planned}
+use Rattle.rules.specs.Statements.Plans.{Did, Settled, Planned}
 use Rattle.rules.specs.Statements.Cases as C
 use Rattle.rules.specs.Statements.Cases.{Case}
 use Rattle.rules.specs.Statements.Channels as L
 use Rattle.rules.specs.Statements.Channels.{Acts, Settles}
-use Rattle.rules.specs.Statements.Refusals.{keptCount, Quiet, Error, Refusal, RefusalsChangeNothing, CallsKeepStores, postedLength, answerBytes, boardReads, readsAtMost, writesAtMost, isLend}
+use Rattle.rules.specs.Statements.Refusals.{keptCount, Quiet, Error, Refusal, RefusalsChangeNothing, CallsKeepStores, postedLength, boardReads, readsAtMost, writesAtMost, isLend}
 use Rattle.rules.specs.Proofs.Lift.{planned, lift-change, lift-stays}
 use Rattle.rules.specs.Proofs.Plans as Q
 use Rattle.rules.specs.Proofs.Channels as H
@@ -36,7 +34,6 @@ use Rattle.rules.specs.Proofs.Cases.{cases}
 use Rattle.rules.specs.Proofs.Reads.{reads}
 use Rattle.rules.specs.declared.Kept.{Kept}
 use Rattle.rules.specs.declared.Kept.the-variants as K
-use Rattle.rules.specs.declared.Out.{Out}
 use Rattle.rules.specs.declared.Plan.{Plan}
 
 -- ---- a plan by its number

@@ -21,7 +21,7 @@ use Rattle.rules.specs.Statements.Plans as N
 use Rattle.rules.specs.Statements.Plans.{Did, Planned}
 use Rattle.rules.specs.Statements.Cases as C
 use Rattle.rules.specs.Statements.Cases.{Case}
-use Rattle.rules.specs.Statements.Shape.{AcceptedReply, Shape, ExchangeShape, RepliesHaveShape, OnlyExchangesReply}
+use Rattle.rules.specs.Statements.Shape.{Shape, ExchangeShape, RepliesHaveShape, OnlyExchangesReply}
 use Rattle.rules.specs.Statements.Refusals.{isExchange}
 use Rattle.rules.specs.Proofs.Reads as D
 use Rattle.rules.specs.Proofs.Plans.{plans}

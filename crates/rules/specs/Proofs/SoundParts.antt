@@ -3,7 +3,7 @@ use mathlib.Core.Bool.{Bool, true}
 use mathlib.Core.Path.{_≡_, refl, sym, subst}
 use borrow.Author.Tests.{eq-eqb}
 use Rattle.base.specs.Pick.{and-true}
-use Rattle.registers.specs.Registers.{fresh008, fresh010, freshConfig, reachable}
+use Rattle.registers.specs.Registers.{fresh008, fresh010, reachable}
 use Rattle.registers.specs.Laws.{Fitting, fits-fresh, reachable-fresh, reachable-all, reachable-r008, reachable-r010, reachable-r020}
 use Rattle.registers.specs.declared.Config.{Config}
 use Rattle.wires.specs.Kept.{whole-level, whole-marks}

@@ -1,7 +1,7 @@
 -- The view: one sweep over the case law, reading channel 0's law; whatever another channel does leaves channel 0's part.
 use Prim.Native.Nat.{ℕ, _+_, _-_, _*_, _/_, _%_, _^_, _<_, _≤_}
-use mathlib.Core.Bool.{Bool, true, false, _&&_, not, true≢false}
-use mathlib.Core.List.{List, [], _∷_, _++_, append-assoc}
+use mathlib.Core.Bool.{Bool, true, false, _&&_, not}
+use mathlib.Core.List.{List, [], _∷_, _++_}
 use mathlib.Core.Path.{_≡_, refl, sym, ap, ap₂, _∙_, subst}
 use native.Mathlib.Omega.{arith}
 use lib.Dec.{eqb}
@@ -9,16 +9,15 @@ use lib.ListN.{length, take, length-append}
 use lib.Seq.{getD-append-add, take-length}
 use borrow.Author.Tests.{ne-eqb}
 use Rattle.base.specs.Pick.{pick}
-use Rattle.base.specs.Bytes.{over, low2, bit-below, bit}
+use Rattle.base.specs.Bytes.{over, low2, bit}
 use Rattle.crc.specs.Crc.{crc}
 use Rattle.registers.specs.Registers.{writeAt}
 use Rattle.registers.specs.declared.Config.{Config}
-use Rattle.wires.specs.Groups.{anyPending}
-use Rattle.peripheral.specs.Status.{npFree, pcFree, pcAvail}
+use Rattle.peripheral.specs.Queues as F
+use Rattle.peripheral.specs.Status.{npFree, pcAvail}
 use Rattle.peripheral.specs.declared.Np.{Np}
 use Rattle.peripheral.specs.declared.Peripheral.{Peripheral}
 use Rattle.peripheral.specs.Facts.{no-request}
-use Rattle.peripheral.specs.Queues as F
 use Rattle.state.specs.Status.{status}
 use Rattle.state.specs.declared.State.{State}
 use Rattle.rules.specs.Rules.Reset.{Reset, start, espiReset, platformReset}
@@ -33,18 +32,22 @@ use Rattle.rules.specs.Statements.Peripheral as P
 use Rattle.rules.specs.Statements.Cases as C
 use Rattle.rules.specs.Statements.Cases.{Did, Settled, Admits, commandOf, Case}
 use Rattle.rules.specs.Statements.Channels.{Settles}
-use Rattle.rules.specs.Statements.Events.{accepted, ending, disables, registerOf}
-use Rattle.rules.specs.Statements.Fields.{byte, isPosted, isNonPosted, registerAt, registerValue}
+use Rattle.rules.specs.Statements.Events.{accepted}
+use Rattle.rules.specs.Statements.Fields.{byte, isPosted}
 use Rattle.rules.specs.Statements.Reads as R
 use Rattle.rules.specs.Statements.Reads.{Writes}
-use Rattle.rules.specs.Statements.Requests.{Event, idle, asks, gets, ends, commandEvent, acceptedEvent, eventOf, event, held, statusIn}
+use Rattle.rules.specs.Statements.Requests.{Event, idle, asks, gets, ends, eventOf, event, held, statusIn}
 use Rattle.rules.specs.Statements.View.{Shown, Move, same as stays, asked, told, sent, lent, dropped, View}
 use Rattle.rules.specs.Proofs.Cases.{cases}
 use Rattle.rules.specs.Proofs.Channels as N
-use Rattle.rules.specs.Proofs.Fields.{one, by-posted}
+use Rattle.rules.specs.Proofs.Fields.{by-posted}
+use Rattle.rules.specs.Proofs.Peripheral.Effects.{no-bytes}
 use Rattle.rules.specs.Proofs.Reads.{reads}
-use Rattle.rules.specs.Proofs.Events.{falling-edge}
-use Rattle.rules.specs.Proofs.Others.{by-channel, part-other, settles-other, Plain, plain, command-other, board-other}
+use Rattle.rules.specs.Proofs.Reply.{closed-as, status-bits, status-small}
+use Rattle.rules.specs.Proofs.Events.{disabling}
+use Rattle.rules.specs.Proofs.Requests.{refused-event, accepted-event, exchange-event, asked-event, got-event}
+use Rattle.rules.specs.Proofs.Lift.{own-or-other, same-turned, part-stays}
+use Rattle.rules.specs.Proofs.Others.{settles-other, Plain, plain, command-other, board-other}
 use Rattle.rules.specs.declared.PeripheralChange.{PeripheralChange}
 use Rattle.rules.specs.declared.Say.{Say}
 use Rattle.rules.specs.declared.Say.the-variants as S
@@ -59,16 +62,10 @@ use Rattle.rules.specs.declared.Plan.{Plan}
 record Bits (s : State) : Type 0 where
   np : status s / 2 ^ 1 % 2 ≡ bit (npFree (s .peripheral .request))
   pc : status s / 2 ^ 4 % 2 ≡ bit (pcAvail (s .peripheral .request))
-  below : status s < 256
 
 bits : (s : State) → Bits s
 unfolding status
-bits s =
-    let a = bit-below (pcFree (s .peripheral .write)) in
-    let b = bit-below (npFree (s .peripheral .request)) in
-    let c = bit-below (pcAvail (s .peripheral .request)) in
-    let d = bit-below (anyPending (s .wires)) in
-    record { np = omega (arith, a, b, c, d); pc = omega (arith, a, b, c, d); below = omega (arith, a, b, c, d) }
+bits s = let h = status-bits s in record { np = omega (arith, h); pc = omega (arith, h) }
 
 quiet : {n : Np} → Shown n []
 quiet = record { np = λ h. absurd (omega arith); pc = λ h. absurd (omega arith) }
@@ -83,32 +80,16 @@ status-at m a b x =
     rw (low, high, getD-append-add m t 0 0, getD-append-add m t 1 0)
 
 status-in : (m : List ℕ) (st : ℕ) → st < 256 → statusIn (closed m st) ≡ st
-unfolding closed
-status-in m st h = rw (append-assoc m (low2 st) (crc (m ++ low2 st) ∷ [])) (status-at m (st % 256) (st / 256 % 256) (crc (m ++ low2 st)) ∙ omega arith)
+status-in m st h = rw (closed-as m st) (status-at m (st % 256) (st / 256 % 256) (crc (m ++ low2 st)) ∙ omega arith)
 
 -- a reply, where there is one, that shows the status of a state
 shown : (s : State) (say : Say) (read : List ℕ) → Shown (s .peripheral .request) (replyBytes (withStatus say (status s)) read)
 unfolding replyBytes
 shown s S.Silent read = quiet
 shown s (S.Said response body) read =
-    record { np = λ _. rw (status-in _ (status s) (bits s .below)) (bits s .np); pc = λ _. rw (status-in _ (status s) (bits s .below)) (bits s .pc) }
+    record { np = λ _. rw (status-in _ (status s) (status-small s)) (bits s .np); pc = λ _. rw (status-in _ (status s) (status-small s)) (bits s .pc) }
 
--- ---- events
-
-refused-event : (s : State) (c : Call) (o : Outcome) → accepted o ≡ false → eventOf s c o ≡ idle
-unfolding eventOf
-refused-event s c o e = ap (λ (t : Bool). pick (t && ending peripheral s c) ends (pick t (acceptedEvent c) idle)) e
-
-accepted-event : (s : State) (c : Call) (o : Outcome) → accepted o ≡ true → eventOf s c o ≡ pick (ending peripheral s c) ends (acceptedEvent c)
-unfolding eventOf
-accepted-event s c o e = ap (λ (t : Bool). pick (t && ending peripheral s c) ends (pick t (acceptedEvent c) idle)) e
-
-no-disabling : (s : State) (b : List ℕ) → eqb (byte b 0) 0x22 ≡ false → disables peripheral s b ≡ false
-no-disabling s b e =
-    ap (λ (t : Bool). t && (eqb (registerAt b) (registerOf peripheral) && (on peripheral (s .config) && eqb (registerValue b % 2) 0))) e
-
-exchange-event : (s : State) (b r : List ℕ) (o : Outcome) → accepted o ≡ true → eqb (byte b 0) 0x22 ≡ false → eventOf s (exchange b r) o ≡ commandEvent b
-exchange-event s b r o e f = accepted-event s (exchange b r) o e ∙ ap (λ (t : Bool). pick t ends (commandEvent b)) (no-disabling s b f)
+-- ---- commands that make no event of channel 0
 
 plain-event : (s : State) (b r : List ℕ) (o : Outcome) → Plain b → eventOf s (exchange b r) o ≡ idle
 plain-event s b r o p = go (accepted o) refl
@@ -117,25 +98,10 @@ plain-event s b r o p = go (accepted o) refl
     go true e = exchange-event s b r o e (p .write) ∙ p .event
     go false e = refused-event s (exchange b r) o e
 
--- an opcode of a kind is none outside it
-outside : (p : ℕ → Bool) (op n : ℕ) → p n ≡ false → p op ≡ true → eqb op n ≡ false
-outside p op n f = one (λ (x : ℕ). p x ≡ true → eqb x n ≡ false) op n (λ t. absurd (true≢false (sym t ∙ f))) (λ e _. e)
-
 posted-plain : (b : List ℕ) → isPosted (byte b 0) ≡ true → Plain b
 posted-plain b h =
     by-posted (λ (op : ℕ). byte b 0 ≡ op → Plain b) (λ e. plain b 0x00 e refl refl) (λ e. plain b 0x4C e refl refl) (λ e. plain b 0x4D e refl refl)
     (λ e. plain b 0x4F e refl refl) (byte b 0) h refl
-
-asked-event : (s : State) (b r : List ℕ) (o : Outcome) → accepted o ≡ true → isNonPosted (byte b 0) ≡ true → eventOf s (exchange b r) o ≡ asks
-asked-event s b r o e h =
-    exchange-event s b r o e (outside isNonPosted (byte b 0) 0x22 refl h) ∙ ap (λ (t : Bool). pick t asks (pick (eqb (byte b 0) 0x01) gets idle)) h
-
-got-event : (s : State) (b r : List ℕ) (o : Outcome) → accepted o ≡ true → byte b 0 ≡ 0x01 → eventOf s (exchange b r) o ≡ gets
-got-event s b r o e h = exchange-event s b r o e (ap (λ (x : ℕ). eqb x 0x22) h) ∙ rw h
-
-no-bytes : (d : List ℕ) → length d ≡ 0 → [] ≡ d
-no-bytes [] e = refl
-no-bytes (x ∷ d) e = absurd (omega arith)
 
 module _ (w : World) where
   abbrev Seen : Call → Outcome → Type 0
@@ -187,15 +153,16 @@ module _ (w : World) where
   settled-seen {o} (P.miscounted e f g) = number-seen o 21 refl
   settled-seen (P.succeeds {serial} {success} {bytes = d} {q} e f g h) =
       told q serial success d refl e f (rw g h) (rw g) refl (ap (λ (x : List ℕ). over x (w .read)) (ap (λ (m : ℕ). take m d) (sym h) ∙ take-length d)) refl
-  settled-seen (P.fails {serial} {success} {bytes = d} {q} e f g h) = told q serial success d refl e f (rw g h) (rw g) refl (ap (λ (x : List ℕ). over x (w .read)) (no-bytes d h)) refl
+  settled-seen (P.fails {serial} {success} {bytes = d} {q} e f g h) =
+      told q serial success d refl e f (rw g h) (rw g) refl (ap (λ (x : List ℕ). over x (w .read)) (sym (no-bytes d h))) refl
   settled-seen {o} (P.noTake e) = number-seen o 23 refl
   settled-seen (P.took e) = stays refl refl refl quiet
 
   -- ---- another channel's
 
-  module _ (k : Channel) (other : same k peripheral ≡ false) where
+  module _ (k : Channel) (other : same peripheral k ≡ false) where
     kept-part : (x : Change k) → put k (nextOf k x) (w .state) .peripheral ≡ w .state .peripheral
-    kept-part x = part-other k other (nextOf k x) (w .state)
+    kept-part x = part-stays k peripheral (nextOf k x) (w .state) (same-turned peripheral k other)
 
     acted-beside : (b r : List ℕ) (x : Change k) → Plain b → Seen (exchange b r) (exchanged w b (lift k (w .state) x))
     unfolding exchanged lift
@@ -230,7 +197,8 @@ module _ (w : World) where
 
   forbidden-seen : (b r : List ℕ) → Plans b r (nonFatal (w .state))
   unfolding exchanged
-  forbidden-seen b r = seen idle (refused-event (w .state) (exchange b r) _ refl) (stays refl refl refl (shown (w .state) (S.Said NonFatal B.Nothing) (w .read)))
+  forbidden-seen b r =
+      seen idle (refused-event (w .state) (exchange b r) _ refl) (stays refl refl refl (shown (w .state) (S.Said NonFatal B.Nothing) (w .read)))
 
   cleared-seen : (b r : List ℕ) → Plain b → Plans b r (quietly (reset008h (w .state)))
   unfolding exchanged replyBytes
@@ -241,20 +209,19 @@ module _ (w : World) where
       → Move w (exchange b r) (exchanged w b (acceptThen (w .state) (reconfigured (w .state) c))) (pick t ends idle)
   unfolding exchanged
   written-seen b r c true e =
-      dropped (ap (λ (t : Bool). pick t (F.dropped (w .state .peripheral)) (w .state .peripheral)) e) refl (shown (w .state) (S.Said Accept B.Nothing) (w .read))
+      dropped (ap (λ (t : Bool). pick t (F.dropped (w .state .peripheral)) (w .state .peripheral)) e) refl
+      (shown (w .state) (S.Said Accept B.Nothing) (w .read))
   written-seen b r c false e =
       let kept : reconfigured (w .state) c .peripheral ≡ w .state .peripheral = ap (λ (t : Bool). pick t (F.dropped (w .state .peripheral)) (w .state .peripheral)) e in
       stays (ap (λ (q : Peripheral). q .request) kept) (ap (λ (q : Peripheral). q .serial) kept) refl (shown (w .state) (S.Said Accept B.Nothing) (w .read))
 
   set-seen : (b r : List ℕ) (a v : ℕ) → Writes b a v → Plans b r (acceptThen (w .state) (reconfigured (w .state) (writeAt (w .state .config) a v)))
   unfolding exchanged
-  set-seen b r a v h = seen _ (accepted-event (w .state) (exchange b r) _ refl ∙ ap₂ (λ (t : Bool) (e : Event). pick t ends e) disabling (rw (h .opcode))) (written-seen b r _ _ refl)
-    where
-      disabling : disables peripheral (w .state) b ≡ on peripheral (w .state .config) && not (on peripheral (writeAt (w .state .config) a v))
-      disabling =
-          ap (λ (op : ℕ). eqb op 0x22 && (eqb (registerAt b) 0x010 && (on peripheral (w .state .config) && eqb (registerValue b % 2) 0))) (h .opcode)
-          ∙ ap₂ (λ (x y : ℕ). eqb x 0x010 && (on peripheral (w .state .config) && eqb (y % 2) 0)) (sym (h .address)) (sym (h .value))
-          ∙ sym (falling-edge peripheral (w .state .config) a v)
+  set-seen b r a v h =
+      seen _
+      (accepted-event (w .state) (exchange b r) _ refl
+      ∙ ap₂ (λ (t : Bool) (e : Event). pick t ends e) (disabling peripheral (w .state) b a v h) (rw (h .opcode)))
+      (written-seen b r _ _ refl)
 
   reset-seen : (r : Reset) → Seen (reset r) (only 0 (withState w (wasReset r (w .state))))
   unfolding eventOf
@@ -279,13 +246,16 @@ module _ (w : World) where
   case-seen {c} (C.idle n h) = idle-seen c n (h .least)
   case-seen (C.shown {b} {r} {body} h) = shown-seen b r body (shows-plain h)
   case-seen (C.acted {b} {r} k o x e d) =
-      by-channel
-      (λ (k : Channel). (o : Command k) (x : Change k) → Admits (w .state) b (commandOf k o) → Did k (w .state .config) (part k (w .state)) (actOf k (w .state .config) o b) x
-      → Seen (exchange b r) (exchanged w b (lift k (w .state) x)))
-      (λ o x e d. acted-seen b r (reads (w .state) b _ e) d) (λ k n o x e d. acted-beside k n b r x (command-other k n (w .state .config) b o (reads (w .state) b _ e)))
+      own-or-other peripheral
+      (λ (k : Channel). (o : Command k) (x : Change k) → Admits (w .state) b (commandOf k o)
+      → Did k (w .state .config) (part k (w .state)) (actOf k (w .state .config) o b) x → Seen (exchange b r) (exchanged w b (lift k (w .state) x)))
+      (λ o x e d. acted-seen b r (reads (w .state) b _ e) d)
+      (λ k n o x e d. acted-beside k n b r x (command-other k n (w .state .config) b o (reads (w .state) b _ e)))
       k o x e d
   case-seen (C.settles k o x e d) =
-      by-channel (λ (k : Channel). (o : Board k) (x : Change k) → Settled k (w .state .config) (part k (w .state)) o x → Seen (board k o) (settled k w o (lift k (w .state) x)))
+      own-or-other peripheral
+      (λ (k : Channel). (o : Board k) (x : Change k) → Settled k (w .state .config) (part k (w .state)) o x
+      → Seen (board k o) (settled k w o (lift k (w .state) x)))
       (λ o x d. settled-seen d) (λ k n o x d. settled-beside k n o x (N.settled k (w .state .config) (part k (w .state)) o x d)) k o x d
   case-seen (C.forbidden {b} {r} a v e f) = forbidden-seen b r
   case-seen (C.configured {b} {r} a v e f) = set-seen b r a v (reads (w .state) b _ e)

@@ -29,7 +29,7 @@ use Rattle.rules.specs.Statements.Wires as W
 use Rattle.rules.specs.Statements.Plans.{Did, Settled, Admits, commandOf, Shows, status as getsStatus, register}
 use Rattle.rules.specs.Statements.Cases as C
 use Rattle.rules.specs.Statements.Cases.{Case}
-use Rattle.rules.specs.Statements.Events.{accepted, ending, disables, registerOf}
+use Rattle.rules.specs.Statements.Events.{accepted, ending, registerOf}
 use Rattle.rules.specs.Statements.Fields.{byte, isChannel1, registerAt, registerValue}
 use Rattle.rules.specs.Statements.Reads as R
 use Rattle.rules.specs.Statements.Sizes.{isOf}
@@ -38,7 +38,7 @@ use Rattle.rules.specs.Statements.WireView.{WireMove, still, put, sent, 
 use Rattle.rules.specs.Proofs.Cases.{cases}
 use Rattle.rules.specs.Proofs.SoundParts.{parts}
 use Rattle.rules.specs.Proofs.Reads.{reads}
-use Rattle.rules.specs.Proofs.Events.{rising-edge, disabling}
+use Rattle.rules.specs.Proofs.Events.{rising-edge, no-disabling, disabling}
 use Rattle.rules.specs.Proofs.Lift.{same-turned, own-or-other, part-stays}
 use Rattle.rules.specs.Proofs.Effects.{command-own, above}
 use Rattle.rules.specs.Proofs.Whose.{own-opcode}
@@ -69,16 +69,13 @@ module _ (s : State) (c : Call) (o : Outcome) where
 
 -- an exchange that is no SET_CONFIGURATION
 module _ (s : State) (b r : List ℕ) (write : eqb (byte b 0) 0x22 ≡ false) where
-  no-disabling : disables wires s b ≡ false
-  no-disabling = ap (λ (t : Bool). t && (eqb (registerAt b) (registerOf wires) && (on wires (s .config) && eqb (registerValue b % 2) 0))) write
-
   by-byte : commandWire s b ≡ pick (eqb (byte b 0) 0x04) puts (pick (eqb (byte b 0) 0x05) gets idle)
   by-byte =
       ap (λ (t : Bool). pick (eqb (byte b 0) 0x04) puts (pick (eqb (byte b 0) 0x05) gets (pick t enables idle)))
       (ap (λ (t : Bool). t && (eqb (registerAt b) (registerOf wires) && (not (on wires (s .config)) && eqb (registerValue b % 2) 1))) write)
 
   quiet-exchange : (o : Outcome) → isChannel1 (byte b 0) ≡ false → wireEventOf s (exchange b r) o ≡ idle
-  quiet-exchange o e = quiet-wire s (exchange b r) o no-disabling (by-byte ∙ go (eqb (byte b 0) 0x04) (eqb (byte b 0) 0x05) e)
+  quiet-exchange o e = quiet-wire s (exchange b r) o (no-disabling wires s b write) (by-byte ∙ go (eqb (byte b 0) 0x04) (eqb (byte b 0) 0x05) e)
     where
       go : (t u : Bool) → (t || u) ≡ false → pick t puts (pick u gets idle) ≡ idle
       go true u h = absurd (true≢false h)
@@ -121,7 +118,7 @@ module _ (w : World) where
       → (o : Outcome) → accepted o ≡ true → wireEventOf (w .state) (exchange b r) o ≡ e
   command-event b r op e h n f o q =
       let k = not-22 b op h n in
-      accepted-wire (w .state) (exchange b r) o q (no-disabling (w .state) b r k) ∙ by-byte (w .state) b r k
+      accepted-wire (w .state) (exchange b r) o q (no-disabling wires (w .state) b k) ∙ by-byte (w .state) b r k
       ∙ ap (λ (x : ℕ). pick (eqb x 0x04) puts (pick (eqb x 0x05) gets idle)) h ∙ f
 
   -- ---- above all channels

@@ -2,7 +2,7 @@
 use Prim.Native.Nat.{ℕ}
 use Rattle.state.specs.Status.{status}
 use Rattle.state.specs.declared.State.{State}
-use Rattle.rules.specs.Rules.Channel.{Channel, Part, Board, Change, nextOf, outOf, part, put, settle}
+use Rattle.rules.specs.Rules.Channel.{Channel, Board, Change, nextOf, outOf, part, put, settle}
 use Rattle.rules.specs.declared.Response.the-variants.{Accept, NonFatal}
 use Rattle.rules.specs.declared.Body.{Body}
 use Rattle.rules.specs.declared.Body.the-variants as B

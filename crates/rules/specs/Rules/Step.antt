@@ -10,7 +10,7 @@ use Rattle.state.specs.declared.State.{State}
 use Rattle.state.specs.Layout.{stateLength}
 use Rattle.rules.specs.Rules.Reset.{Reset}
 use Rattle.rules.specs.Rules.Peripheral as P
-use Rattle.rules.specs.Rules.Channel.{Channel, peripheral, wires, Board, Part, part, reportOf, valueOf, given}
+use Rattle.rules.specs.Rules.Channel.{Channel, peripheral, wires, Board, part, reportOf, valueOf, given}
 use Rattle.rules.specs.Rules.Lift as L
 use Rattle.rules.specs.Rules.Exchange as E
 use Rattle.rules.specs.Rules.Reply.{replyBytes, keptBytes}

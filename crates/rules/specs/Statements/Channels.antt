@@ -2,7 +2,7 @@
 -- body and data of the channel's own; a call of the board is refused with its number alone, or is accepted. From the channels' laws; what
 -- follows from it holds for every channel.
 use Prim.Native.Nat.{ℕ, _≤_, _<_}
-use mathlib.Core.Bool.{Bool, true}
+use mathlib.Core.Bool.{true}
 use mathlib.Core.List.{[]}
 use mathlib.Core.Path.{_≡_}
 use Rattle.registers.specs.declared.Config.{Config}

@@ -18,7 +18,7 @@ use Rattle.state.specs.Status.{status}
 use Rattle.rules.specs.Rules.Peripheral.{nextSerial, succeeded, bytesFor}
 use Rattle.rules.specs.Rules.Channel.{peripheral}
 use Rattle.rules.specs.Rules.Reply.{closed, headerBytes, dataBytes}
-use Rattle.rules.specs.Rules.Step.{World, Call, exchange, board, lend, Outcome, step}
+use Rattle.rules.specs.Rules.Step.{World, Call, exchange, lend, Outcome, step}
 use Rattle.rules.specs.Statements.Reads.{requestIn}
 use Rattle.rules.specs.Statements.Requests.{Event, idle, asks, tells, gets, ends, lends, event, isStart, answersWith, held, serialOf, showsBit}
 

@@ -67,7 +67,7 @@ command-own (S.Peripheral.gets h) = rw h
 
 -- ---- the board's calls
 
-no-bytes : (l : List ℕ) → length l ≡ 0 → l ≡ []
+pub no-bytes : (l : List ℕ) → length l ≡ 0 → l ≡ []
 no-bytes [] e = refl
 no-bytes (x ∷ xs) e = absurd (omega arith)
 

@@ -16,7 +16,7 @@ use Rattle.command.specs.Facts.{IsBytes, SizeFits, PeripheralNumbers}
 use Rattle.command.specs.declared.Access.the-variants.{IoRead, IoWrite, MemoryRead, MemoryWrite}
 use Rattle.command.specs.declared.PeripheralCommand.{PeripheralCommand}
 use Rattle.command.specs.declared.PeripheralCommand.the-variants.{PutPc, GetPc, PutNp, Short}
-use Rattle.peripheral.specs.Queues.{idle, dropped}
+use Rattle.peripheral.specs.Queues.{idle}
 use Rattle.peripheral.specs.Status.{pcFree, npFree}
 use Rattle.peripheral.specs.Upward.{handed}
 use Rattle.peripheral.specs.declared.Kind.the-variants as R

@@ -1,0 +1,61 @@
+-- The words of the statements over runs, in bytes and numbers, for every world and call: so for every call of every run.
+use Prim.Native.Nat.{ℕ, _%_}
+use mathlib.Core.Bool.{true}
+use mathlib.Core.List.{List}
+use mathlib.Core.Path.{_≡_}
+use Rattle.registers.specs.declared.Config.{Config}
+use Rattle.peripheral.specs.declared.Np.the-variants.{Waiting}
+use Rattle.peripheral.specs.declared.Request.{Request}
+use Rattle.rules.specs.Rules.Reset.{Reset}
+use Rattle.rules.specs.Rules.Channel.{Channel, peripheral, wires}
+use Rattle.rules.specs.Rules.Step.{World, Call, reset, exchange, step}
+use Rattle.rules.specs.Statements.Fields.{byte, isNonPosted, accessAddress, accessLength, accessTag, requestKind, ioBytes, registerAt, registerValue}
+use Rattle.rules.specs.Statements.Events.{registerOf, ends}
+use Rattle.rules.specs.Statements.Requests.{asks, tells, gets, event, answersWith, held}
+use Rattle.rules.specs.Statements.Requests as R
+
+pub data GetPc : Call → Type 0 where
+  getPc : {b r : List ℕ} → byte b 0 ≡ 0x01 → GetPc (exchange b r)
+
+pub data NonPosted : Call → Type 0 where
+  nonPosted : {b r : List ℕ} → isNonPosted (byte b 0) ≡ true → NonPosted (exchange b r)
+
+pub data Answer : Call → Type 0 where
+  answer : {serial success : ℕ} {d : List ℕ} → Answer (answersWith serial success d)
+
+-- bit 0 of the channel's register
+abbrev pub enableBit : Channel → Config → ℕ
+enableBit peripheral c = c .r010 .value % 2
+enableBit wires c = c .r020 .value % 2
+
+-- "a start, an eSPI reset, a platform reset or a disabling": SET_CONFIGURATION of that register, its bit 0 going from 1 to 0
+pub data Ending (k : Channel) (c : Config) : Call → Type 0 where
+  byReset : {r : Reset} → Ending k c (reset r)
+  byWrite : {b r : List ℕ} → byte b 0 ≡ 0x22 → registerAt b ≡ registerOf k → enableBit k c ≡ 1 → registerValue b % 2 ≡ 0 → Ending k c (exchange b r)
+
+abbrev pub Exactly : Type 0 → Type 0 → Type 0
+Exactly A B = (A → B) × (B → A)
+
+abbrev pub Accepted : World → Call → Type 0
+Accepted w c = step w c .number ≡ 0
+
+-- a request as its command's bytes ask it
+pub record AsksFor (b : List ℕ) (q : Request) : Type 0 where
+  pub kind : q .kind ≡ requestKind (byte b 0)
+  pub address : q .address ≡ accessAddress b
+  pub length : q .length ≡ accessLength b
+  pub tag : q .tag ≡ accessTag b
+  pub bytes : q .bytes ≡ ioBytes b
+
+pub record HeldRequest (w : World) (b r : List ℕ) : Type 0 where
+  pub request : Request
+  pub waits : held (step w (exchange b r) .next) ≡ Waiting request
+  pub asks : AsksFor b request
+
+pub record ByteWords : Type 0 where
+  pub get : (w : World) (c : Call) → Exactly (event w c ≡ gets) (Accepted w c × GetPc c)
+  pub ask : (w : World) (c : Call) → Exactly (event w c ≡ asks) (Accepted w c × NonPosted c)
+  pub held : (w : World) (b r : List ℕ) → event w (exchange b r) ≡ asks → HeldRequest w b r
+  pub tell : (w : World) (c : Call) → Exactly (event w c ≡ tells) (Accepted w c × Answer c)
+  pub end : (w : World) (c : Call) → Exactly (event w c ≡ R.ends) (ends peripheral w c ≡ true)
+  pub ends : (k : Channel) (w : World) (c : Call) → Exactly (ends k w c ≡ true) (Accepted w c × Ending k (w .state .config) c)
