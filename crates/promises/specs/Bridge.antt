@@ -1,19 +1,18 @@
 -- Byte runs and runs of `step` side by side: each word of Words is that of the state's run.
-use Prim.Native.Nat.{ℕ}
 use mathlib.Core.Bool.{Bool, true}
 use mathlib.Core.List.{List, [], _∷_}
 use mathlib.Core.Path.{_≡_, refl, ap, _∙_, subst}
 use Rattle.base.specs.Pick.{and-left, and-right}
-use Rattle.rules.specs.Rules.Channel.{Channel, wires}
+use Rattle.rules.specs.Rules.Channel.{Channel}
 use Rattle.rules.specs.Rules.Step.{World, Call, step, run, handedOver, allHanded}
 use Rattle.rules.specs.Statements.Events.{ends, unended}
-use Rattle.rules.specs.Statements.Requests.{eventOf, event, isTell, isAsk, without, answers, requests, got, gotBy, sameStore, storeHandedOn, readHandedOn}
+use Rattle.rules.specs.Statements.Requests.{Event, eventOf, event, without, got, gotBy, sameStore, storeHandedOn, readHandedOn}
 use Rattle.rules.specs.Statements.Answers.{askedTimes}
 use Rattle.rules.specs.Statements.WireEvents.{wireEventOf, wireEvent, getsIn}
 use Rattle.promises.specs.ByteRuns.{ByteWorld, byteStep, byteRun}
 use Rattle.promises.specs.Lifted.{Holding, worldOf, lentReply, lentReport, Meets}
 use Rattle.promises.specs.LiftedProof.{call-lifts, run-lifts}
-use Rattle.promises.specs.Words.{stateIn, byteEnds, byteUnended, byteEvent, byteWireEvent, byteWithout, byteAnswers, byteRequests, byteGotBy, byteGot, byteAskedTimes, byteHandedOn, byteGetsIn}
+use Rattle.promises.specs.Words.{stateIn, byteEnds, byteUnended, byteEvent, byteWireEvent, byteWithout, byteGotBy, byteGot, byteAskedTimes, byteHandedOn, byteGetsIn}
 
 -- the bytes v hold the world w
 pub record Stands (v : ByteWorld) (w : World) : Type 0 where
@@ -59,12 +58,6 @@ module _ {v : ByteWorld} {w : World} (s : Stands v w) where
   unfolding byteWireEvent wireEventOf
   wire-at c b = rw (call-at c b .number, state-at)
 
-  pub answers-at : (c : Call) → handedOver c ≡ true → byteAnswers v c ≡ answers w c
-  answers-at c b = ap isTell (event-at c b)
-
-  pub requests-at : (c : Call) → handedOver c ≡ true → byteRequests v c ≡ requests w c
-  requests-at c b = ap isAsk (event-at c b)
-
   pub got-by : (c : Call) → handedOver c ≡ true → byteGotBy v c ≡ gotBy w c
   got-by c b = rw (event-at c b, call-at c b .said)
 
@@ -78,14 +71,10 @@ module _ {A : Type 0} (f : ByteWorld → List Call → A) (g : World → List Ca
   along {v} {w} s [] b = none v w
   along {v} {w} s (c ∷ cs) b = let h = head-handed c cs b in more v w s c cs h (along (next-at s c h) cs (tail-handed c cs b))
 
--- p of bytes is q of the world that they hold
-abbrev Matches : (ByteWorld → Call → Bool) → (World → Call → Bool) → Type 0
-Matches p q = (v : ByteWorld) (w : World) → Stands v w → (c : Call) → handedOver c ≡ true → p v c ≡ q w c
-
 module _ {v : ByteWorld} {w : World} (s : Stands v w) (cs : List Call) (b : allHanded cs ≡ true) where
-  pub without-at : (p : ByteWorld → Call → Bool) (q : World → Call → Bool) → Matches p q → byteWithout p v cs ≡ without q w cs
+  pub without-at : (p : Event → Bool) → byteWithout (λ v c. p (byteEvent v c)) v cs ≡ without (λ w c. p (event w c)) w cs
   unfolding byteWithout without
-  without-at p q a = along (byteWithout p) (without q) (λ v w. refl) (λ v w s c cs h e. rw (a v w s c h, e)) s cs b
+  without-at p = along (byteWithout (λ v c. p (byteEvent v c))) (without (λ w c. p (event w c))) (λ v w. refl) (λ v w s c cs h e. rw (event-at s c h, e)) s cs b
 
   pub unended-at : (k : Channel) → byteUnended k v cs ≡ unended k w cs
   unfolding byteWithout unended
@@ -97,17 +86,11 @@ module _ {v : ByteWorld} {w : World} (s : Stands v w) (cs : List Call) (b : allH
 
   pub asked-at : byteAskedTimes v cs ≡ askedTimes w cs
   unfolding byteAskedTimes askedTimes
-  asked-at = along byteAskedTimes askedTimes (λ v w. refl) (λ v w s c cs h e. rw (requests-at s c h, e)) s cs b
+  asked-at = along byteAskedTimes askedTimes (λ v w. refl) (λ v w s c cs h e. rw (event-at s c h, e)) s cs b
 
   pub gets-at : byteGetsIn v cs ≡ getsIn w cs
   unfolding byteGetsIn getsIn
   gets-at = along byteGetsIn getsIn (λ v w. refl) (λ v w s c cs h e. rw (wire-at s c h, e)) s cs b
-
-  pub unanswered-at : byteWithout byteAnswers v cs ≡ without answers w cs
-  unanswered-at = without-at byteAnswers answers (λ v w s. answers-at s)
-
-  pub unasked-at : byteWithout byteRequests v cs ≡ without requests w cs
-  unasked-at = without-at byteRequests requests (λ v w s. requests-at s)
 
 pub handed-on : {v : ByteWorld} {w : World} → Stands v w → (cs : List Call) → allHanded cs ≡ true → byteHandedOn v cs → readHandedOn w cs
 unfolding byteHandedOn storeHandedOn

@@ -4,3 +4,5 @@ pub mod LiftedProof
 pub mod Coincide
 pub mod Words
 pub mod Bridge
+pub mod Promises
+pub mod PromisesProof
