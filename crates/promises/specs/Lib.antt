@@ -1,8 +1,3 @@
 pub mod ByteRuns
-pub mod Lifted
-pub mod LiftedProof
-pub mod Coincide
-pub mod Words
-pub mod Bridge
-pub mod Promises
-pub mod PromisesProof
+pub mod Statements
+pub mod Proofs

@@ -17,7 +17,7 @@ use Rattle.rules.specs.Statements.WireEvents as W
 use Rattle.rules.specs.Statements.WireEvents.{WireEvent, acceptedWire, oneIfGets}
 use Rattle.rules.specs.Statements.Apart.{isCallOf, replyBut}
 use Rattle.promises.specs.ByteRuns.{ByteWorld, ByteOutcome, byteStep, byteRun}
-use Rattle.promises.specs.Lifted.{worldOf, valueOf, replyIn}
+use Rattle.promises.specs.Statements.Lifted.{worldOf, valueOf, replyIn}
 
 abbrev pub numberAt : ByteWorld → Call → ℕ
 numberAt v c = numberOf (byteStep v c .word)

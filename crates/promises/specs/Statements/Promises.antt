@@ -1,4 +1,4 @@
--- The promises over runs of the nine calls on bytes: P4, P14 to P17, P21 and P22. Statements only, proved in PromisesProof.
+-- The promises over runs of the nine calls on bytes: P4, P14 to P17, P21 and P22. Statements only, proved in Proofs/Promises.
 -- A run begins with bytes that hold a sound state (`Starts` of Lifted: any start gives such); commands are bytes below 256 (`handedOver`).
 use Prim.Native.Nat.{ℕ, _+_, _^_, _≤_, _<_}
 use mathlib.Core.Bool.{Bool, true, false}
@@ -29,8 +29,10 @@ use Rattle.rules.specs.Statements.WireEvents as W
 use Rattle.rules.specs.Statements.Bound.{Carries, groupByte}
 use Rattle.rules.specs.Statements.Apart.{others, Alike, SameButWires, SameButPeripheral}
 use Rattle.promises.specs.ByteRuns.{ByteWorld, ByteOutcome, byteStep, byteRun}
-use Rattle.promises.specs.Lifted.{Holding, worldOf, replyIn, lentReply, lentReport, Meets}
-use Rattle.promises.specs.Words.{numberAt, stateIn, serialIn, byteSince, byteEnds, byteUnended, byteEvent, byteWireEvent, byteWithout, byteAnswers, byteRequests, byteGotBy, byteGot, byteAskedTimes, byteHandedOn, byteGetsIn, byteSeeing}
+use Rattle.promises.specs.Statements.Lifted.{Holding, worldOf, replyIn, lentReply, lentReport, Meets}
+use Rattle.promises.specs.Statements.Words.{numberAt, stateIn, serialIn, byteSince, byteEnds, byteUnended, byteEvent, byteWireEvent}
+use Rattle.promises.specs.Statements.Words.{byteWithout, byteAnswers, byteRequests, byteGotBy, byteGot, byteAskedTimes, byteHandedOn}
+use Rattle.promises.specs.Statements.Words.{byteGetsIn, byteSeeing}
 
 -- ---- the bridge: at every place of a run, what a statement over `step` and `run` says is said of the bytes
 
@@ -101,8 +103,10 @@ pub record Delivers (N : ℕ) (body : ℕ → List ℕ) (v : ByteWorld) (cs : Li
       → writeLength ≤ length (byteRun v cs .write) → readLength ≤ length (byteRun v cs .read) → crcFine (stateIn (byteRun v cs)) (0x01 ∷ check ∷ []) ≡ true
       → numberAt (byteRun v cs) (exchange (0x01 ∷ check ∷ []) reply) ≡ 0
   -- (d), (e)
-  pub stands : (c : Call) → handedOver c ≡ true → length (byteGot v cs) + length (byteGotBy (byteRun v cs) c) < N → showsBit 4 1 (replyIn (byteStep (byteRun v cs) c))
-  pub held : (c : Call) → handedOver c ≡ true → length (byteGot v cs) + length (byteGotBy (byteRun v cs) c) < N → showsBit 1 0 (replyIn (byteStep (byteRun v cs) c))
+  pub stands : (c : Call) → handedOver c ≡ true → length (byteGot v cs) + length (byteGotBy (byteRun v cs) c) < N
+      → showsBit 4 1 (replyIn (byteStep (byteRun v cs) c))
+  pub held : (c : Call) → handedOver c ≡ true → length (byteGot v cs) + length (byteGotBy (byteRun v cs) c) < N
+      → showsBit 1 0 (replyIn (byteStep (byteRun v cs) c))
   pub last : (c : Call) → handedOver c ≡ true → byteEvent (byteRun v cs) c ≡ gets → length (byteGot v cs) + 1 ≡ N → Over (byteStep (byteRun v cs) c)
 
 pub record HandsOver (A L P tag : ℕ) (d : List ℕ) (v : ByteWorld) (cs : List Call) : Type 0 where
@@ -136,7 +140,8 @@ pub record HeldAs (v : ByteWorld) (b r : List ℕ) (xs : List Call) : Type 0 whe
   pub serial : serialIn (byteSince v (exchange b r) xs) ≡ serialIn (byteStep v (exchange b r) .next)
   pub looks : (report : List ℕ) → lookLength ≤ length report → byteStep (byteSince v (exchange b r) xs) (board peripheral (look report)) .word ≡ 0
   pub yields : (report : List ℕ) → lookLength ≤ length report
-      → byteStep (byteSince v (exchange b r) xs) (board peripheral (look report)) .report ≡ over (lookBytes b (serialIn (byteStep v (exchange b r) .next))) report
+      → byteStep (byteSince v (exchange b r) xs) (board peripheral (look report)) .report
+      ≡ over (lookBytes b (serialIn (byteStep v (exchange b r) .next))) report
 
 abbrev pub RequestHeld : Type 0
 RequestHeld = (v : ByteWorld) (b r : List ℕ) (xs : List Call) → Asked v b r xs → HeldAs v b r xs
@@ -203,7 +208,8 @@ GetPcRefused = (v : ByteWorld) → Holding v → (e : Call) (cs : List Call) →
 
 -- an answer is accepted only for the held unanswered request, whose serial it names
 abbrev pub AnswerForHeld : Type 0
-AnswerForHeld = (v : ByteWorld) → Holding v → (serial success : ℕ) (d : List ℕ) → byteEvent v (answersWith serial success d) ≡ tells → ForHeld (worldOf v) serial
+AnswerForHeld = (v : ByteWorld) → Holding v → (serial success : ℕ) (d : List ℕ) → byteEvent v (answersWith serial success d) ≡ tells
+    → ForHeld (worldOf v) serial
 
 abbrev pub LateAnswer : Type 0
 LateAnswer = (v : ByteWorld) → Holding v → (q : Call) (cs : List Call) → allHanded (q ∷ cs) ≡ true → byteEvent v q ≡ asks → noStart cs ≡ true
@@ -212,7 +218,8 @@ LateAnswer = (v : ByteWorld) → Holding v → (q : Call) (cs : List Call) → a
     → byteStep (byteSince v q cs) (answersWith (serialIn (byteStep v q .next)) success d) .word ≡ 20
 
 abbrev pub DroppedAnswer : Type 0
-DroppedAnswer = (v : ByteWorld) → Holding v → (q : Call) (xs : List Call) (e : Call) (cs : List Call) → allHanded (q ∷ xs ++ e ∷ cs) ≡ true → byteEvent v q ≡ asks
+DroppedAnswer = (v : ByteWorld) → Holding v → (q : Call) (xs : List Call) (e : Call) (cs : List Call) → allHanded (q ∷ xs ++ e ∷ cs) ≡ true
+    → byteEvent v q ≡ asks
     → byteEnds peripheral (byteSince v q xs) e ≡ true → noStart (xs ++ e ∷ cs) ≡ true → byteAskedTimes (byteStep v q .next) (xs ++ e ∷ cs) < 2 ^ 32
     → (success : ℕ) (d : List ℕ) → readLength ≤ length (byteSince v q (xs ++ e ∷ cs) .read)
     → byteStep (byteSince v q (xs ++ e ∷ cs)) (answersWith (serialIn (byteStep v q .next)) success d) .word ≡ 20

@@ -31,12 +31,13 @@ use Rattle.rules.specs.Proofs.Bound.{sent-by-the-third}
 use Rattle.rules.specs.Proofs.Apart as A′
 use Rattle.rules.specs.Proofs.Refusals.{past-over}
 use Rattle.promises.specs.ByteRuns.{ByteWorld, ByteOutcome, byteStep, byteRun}
-use Rattle.promises.specs.Lifted.{Holding, worldOf, valueOf, replyIn, lentReply, lentReport, Meets}
-use Rattle.promises.specs.LiftedProof.{call-lifts}
-use Rattle.promises.specs.Words.{stateIn, serialIn, byteSince, byteEvent, byteWithout, byteAnswers, byteGot, byteGotBy, ByteSeen, byteSeen, byteSeeing}
-use Rattle.promises.specs.Promises as P
-use Rattle.promises.specs.Promises.{Accepts, InBytes, Over, Delivers, Asked, Waits, Answered, ToldIn, AskedIn, RunsAlike, answeredAt}
-use Rattle.promises.specs.Bridge.{Stands, stands, head-handed, tail-handed, state-at, call-at, next-at, run-at, ends-at, event-at, wire-at, got-by, without-at, unended-at, got-at, asked-at, gets-at, handed-on}
+use Rattle.promises.specs.Statements.Lifted.{Holding, worldOf, valueOf, replyIn, lentReply, lentReport, Meets}
+use Rattle.promises.specs.Proofs.Lifted.{call-lifts}
+use Rattle.promises.specs.Statements.Words.{stateIn, serialIn, byteSince, byteWithout, byteAnswers, byteGot, byteGotBy, ByteSeen, byteSeen, byteSeeing}
+use Rattle.promises.specs.Statements.Promises as P
+use Rattle.promises.specs.Statements.Promises.{Accepts, InBytes, Over, Delivers, Asked, Waits, Answered, ToldIn, AskedIn, RunsAlike, answeredAt}
+use Rattle.promises.specs.Proofs.Bridge.{Stands, stands, head-handed, tail-handed, state-at, call-at, next-at, run-at, ends-at, event-at}
+use Rattle.promises.specs.Proofs.Bridge.{wire-at, got-by, without-at, unended-at, got-at, asked-at, gets-at, handed-on}
 
 pub bridged : P.Bridged
 bridged v h cs b =
@@ -353,7 +354,8 @@ late v h q cs b k ns lo hi success d l =
     let n = asked-at s cs hb in
     let p = run-at s cs hb in
     answer-word p s success d
-    (serials-told .late (worldOf v) q (sym (event-at (stands h) q hq) ∙ k) cs ns (subst (λ (m : ℕ). 0 < m) n lo) (subst (λ (m : ℕ). m < 2 ^ 32) n hi) success d (read-at p l))
+    (serials-told .late (worldOf v) q (sym (event-at (stands h) q hq) ∙ k) cs ns
+    (subst (λ (m : ℕ). 0 < m) n lo) (subst (λ (m : ℕ). m < 2 ^ 32) n hi) success d (read-at p l))
 
 pub dropped : P.DroppedAnswer
 dropped v h q xs e cs b k ke ns hi success d l =
@@ -364,14 +366,16 @@ dropped v h q xs e cs b k ke ns hi success d l =
     let p = run-at s (xs ++ e ∷ cs) hb in
     answer-word p s success d
     (serials-told .dropped (worldOf v) q (sym (event-at (stands h) q hq) ∙ k) xs e cs
-    (sym (ends-at (run-at s xs (t .0)) peripheral e (head-handed e cs (t .1))) ∙ ke) ns (subst (λ (m : ℕ). m < 2 ^ 32) (asked-at s (xs ++ e ∷ cs) hb) hi) success d (read-at p l))
+    (sym (ends-at (run-at s xs (t .0)) peripheral e (head-handed e cs (t .1))) ∙ ke) ns
+    (subst (λ (m : ℕ). m < 2 ^ 32) (asked-at s (xs ++ e ∷ cs) hb) hi) success d (read-at p l))
 
 -- ---- wires
 
 pub third : P.SentByTheThird
 third v h g lo hi m cs b go n =
     let s = stands h in
-    let t = sent-by-the-third (worldOf v) (holds-sound (v .state) (h .long) (h .passes)) g lo hi m cs b (sym (unended-at s cs b wires) ∙ go) (subst (λ (k : ℕ). 3 ≤ k) (gets-at s cs b) n) in
+    let good = holds-sound (v .state) (h .long) (h .passes) in
+    let t = sent-by-the-third (worldOf v) good g lo hi m cs b (sym (unended-at s cs b wires) ∙ go) (subst (λ (k : ℕ). 3 ≤ k) (gets-at s cs b) n) in
     let x = split-handed (t .before) (t .call ∷ t .after) (t .split) b in
     let p = run-at s (t .before) (x .0) in
     let hc = head-handed (t .call) (t .after) (x .1) in
@@ -408,7 +412,8 @@ module _ (x : Channel) where
   unfolding seen
   seen-at c {o} {p} m =
       let short : length (p .reply) ≤ p .value = rw (← m .said, length-take, m .value) (omega arith) in
-      let past : drop (valueOf (o .word)) (o .reply) ≡ drop (p .value) (lentReply c) = rw (m .value, m .reply) (past-over (p .reply) (lentReply c) (p .value) short) in
+      let past : drop (valueOf (o .word)) (o .reply) ≡ drop (p .value) (lentReply c) =
+      rw (m .value, m .reply) (past-over (p .reply) (lentReply c) (p .value) short) in
       rw (past, m .said, m .word, m .report)
 
   seeing-at : {v : ByteWorld} {w : World} → Stands v w → (cs : List Call) → allHanded cs ≡ true → byteSeeing x v cs ≡ dressed (others x cs) (seeing x w cs)

@@ -10,9 +10,10 @@ use Rattle.rules.specs.Statements.Requests.{Event, eventOf, event, without, got
 use Rattle.rules.specs.Statements.Answers.{askedTimes}
 use Rattle.rules.specs.Statements.WireEvents.{wireEventOf, wireEvent, getsIn}
 use Rattle.promises.specs.ByteRuns.{ByteWorld, byteStep, byteRun}
-use Rattle.promises.specs.Lifted.{Holding, worldOf, lentReply, lentReport, Meets}
-use Rattle.promises.specs.LiftedProof.{call-lifts, run-lifts}
-use Rattle.promises.specs.Words.{stateIn, byteEnds, byteUnended, byteEvent, byteWireEvent, byteWithout, byteGotBy, byteGot, byteAskedTimes, byteHandedOn, byteGetsIn}
+use Rattle.promises.specs.Statements.Lifted.{Holding, worldOf, lentReply, lentReport, Meets}
+use Rattle.promises.specs.Proofs.Lifted.{call-lifts, run-lifts}
+use Rattle.promises.specs.Statements.Words.{stateIn, byteEnds, byteUnended, byteEvent, byteWireEvent, byteWithout, byteGotBy, byteGot}
+use Rattle.promises.specs.Statements.Words.{byteAskedTimes, byteHandedOn, byteGetsIn}
 
 -- the bytes v hold the world w
 pub record Stands (v : ByteWorld) (w : World) : Type 0 where
