@@ -1,4 +1,4 @@
--- The promises over runs of the nine calls on bytes: P4, P14 to P17, P21 and P22. Statements only, proved in Proofs/Promises.
+-- The promises over runs of the nine calls on bytes: P4, the words of events, P14 to P17, P21, and P22 for every channel. Proved in Proofs/Promises.
 -- A run begins with bytes that hold a sound state (`Starts` of Lifted: any start gives such); commands are bytes below 256 (`handedOver`).
 use Prim.Native.Nat.{ℕ, _+_, _^_, _≤_, _<_}
 use mathlib.Core.Bool.{Bool, true, false}
