@@ -7,7 +7,8 @@ use Rattle.rules.specs.Rules.Peripheral as P
 use Rattle.rules.specs.Rules.Wires as W
 use Rattle.rules.specs.Rules.Channel.{Channel, peripheral, wires, Board}
 use Rattle.rules.specs.Rules.Step.{Call, reset, exchange, board, short, lend}
-use Rattle.rules.specs.Rules.Calls.{Done, Exchanged, Stored, Looked, startCall, espiResetCall, platformResetCall, exchangeCall, lookCall, answerCall, takeWriteCall, setWireCall, readWireCall}
+use Rattle.rules.specs.Rules.Calls.{Done, Exchanged, Stored, Looked, startCall, espiResetCall, platformResetCall, exchangeCall, lookCall, answerCall}
+use Rattle.rules.specs.Rules.Calls.{takeWriteCall, setWireCall, readWireCall}
 
 pub record ByteWorld : Type 0 where
   pub state : List ℕ

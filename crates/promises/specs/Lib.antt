@@ -1,4 +1,3 @@
 pub mod ByteRuns
-pub mod Lifted
-pub mod LiftedProof
-pub mod Coincide
+pub mod Statements
+pub mod Proofs

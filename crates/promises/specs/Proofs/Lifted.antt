@@ -21,14 +21,14 @@ use Rattle.rules.specs.Rules.Reset as R
 use Rattle.rules.specs.Rules.Reset.{Reset}
 use Rattle.rules.specs.Rules.Peripheral as P
 use Rattle.rules.specs.Rules.Wires as W
-use Rattle.rules.specs.Rules.Channel.{Channel, peripheral, wires, Board, part, reportOf}
+use Rattle.rules.specs.Rules.Channel.{Channel, peripheral, wires, Board}
 use Rattle.rules.specs.Rules.Lift as L
 use Rattle.rules.specs.Rules.Exchange as E
 use Rattle.rules.specs.Rules.Reply.{replyBytes, keptBytes}
 use Rattle.rules.specs.Rules.Step as S
 use Rattle.rules.specs.Rules.Step.{World, Call, Outcome, step, run, handedOver, allHanded, ofEngine}
 use Rattle.rules.specs.Rules.Calls as X
-use Rattle.rules.specs.Rules.Calls.{word, kept, Done, Exchanged, Stored, Looked}
+use Rattle.rules.specs.Rules.Calls.{word, kept, Exchanged, Stored, Looked}
 use Rattle.rules.specs.Proofs.Peripheral.{look-is}
 use Rattle.rules.specs.Proofs.Wires.{read-is}
 use Rattle.rules.specs.Proofs.Sound.{exchange-sound, board-sound, reset-sound, fresh-sound}
@@ -37,8 +37,9 @@ use Rattle.rules.specs.Proofs.WholeRefusals.{number-word, planned-small}
 use Rattle.rules.specs.declared.Kept.{Kept}
 use Rattle.rules.specs.declared.Kept.the-variants as K
 use Rattle.rules.specs.declared.Plan.{Plan}
-use Rattle.promises.specs.ByteRuns.{ByteWorld, ByteOutcome, afterState, afterExchange, afterLook, afterAnswer, afterTake, peripheralBytes, wiresBytes, boardBytes, resetBytes, lent, byteStep, byteRun}
-use Rattle.promises.specs.Lifted.{Holding, worldOf, valueOf, lentReply, lentReport, Meets, Agrees, RunHolds, Starts, Lifted}
+use Rattle.promises.specs.ByteRuns.{ByteWorld, ByteOutcome, afterState, afterExchange, afterLook, afterAnswer, afterTake, peripheralBytes}
+use Rattle.promises.specs.ByteRuns.{wiresBytes, boardBytes, resetBytes, lent, byteStep, byteRun}
+use Rattle.promises.specs.Statements.Lifted.{Holding, worldOf, valueOf, lentReply, lentReport, Meets, Agrees, RunHolds, Starts, Lifted}
 
 -- ---- two chains of the same guards
 
@@ -80,9 +81,11 @@ meets {reply} {report} {x} {o} e small r t p w h =
 -- the bytes after a call hold the state that it left
 held-after : (st write read : List ℕ) (s : State) → stateLength ≤ length st → Sound s → Holding (record { state = kept s st; write = write; read = read })
 held-after st write read s long good =
-    record { long = subst (λ (n : ℕ). stateLength ≤ n) (sym (length-over (packed s) st (subst (λ (n : ℕ). n ≤ length st) (sym (packed-length s)) long))) long; passes = holds-packed s st good }
+    let fits = subst (λ (n : ℕ). n ≤ length st) (sym (packed-length s)) long in
+    record { long = subst (λ (n : ℕ). stateLength ≤ n) (sym (length-over (packed s) st fits)) long; passes = holds-packed s st good }
 
-world-after : (st write read : List ℕ) (s : State) → Sound s → worldOf (record { state = kept s st; write = write; read = read }) ≡ record { state = s; write = write; read = read }
+world-after : (st write read : List ℕ) (s : State) → Sound s
+    → worldOf (record { state = kept s st; write = write; read = read }) ≡ record { state = s; write = write; read = read }
 world-after st write read s good = ap (λ (t : State). record { state = t; write = write; read = read }) (unpacked-over s st good)
 
 no-bytes : (n : ℕ) → take {A = ℕ} n [] ≡ []
@@ -150,7 +153,8 @@ module _ (v : ByteWorld) (h : Holding v) where
       rw (long, pass)
       (three (λ (x : Exchanged) (o : Outcome). Meets reply [] (afterExchange v x) o)
       (short reply [])
-      (meets refl (planned-small (p .number) (unpacked st) p (exchange-turned (unpacked st) command)) refl (take-over r reply (length r) refl) (sym (over-none []))
+      (meets refl (planned-small (p .number) (unpacked st) p (exchange-turned (unpacked st) command)) refl
+      (take-over r reply (length r) refl) (sym (over-none []))
       (world-after st w (v .read) (p .next) sound) (held-after st w (v .read) (p .next) (h .long) sound))
       (ltb (length reply) S.replyLength) (ltb (length (v .write)) S.writeLength) (ltb (length (v .read)) S.readLength))
 
@@ -169,7 +173,8 @@ module _ (v : ByteWorld) (h : Holding v) where
       let q = unpacked st .peripheral in
       rw (long, pass, look-is (unpacked st .config) q report)
       (one (λ (x : Looked) (o : Outcome). Meets [] report (afterLook v x) o) (short [] report)
-      (meets (plain _) (by-request (q .request)) (sym (over-none [])) refl refl (ap (λ (l : List ℕ). record { state = unpacked st; write = v .write; read = l }) (sym (over-none (v .read)))) same)
+      (meets (plain _) (by-request (q .request)) (sym (over-none [])) refl refl
+      (ap (λ (l : List ℕ). record { state = unpacked st; write = v .write; read = l }) (sym (over-none (v .read)))) same)
       (ltb (length report) S.lookLength))
     where
       by-request : (np : Np) → ltb (P.lookNumber np) 256 ≡ true
@@ -185,7 +190,8 @@ module _ (v : ByteWorld) (h : Holding v) where
       let p = L.settled peripheral (unpacked st) o in
       rw (long, pass)
       (one (λ (x : Stored) (z : Outcome). Meets [] [] (afterAnswer v x) z) (short [] [])
-      (board st (h .long) (v .write) (over (keptBytes (p .kept) bytes) (v .read)) [] [] (p .number) (p .next) (small peripheral o) (board-sound good peripheral o))
+      (board st (h .long) (v .write) (over (keptBytes (p .kept) bytes) (v .read)) [] [] (p .number) (p .next)
+      (small peripheral o) (board-sound good peripheral o))
       (ltb (length (v .read)) S.readLength))
 
   take-lifts : (report : List ℕ) → Agrees v (S.board peripheral (P.takeWrite report))
@@ -195,7 +201,8 @@ module _ (v : ByteWorld) (h : Holding v) where
       let p = L.settled peripheral (unpacked st) o in
       rw (long, pass, none-kept (p .kept) (v .read))
       (two (λ (x : Stored) (z : Outcome). Meets [] report (afterTake v x) z) (short [] report)
-      (board st (h .long) (v .write) (v .read) report (P.takeReport (unpacked st .peripheral .write)) (p .number) (p .next) (small peripheral o) (board-sound good peripheral o))
+      (board st (h .long) (v .write) (v .read) report (P.takeReport (unpacked st .peripheral .write)) (p .number) (p .next)
+      (small peripheral o) (board-sound good peripheral o))
       (ltb (length (v .write)) S.writeLength) (ltb (length report) S.takeLength))
 
   set-lifts : (index bit value : ℕ) → Agrees v (S.board wires (W.setWire index bit value))
@@ -210,7 +217,8 @@ module _ (v : ByteWorld) (h : Holding v) where
   unfolding byteStep step X.readWireCall S.settled L.lift over
   read-lifts index bit =
       let value = W.readValue (unpacked st .wires) index bit in
-      rw (long, pass, read-is (unpacked st .config) (unpacked st .wires) index bit) (meets refl (by-test (definedBit index bit)) refl (no-bytes value) refl refl same)
+      rw (long, pass, read-is (unpacked st .config) (unpacked st .wires) index bit)
+      (meets refl (by-test (definedBit index bit)) refl (no-bytes value) refl refl same)
     where
       by-test : (t : Bool) → ltb (pick t 0 22) 256 ≡ true
       by-test true = refl
@@ -242,7 +250,8 @@ module _ (v : ByteWorld) (h : Holding v) where
     writeSame : x .next .write ≡ v .write
     readSame : x .next .read ≡ v .read
 
-  ten : {c : Call} {st : List ℕ} → Ten c (record { word = 10; reply = lentReply c; report = lentReport c; next = record { state = st; write = v .write; read = v .read } })
+  ten : {c : Call} {st : List ℕ}
+      → Ten c (record { word = 10; reply = lentReply c; report = lentReport c; next = record { state = st; write = v .write; read = v .read } })
   ten = record { isTen = refl; replySame = refl; reportSame = refl; writeSame = refl; readSame = refl }
 
   module _ (state : List ℕ) (few : ltb (length state) stateLength ≡ true) where

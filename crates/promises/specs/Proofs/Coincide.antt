@@ -3,7 +3,8 @@
 use Prim.Native.Nat.{ℕ}
 use mathlib.Core.List.{List}
 use mathlib.Core.Path.{_≡_, sym, ap, _∙_}
-use Rattle.rules.specs.Rules.Calls.{Done, Exchanged, Stored, Looked, done, exchanged, stored, looked, startCall, espiResetCall, platformResetCall, exchangeCall, lookCall, answerCall, takeWriteCall, setWireCall, readWireCall}
+use Rattle.rules.specs.Rules.Calls.{Done, Exchanged, Stored, Looked, done, exchanged, stored, looked, startCall, espiResetCall, platformResetCall}
+use Rattle.rules.specs.Rules.Calls.{exchangeCall, lookCall, answerCall, takeWriteCall, setWireCall, readWireCall}
 
 pub coincide : {A : Type 0} {x y z : A} → x ≡ z → y ≡ z → x ≡ y
 coincide e f = e ∙ sym f
@@ -22,7 +23,8 @@ module _ {n m : ℕ} {a b : List ℕ} where
   pub platform-reset-coincides : (st : List ℕ) → done n a ≡ platformResetCall st → done m b ≡ platformResetCall st → (n ≡ m) × (a ≡ b)
   platform-reset-coincides st = one-done (platformResetCall st)
 
-  pub set-wire-coincides : (st : List ℕ) (index bit value : ℕ) → done n a ≡ setWireCall st index bit value → done m b ≡ setWireCall st index bit value → (n ≡ m) × (a ≡ b)
+  pub set-wire-coincides : (st : List ℕ) (index bit value : ℕ)
+      → done n a ≡ setWireCall st index bit value → done m b ≡ setWireCall st index bit value → (n ≡ m) × (a ≡ b)
   set-wire-coincides st index bit value = one-done (setWireCall st index bit value)
 
   pub look-coincides : (st report : List ℕ) → looked n a ≡ lookCall st report → looked m b ≡ lookCall st report → (n ≡ m) × (a ≡ b)

@@ -1,0 +1,4 @@
+pub mod Lifted
+pub mod Coincide
+pub mod Bridge
+pub mod Promises

@@ -1,0 +1,3 @@
+pub mod Lifted
+pub mod Words
+pub mod Promises

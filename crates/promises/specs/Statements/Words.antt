@@ -1,0 +1,109 @@
+-- The words of the promises over bytes: those of Events, Requests, Answers, WireEvents and Apart, read off words, replies and state bytes.
+use Prim.Native.Nat.{ℕ, _+_}
+use mathlib.Core.Bool.{Bool, true, _&&_, not}
+use mathlib.Core.List.{List, [], _∷_, _++_}
+use lib.Dec.{eqb}
+use lib.ListN.{drop}
+use Rattle.base.specs.Pick.{pick}
+use Rattle.state.specs.Layout.{unpacked}
+use Rattle.state.specs.declared.State.{State}
+use Rattle.rules.specs.Rules.Channel.{Channel, peripheral, wires}
+use Rattle.rules.specs.Rules.Step.{World, Call}
+use Rattle.rules.specs.Statements.Refusals.{numberOf}
+use Rattle.rules.specs.Statements.Events.{ending}
+use Rattle.rules.specs.Statements.Requests as R
+use Rattle.rules.specs.Statements.Requests.{Event, acceptedEvent, isTell, isAsk, completionIn, sameStore}
+use Rattle.rules.specs.Statements.WireEvents as W
+use Rattle.rules.specs.Statements.WireEvents.{WireEvent, acceptedWire, oneIfGets}
+use Rattle.rules.specs.Statements.Apart.{isCallOf, replyBut}
+use Rattle.promises.specs.ByteRuns.{ByteWorld, ByteOutcome, byteStep, byteRun}
+use Rattle.promises.specs.Statements.Lifted.{worldOf, valueOf, replyIn}
+
+abbrev pub numberAt : ByteWorld → Call → ℕ
+numberAt v c = numberOf (byteStep v c .word)
+
+abbrev pub byteAccepted : ByteWorld → Call → Bool
+byteAccepted v c = eqb (numberAt v c) 0
+
+abbrev pub stateIn : ByteWorld → State
+stateIn v = unpacked (v .state)
+
+-- the last serial given, as the state bytes have it
+abbrev pub serialIn : ByteWorld → ℕ
+serialIn v = stateIn v .peripheral .serial
+
+-- the bytes after a call and the calls since
+abbrev pub byteSince : ByteWorld → Call → List Call → ByteWorld
+byteSince v c cs = byteRun (byteStep v c .next) cs
+
+-- no call of the run is such
+unfoldable pub byteWithout : (ByteWorld → Call → Bool) → ByteWorld → List Call → Bool
+byteWithout p v [] = true
+byteWithout p v (c ∷ cs) = not (p v c) && byteWithout p (byteStep v c .next) cs
+
+-- ---- events: refused calls are none; of the state only bit 0 of the channel's register is read, for a disabling
+
+-- "a start, an eSPI reset, a platform reset or a disabling of [the] channel, refused ones apart"
+abbrev pub byteEnds : Channel → ByteWorld → Call → Bool
+byteEnds k v c = byteAccepted v c && ending k (stateIn v) c
+
+abbrev pub byteUnended : Channel → ByteWorld → List Call → Bool
+byteUnended k = byteWithout (byteEnds k)
+
+-- what a call was for channel 0
+unfoldable pub byteEvent : ByteWorld → Call → Event
+byteEvent v c = pick (byteEnds peripheral v c) R.ends (pick (byteAccepted v c) (acceptedEvent c) R.idle)
+
+-- and for the wires; here an enabling reads bit 0 of 020h too
+unfoldable pub byteWireEvent : ByteWorld → Call → WireEvent
+byteWireEvent v c = pick (byteEnds wires v c) W.ends (pick (byteAccepted v c) (acceptedWire (stateIn v) c) W.idle)
+
+-- ---- runs of channel 0
+
+-- an accepted answer, an accepted request
+abbrev pub byteAnswers : ByteWorld → Call → Bool
+byteAnswers v c = isTell (byteEvent v c)
+
+abbrev pub byteRequests : ByteWorld → Call → Bool
+byteRequests v c = isAsk (byteEvent v c)
+
+-- the reply of an accepted GET_PC, and those of a run in order
+abbrev pub byteGotBy : ByteWorld → Call → List (List ℕ)
+byteGotBy v c = completionIn (byteEvent v c) (replyIn (byteStep v c))
+
+unfoldable pub byteGot : ByteWorld → List Call → List (List ℕ)
+byteGot v [] = []
+byteGot v (c ∷ cs) = byteGotBy v c ++ byteGot (byteStep v c .next) cs
+
+-- how many requests a run accepts
+unfoldable pub byteAskedTimes : ByteWorld → List Call → ℕ
+byteAskedTimes v [] = 0
+byteAskedTimes v (c ∷ cs) = pick (byteRequests v c) 1 0 + byteAskedTimes (byteStep v c .next) cs
+
+-- a lend hands on the read store as it was
+unfoldable pub byteHandedOn : ByteWorld → List Call → Type 0
+byteHandedOn v [] = Unit {0}
+byteHandedOn v (c ∷ cs) = sameStore (λ (w : World). w .read) (worldOf v) c × byteHandedOn (byteStep v c .next) cs
+
+-- ---- runs of the wires: the accepted GET_VWIREs
+
+unfoldable pub byteGetsIn : ByteWorld → List Call → ℕ
+byteGetsIn v [] = 0
+byteGetsIn v (c ∷ cs) = oneIfGets (byteWireEvent v c) + byteGetsIn (byteStep v c .next) cs
+
+-- ---- what a call shows its caller but for x's status bits and the CRC byte: word, reply, the reply store past it, the report
+
+pub record ByteSeen : Type 0 where
+  pub word : ℕ
+  pub reply : List ℕ
+  pub past : List ℕ
+  pub report : List ℕ
+
+abbrev pub byteSeen : Channel → ByteOutcome → ByteSeen
+byteSeen x o = record { word = o .word; reply = replyBut x (replyIn o); past = drop (valueOf (o .word)) (o .reply); report = o .report }
+
+-- what the calls of a run show, x's own apart
+unfoldable pub byteSeeing : Channel → ByteWorld → List Call → List ByteSeen
+byteSeeing x v [] = []
+byteSeeing x v (c ∷ cs) =
+    pick (isCallOf x c) (byteSeeing x (byteStep v c .next) cs) (byteSeen x (byteStep v c) ∷ byteSeeing x (byteStep v c .next) cs)
