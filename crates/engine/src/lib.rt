@@ -118,7 +118,10 @@ fn decided(s: State, o: Command, b: &[u8]) -> Plan
 {
     let c = s.config;
     match o {
-        Command::Peripheral(k) => lift_peripheral(s, peripheral_channel::decide(c, s.peripheral, k, b)),
+        Command::Peripheral(k) => lift_peripheral(
+            s,
+            peripheral_channel::decide(c, s.peripheral, k, b),
+        ),
         Command::Wires(k) => lift_wires(s, wires_channel::decide(c, s.wires, k, b)),
         Command::GetConfiguration(a) => shown(Body::Word(c.read(a)), s),
         Command::SetConfiguration(a, v) => configuration::set(s, a, v),
@@ -191,7 +194,10 @@ pub fn platform_reset(s: State) -> State
 pub fn answer(s: State, serial: u32, success: bool, n: usize) -> Plan
     ensures { λ r. ⌜ r ≡ lift peripheral s (answerTo (s .peripheral) serial success n) ⌝ }
 {
-    lift_peripheral(s, peripheral_channel::answer_to(s.peripheral, serial, success, n))
+    lift_peripheral(
+        s,
+        peripheral_channel::answer_to(s.peripheral, serial, success, n),
+    )
 }
 
 // The board takes the held write.

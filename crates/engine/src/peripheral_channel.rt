@@ -1,9 +1,9 @@
 // Channel 0: its commands and the board's calls, over the configuration and the channel's own part.
+use crate::out;
 use command::Access;
 use command::Head;
 use command::PeripheralCommand;
 use command::Span;
-use crate::out;
 use peripheral::Kind;
 use peripheral::Next;
 use peripheral::Np;

@@ -23,6 +23,11 @@ const LOOK_REPORT: usize = 19;
 
 const TAKE_REPORT: usize = 10;
 
+// Numbers that a call answers by itself, as words.
+const NO_SUCH_WIRE: u32 = 22;
+
+const NOTHING_THERE: u32 = 23;
+
 #[no_mangle]
 pub extern "C" fn espi_start(state: &mut [u8]) -> u32
     ensures { λ r. ⌜ done r (now (state .exit)) ≡ startCall (now (state .entry)) ⌝ }
@@ -136,13 +141,13 @@ pub extern "C" fn espi_look(state: &[u8], report: &mut [u8]) -> u32
     let p = s.peripheral;
     let n = p.request;
     match n {
-        Np::Free => rules::NOTHING_THERE as u32,
+        Np::Free => NOTHING_THERE,
         Np::Waiting(q) => {
             reply::put_request(report, q, p.serial);
             0
         }
-        Np::Ready(_, _) => rules::NOTHING_THERE as u32,
-        Np::Failed(_) => rules::NOTHING_THERE as u32,
+        Np::Ready(_, _) => NOTHING_THERE,
+        Np::Failed(_) => NOTHING_THERE,
     }
 }
 
@@ -232,7 +237,7 @@ pub extern "C" fn espi_read_wire(state: &[u8], index: u32, bit: u32) -> u32
         return rules::STATE_NOT_SOUND;
     }
     if !wires::defined_bit(index, bit) {
-        return rules::NO_SUCH_WIRE as u32;
+        return NO_SUCH_WIRE;
     }
     let s = got.state;
     let w = s.wires;
