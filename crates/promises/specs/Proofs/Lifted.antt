@@ -31,7 +31,8 @@ use Rattle.rules.specs.Rules.Calls as X
 use Rattle.rules.specs.Rules.Calls.{word, kept, Exchanged, Stored, Looked}
 use Rattle.rules.specs.Proofs.Peripheral.{look-is}
 use Rattle.rules.specs.Proofs.Wires.{read-is}
-use Rattle.rules.specs.Proofs.Sound.{exchange-sound, board-sound, reset-sound, fresh-sound}
+use Rattle.state.specs.Facts.{fresh-sound}
+use Rattle.rules.specs.Proofs.Sound.{exchange-sound, board-sound, reset-sound}
 use Rattle.rules.specs.Proofs.Refusals.{SettledAs, exchange-turned, board-settled}
 use Rattle.rules.specs.Proofs.WholeRefusals.{number-word, planned-small}
 use Rattle.rules.specs.declared.Kept.{Kept}

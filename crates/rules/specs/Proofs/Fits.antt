@@ -6,7 +6,7 @@ use mathlib.Core.List.{List, [], _∷_}
 use mathlib.Core.Path.{_≡_, refl}
 use native.Mathlib.Omega.{arith}
 use lib.Dec.{eqb, ltb}
-use lib.ListN.{length, drop, length-append, length-take}
+use lib.ListN.{length, drop, length-take}
 use borrow.Author.Tests.{not-false, eqb-true, leb-true}
 use Rattle.base.specs.Pick.{pick, pick-ind}
 use Rattle.registers.specs.Registers.{payloadSize, operatingCount, crcChecked, forbiddenAt, reachable}
@@ -48,8 +48,9 @@ use Rattle.rules.specs.Rules.Wires as W
 use Rattle.rules.specs.Rules.Channel.{Channel, peripheral, wires, Change, outOf}
 use Rattle.rules.specs.Rules.Lift.{withStatus, lift}
 use Rattle.rules.specs.Rules.Exchange.{setConfiguration, decide, channelsOf, byDecoded, exchange}
-use Rattle.rules.specs.Rules.Reply.{bodyBytes, closed, replyBytes}
+use Rattle.rules.specs.Rules.Reply.{bodyBytes, replyBytes}
 use Rattle.rules.specs.Rules.Fits.{BodyFits, ReplyFits, KeptFits, PlanFits, PieceFits}
+use Rattle.rules.specs.Proofs.Reply.{closed-length}
 use Rattle.rules.specs.declared.Body.{Body}
 use Rattle.rules.specs.declared.Body.the-variants as B
 use Rattle.rules.specs.declared.Say.{Say}
@@ -73,10 +74,6 @@ body-length B.Nothing reads f = omega arith
 body-length (B.Word v) reads f = omega arith
 body-length (B.Piece c) reads f = omega (arith, length-take (c .length) (drop (c .from) reads), f .most)
 body-length (B.Groups p) reads f = omega (arith, packet-length p)
-
-pub closed-length : (m : List ℕ) (status : ℕ) → length (closed m status) ≡ length m + 3
-unfolding closed
-closed-length m status = simp length-append (omega arith)
 
 -- "reply at least 263 bytes"
 pub reply-length : (r : Reply) (reads : List ℕ) → ReplyFits r → length (replyBytes r reads) ≤ 263

@@ -3,10 +3,9 @@ use Prim.Native.Nat.{ℕ, _^_, _<_}
 use mathlib.Core.Bool.{Bool, true, false}
 use mathlib.Core.List.{List, [], _∷_}
 use mathlib.Core.Path.{_≡_, refl, sym, subst}
-use lib.Dec.{lit<}
 use Rattle.base.specs.Pick.{and-left, and-right}
 use Rattle.registers.specs.Registers.{writeAt, forbiddenAt}
-use Rattle.registers.specs.Laws.{fits-fresh, fits-write, reachable-fresh, reachable-write}
+use Rattle.registers.specs.Laws.{fits-write, reachable-write}
 use Rattle.registers.specs.declared.Config.{Config}
 use Rattle.command.specs.Opcode.{channelOn}
 use Rattle.command.specs.Facts.{IsBytes, peripheralOpcode, admit-numbers, admit-channel}
@@ -14,7 +13,7 @@ use Rattle.command.specs.declared.Channels.{Channels}
 use Rattle.command.specs.declared.PeripheralCommand.{PeripheralCommand}
 use Rattle.command.specs.declared.PeripheralCommand.the-variants.{PutPc, GetPc, PutNp, Short}
 use Rattle.command.specs.declared.Command.the-variants as C₀
-use Rattle.state.specs.Fresh.{freshState}
+use Rattle.state.specs.Facts.{fresh-sound}
 use Rattle.state.specs.declared.State.{State}
 use Rattle.state.specs.Sound.{Sound}
 use Rattle.rules.specs.Rules.Reset.{Reset}
@@ -33,7 +32,7 @@ use Rattle.rules.specs.Proofs.Plans as D
 use Rattle.rules.specs.Proofs.Plans.{plans}
 use Rattle.rules.specs.Proofs.Cases.{cases}
 use Rattle.rules.specs.Proofs.SoundBytes.{bytes-below}
-use Rattle.rules.specs.Proofs.SoundParts.{PartOk, Parts, parts, whole, with-part, with-each, fresh008-ok, reset-config}
+use Rattle.rules.specs.Proofs.SoundParts.{PartOk, Parts, parts, with-part, with-each, fresh008-ok, reset-config}
 use Rattle.rules.specs.Proofs.Peripheral.Sound as P
 use Rattle.rules.specs.Proofs.Wires.Sound as W
 use Rattle.rules.specs.declared.Plan.{Plan}
@@ -132,13 +131,6 @@ pub sound-run : (w : World) (cs : List Call) → Sound (w .state) → S.allHande
 unfolding S.run S.allHanded
 sound-run w [] h b = h
 sound-run w (c ∷ cs) h b = sound-run (S.step w c .next) cs (sound-step w c h (and-left (S.handedOver c) _ b)) (and-right (S.handedOver c) _ b)
-
-fresh-part : (k : Channel) → PartOk k (on k (freshState .config)) (part k freshState)
-fresh-part peripheral = P.idle-ok _ (lit< tt)
-fresh-part wires = W.fresh-ok _
-
-pub fresh-sound : Sound freshState
-fresh-sound = whole (record { config = record { right = reachable-fresh; fit = fits-fresh }; each = fresh-part })
 
 pub sound-kept : SoundKept
 sound-kept = record { fresh = fresh-sound; call = sound-step; calls = sound-run }

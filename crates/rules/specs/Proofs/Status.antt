@@ -1,12 +1,12 @@
 -- The bits of the status word, and what one says of the next command, from the rows of P6.
-use Prim.Native.Nat.{ℕ, _+_, _*_, _/_, _^_, _≤_, _<_}
+use Prim.Native.Nat.{ℕ, _+_, _*_, _/_, _^_, _<_}
 use mathlib.Core.Bool.{Bool, true, false, not, true≢false}
 use mathlib.Core.List.{List}
 use mathlib.Core.Logic.{_↔_}
 use mathlib.Core.Path.{_≡_, refl, sym, ap, _∙_}
 use native.Mathlib.Omega.{arith}
 use Rattle.base.specs.Pick.{pick}
-use Rattle.base.specs.Bytes.{bit}
+use Rattle.base.specs.Bytes.{bit, bit-below}
 use Rattle.registers.specs.Registers.{field}
 use Rattle.wires.specs.Groups.{anyPending}
 use Rattle.peripheral.specs.Status.{pcFree, npFree, pcAvail}
@@ -32,17 +32,13 @@ pub record Bits (v : ℕ) (a b c d : Bool) : Type 0 where
   pub at6 : field v 6 1 ≡ bit d
   pub small : v < 65536
 
-one-at-most : (t : Bool) → bit t ≤ 1
-one-at-most true = omega arith
-one-at-most false = omega arith
-
 bits-of : (a b c d : Bool) → Bits (bit a + bit b * 2 + bit c * 16 + (4 + bit d * 64)) a b c d
 bits-of a b c d =
     let v = bit a + bit b * 2 + bit c * 16 + (4 + bit d * 64) in
-    let ha = one-at-most a in
-    let hb = one-at-most b in
-    let hc = one-at-most c in
-    let hd = one-at-most d in
+    let ha = bit-below a in
+    let hb = bit-below b in
+    let hc = bit-below c in
+    let hd = bit-below d in
     let from4 : v / 2 ^ 4 ≡ bit c + 4 * bit d = omega arith in
     let from6 : v / 2 ^ 6 ≡ bit d = omega arith in
     let e0 : field v 0 1 ≡ bit a = omega arith in

@@ -1,24 +1,20 @@
 -- Proof of P9: the bits from the rows of P6, the status shown from the plan's law.
-use Prim.Native.Nat.{ℕ, _+_, _-_, _*_, _/_, _%_}
+use Prim.Native.Nat.{ℕ, _-_}
 use mathlib.Core.Bool.{Bool, true, false, true≢false}
-use mathlib.Core.List.{List, [], _∷_, _++_, append-assoc}
+use mathlib.Core.List.{List, []}
 use mathlib.Core.Logic.{_≢_}
 use mathlib.Core.Path.{_≡_, refl, sym, ap, _∙_, subst}
-use native.Mathlib.Omega.{arith}
 use lib.Dec.{eqb}
-use lib.ListN.{length, length-append}
-use lib.Seq.{getD-append-seam, getD-append-add}
+use lib.ListN.{length}
 use borrow.Author.Tests.{le-ltb}
 use Rattle.base.specs.Pick.{pick, pick-ind, taken, passed}
-use Rattle.base.specs.Bytes.{low2}
-use Rattle.crc.specs.Crc.{crc}
 use Rattle.state.specs.Status.{status}
 use Rattle.state.specs.declared.State.{State}
 use Rattle.state.specs.Sound.{Sound}
 use Rattle.rules.specs.Rules.Channel.{Channel, peripheral, wires, Command, nextOf, outOf, put}
 use Rattle.rules.specs.Rules.Lift.{lift, withStatus}
 use Rattle.rules.specs.Rules.Exchange as E
-use Rattle.rules.specs.Rules.Reply.{replyBytes, closed}
+use Rattle.rules.specs.Rules.Reply.{replyBytes}
 use Rattle.rules.specs.Rules.Step.{World, exchanged, shortStores, only, Outcome, replyLength, writeLength, readLength}
 use Rattle.rules.specs.Statements.Fields.{byte}
 use Rattle.rules.specs.Statements.Sizes.{isOf}
@@ -26,7 +22,9 @@ use Rattle.rules.specs.Statements.Plans as N
 use Rattle.rules.specs.Statements.Plans.{Admits, Planned, commandOf}
 use Rattle.rules.specs.Statements.Shape.{statusShown}
 use Rattle.rules.specs.Statements.Status.{LongEnough}
-use Rattle.rules.specs.Statements.StatusSays.{BitsOf, StatusBits, statusIn, ShowsStatus, StatusSays}
+use Rattle.rules.specs.Statements.StatusSays.{BitsOf, StatusBits, ShowsStatus, StatusSays}
+use Rattle.rules.specs.Statements.Requests.{statusIn}
+use Rattle.rules.specs.Proofs.Reply.{status-in}
 use Rattle.rules.specs.Proofs.Fields.{one}
 use Rattle.rules.specs.Proofs.Reads.{reads}
 use Rattle.rules.specs.Proofs.Plans.{plans}
@@ -64,22 +62,6 @@ module _ (w : World) (lent : List ℕ) (sound : Sound (w .state)) (long : LongEn
   status-bits = record { word = word-bits s .is; ofChannel = of-channel }
 
 -- ---- the status in a reply
-
--- the two bytes after what stands first
-status-at : (p : List ℕ) (lo hi last : ℕ) (r : List ℕ) → r ≡ (p ++ (lo ∷ hi ∷ [])) ++ (last ∷ []) → statusIn r ≡ lo + 256 * hi
-status-at p lo hi last r e =
-    let f : r ≡ p ++ (lo ∷ hi ∷ last ∷ []) = e ∙ append-assoc p (lo ∷ hi ∷ []) (last ∷ []) in
-    let n : length r ≡ length p + 3 = ap length f ∙ length-append p (lo ∷ hi ∷ last ∷ []) in
-    let at-lo : length r - 3 ≡ length p = omega arith in
-    let at-hi : length r - 2 ≡ length p + 1 = omega arith in
-    let first : byte r (length r - 3) ≡ lo = rw (at-lo, f) (getD-append-seam p lo (hi ∷ last ∷ []) 0) in
-    let second : byte r (length r - 2) ≡ hi = rw (at-hi, f) (getD-append-add p (lo ∷ hi ∷ last ∷ []) 1 0) in
-    omega arith
-
-status-in : (m : List ℕ) (s : State) → statusIn (closed m (status s)) ≡ status s
-unfolding closed
-status-in m s =
-    status-at m (status s % 256) (status s / 256 % 256) (crc (m ++ low2 (status s))) (closed m (status s)) refl ∙ omega (arith, word-bits s .small)
 
 -- a state that is not changed has one status
 shown-same : (op : ℕ) (s : State) → status s ≡ statusShown op s s

@@ -1,16 +1,15 @@
 -- The view: one sweep over the case law, reading channel 0's law; whatever another channel does leaves channel 0's part.
-use Prim.Native.Nat.{ℕ, _+_, _-_, _*_, _/_, _%_, _^_, _<_, _≤_}
+use Prim.Native.Nat.{ℕ, _-_, _/_, _%_, _^_, _≤_}
 use mathlib.Core.Bool.{Bool, true, false, _&&_, not}
-use mathlib.Core.List.{List, [], _∷_, _++_}
+use mathlib.Core.List.{List, []}
 use mathlib.Core.Path.{_≡_, refl, sym, ap, ap₂, _∙_, subst}
 use native.Mathlib.Omega.{arith}
 use lib.Dec.{eqb}
-use lib.ListN.{length, take, length-append}
-use lib.Seq.{getD-append-add, take-length}
+use lib.ListN.{take}
+use lib.Seq.{take-length}
 use borrow.Author.Tests.{ne-eqb}
 use Rattle.base.specs.Pick.{pick}
-use Rattle.base.specs.Bytes.{over, low2, bit}
-use Rattle.crc.specs.Crc.{crc}
+use Rattle.base.specs.Bytes.{over, bit}
 use Rattle.registers.specs.Registers.{writeAt}
 use Rattle.registers.specs.declared.Config.{Config}
 use Rattle.peripheral.specs.Queues as F
@@ -26,7 +25,7 @@ use Rattle.rules.specs.Rules.Peripheral as P₀
 use Rattle.rules.specs.Rules.Channel.{Channel, peripheral, Command, Board, Change, nextOf, outOf, part, put, on, actOf, given, same}
 use Rattle.rules.specs.Rules.Lift.{lift, withStatus, show, nonFatal, acceptThen, quietly}
 use Rattle.rules.specs.Rules.Exchange.{reconfigured, reset008h, wasReset}
-use Rattle.rules.specs.Rules.Reply.{closed, replyBytes, keptBytes}
+use Rattle.rules.specs.Rules.Reply.{replyBytes, keptBytes}
 use Rattle.rules.specs.Rules.Step.{World, Call, reset, exchange, board, lend, Outcome, step, only, withState, exchanged, settled}
 use Rattle.rules.specs.Statements.Peripheral as P
 use Rattle.rules.specs.Statements.Cases as C
@@ -36,14 +35,14 @@ use Rattle.rules.specs.Statements.Events.{accepted}
 use Rattle.rules.specs.Statements.Fields.{byte, isPosted}
 use Rattle.rules.specs.Statements.Reads as R
 use Rattle.rules.specs.Statements.Reads.{Writes}
-use Rattle.rules.specs.Statements.Requests.{Event, idle, asks, gets, ends, eventOf, event, held, statusIn}
+use Rattle.rules.specs.Statements.Requests.{Event, idle, asks, gets, ends, eventOf, event, held}
 use Rattle.rules.specs.Statements.View.{Shown, Move, same as stays, asked, told, sent, lent, dropped, View}
 use Rattle.rules.specs.Proofs.Cases.{cases}
 use Rattle.rules.specs.Proofs.Channels as N
 use Rattle.rules.specs.Proofs.Fields.{by-posted}
 use Rattle.rules.specs.Proofs.Peripheral.Effects.{no-bytes}
 use Rattle.rules.specs.Proofs.Reads.{reads}
-use Rattle.rules.specs.Proofs.Reply.{closed-as, status-bits, status-small}
+use Rattle.rules.specs.Proofs.Reply.{status-bits, status-in}
 use Rattle.rules.specs.Proofs.Events.{disabling}
 use Rattle.rules.specs.Proofs.Requests.{refused-event, accepted-event, exchange-event, asked-event, got-event}
 use Rattle.rules.specs.Proofs.Lift.{own-or-other, same-turned, part-stays}
@@ -70,24 +69,12 @@ bits s = let h = status-bits s in record { np = omega (arith, h); pc = omega (ar
 quiet : {n : Np} → Shown n []
 quiet = record { np = λ h. absurd (omega arith); pc = λ h. absurd (omega arith) }
 
--- the status stands before the CRC byte
-status-at : (m : List ℕ) (a b x : ℕ) → statusIn (m ++ (a ∷ b ∷ x ∷ [])) ≡ a + b * 256
-status-at m a b x =
-    let t = a ∷ b ∷ x ∷ [] in
-    let n = length-append m t in
-    let low : length (m ++ t) - 3 ≡ length m + 0 = omega arith in
-    let high : length (m ++ t) - 2 ≡ length m + 1 = omega arith in
-    rw (low, high, getD-append-add m t 0 0, getD-append-add m t 1 0)
-
-status-in : (m : List ℕ) (st : ℕ) → st < 256 → statusIn (closed m st) ≡ st
-status-in m st h = rw (closed-as m st) (status-at m (st % 256) (st / 256 % 256) (crc (m ++ low2 st)) ∙ omega arith)
-
 -- a reply, where there is one, that shows the status of a state
 shown : (s : State) (say : Say) (read : List ℕ) → Shown (s .peripheral .request) (replyBytes (withStatus say (status s)) read)
 unfolding replyBytes
 shown s S.Silent read = quiet
 shown s (S.Said response body) read =
-    record { np = λ _. rw (status-in _ (status s) (status-small s)) (bits s .np); pc = λ _. rw (status-in _ (status s) (status-small s)) (bits s .pc) }
+    record { np = λ _. rw (status-in _ s) (bits s .np); pc = λ _. rw (status-in _ s) (bits s .pc) }
 
 -- ---- commands that make no event of channel 0
 
