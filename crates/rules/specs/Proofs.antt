@@ -17,7 +17,6 @@ pub mod Plans
 pub mod Lift
 pub mod Refusals
 pub mod WholeRefusals
-pub mod Both
 pub mod Reply
 pub mod Whose
 pub mod Apart

@@ -40,7 +40,7 @@ use Rattle.rules.specs.Proofs.Peripheral.Apart as P₁
 use Rattle.rules.specs.Proofs.Wires.Apart as W₁
 use Rattle.rules.specs.Proofs.Whose.{begins, own-command}
 use Rattle.rules.specs.Proofs.Effects.{above}
-use Rattle.rules.specs.Proofs.Both.{both}
+use Rattle.rules.specs.Proofs.Cases.{both}
 use Rattle.rules.specs.Proofs.Lift.{out-change, part-stays, lift-change, put-config, put-both, part-each, same-is, planned}
 use Rattle.rules.specs.Proofs.Reads.{reads}
 use Rattle.rules.specs.Proofs.Reply.{closed-as, closed-length, status-bits, status-small, over-long}
