@@ -124,5 +124,6 @@ kept-wider (K.Data at n) m a b h f = record { there = f .there; most = omega (ar
 pub exchange-fits : (s : State) (command : List ℕ) (p : Plan) → sound s ≡ true → p ≡ exchange s command → PlanFits (length command) p
 exchange-fits s command p h e = subst (PlanFits (length command)) (sym e) (F.exchange-fits s h command)
 
-pub answer-fits : (s : State) (serial n : ℕ) (success : Bool) (p : Plan) → sound s ≡ true → p ≡ lift peripheral s (P.answerTo (s .peripheral) serial success n) → KeptFits (p .kept) n 4096
-answer-fits s serial n success p h e = subst (λ (q : Plan). KeptFits (q .kept) n 4096) (sym e) (F.answer-fits s h serial success n)
+pub answer-fits : (s : State) (serial success : ℕ) (bytes : List ℕ) (p : Plan) → sound s ≡ true
+    → p ≡ lift peripheral s (P.answerTo (s .peripheral) serial (P.succeeded success) (length bytes)) → KeptFits (p .kept) (length bytes) 4096
+answer-fits s serial success bytes p h e = subst (λ (q : Plan). KeptFits (q .kept) (length bytes) 4096) (sym e) (F.answer-fits s h serial success bytes)

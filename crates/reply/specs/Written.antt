@@ -12,7 +12,7 @@ use Rattle.wires.specs.Groups.{packetBytes}
 use Rattle.wires.specs.declared.Packet.{Packet}
 use Rattle.peripheral.specs.declared.Completion.{Completion}
 use Rattle.rules.specs.Rules.Reply.{headerBytes, bodyBytes, closed, replyBytes, keptBytes}
-use Rattle.rules.specs.Proofs.Fits.{closed-length}
+use Rattle.rules.specs.Proofs.Reply.{closed-length}
 use Rattle.rules.specs.declared.Body.{Body}
 use Rattle.rules.specs.declared.Body.the-variants as B
 use Rattle.rules.specs.declared.Reply.{Reply}

@@ -40,7 +40,7 @@ pack-requires : tie.Need-pack-requires
 pack-requires c κs = search needs
 
 keep-requires : tie.Need-keep-requires
-keep-requires c κs = let a = c .before .before .before .before .before .before .before .before .before .before .before .before .before .before .before .before .before .args in kept-wider (c .before .before .before .before .before .before .answer .result .kept) (length (now (a .bytes))) 4096 (length (now (a .read-store))) (omega arith) (answer-fits (c .before .before .before .before .before .before .before .before .before .before .load .result .state) (a .serial) (length (now (a .bytes))) (succeeded (a .success)) (c .before .before .before .before .before .before .answer .result) (loaded-sound (now (a .state)) (c .before .before .before .before .before .before .before .before .before .before .load .result) (c .before .before .before .before .before .before .before .before .before .before .load .ensures) (c .before .before .before .before .before .before .before .before .if3 .left)) (c .before .before .before .before .before .before .answer .ensures))
+keep-requires c κs = let a = c .before .before .before .before .before .before .before .before .before .before .before .before .before .before .before .before .before .args in kept-wider (c .before .before .before .before .before .before .answer .result .kept) (length (now (a .bytes))) 4096 (length (now (a .read-store))) (omega arith) (answer-fits (c .before .before .before .before .before .before .before .before .before .before .load .result .state) (a .serial) (a .success) (now (a .bytes)) (c .before .before .before .before .before .before .answer .result) (loaded-sound (now (a .state)) (c .before .before .before .before .before .before .before .before .before .before .load .result) (c .before .before .before .before .before .before .before .before .before .before .load .ensures) (c .before .before .before .before .before .before .before .before .if3 .left)) (c .before .before .before .before .before .before .answer .ensures))
 
 cast-result : tie.Need-cast-result
 cast-result c = search needs

@@ -1,6 +1,7 @@
 -- Channel 0's law: the one file that unfolds its decisions.
 pub mod Apart
 pub mod Effects
+pub mod Fits
 pub mod Lawful
 pub mod Shape
 pub mod Sound
@@ -103,3 +104,8 @@ settles c p (takeWrite report) = take-settled p report (p .write) refl
 pub look-is : (c : Config) (p : Peripheral) (report : List ℕ) → P.settle c p (look report) ≡ P.change p (number (P.lookNumber (p .request)))
 unfolding P.settle
 look-is c p report = refl
+
+pub answer-is : (c : Config) (p : Peripheral) (serial success : ℕ) (d : List ℕ)
+    → P.settle c p (answer serial success d) ≡ P.answerTo p serial (succeeded success) (length d)
+unfolding P.settle
+answer-is c p serial success d = refl
