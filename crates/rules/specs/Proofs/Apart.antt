@@ -1,6 +1,6 @@
 -- No channel tells on another: one argument for every channel. A call of x's own leaves all that is not x's; any other call goes the same way in two
 -- worlds that are alike but for x, for its channel sees its own part and stores alone. So a run shows what it shows without x's calls.
-use Prim.Native.Nat.{ℕ, _+_, _-_, _/_, _%_}
+use Prim.Native.Nat.{ℕ, _+_, _-_, _*_, _/_, _%_}
 use mathlib.Core.Bool.{Bool, true, false, _||_, true≢false}
 use mathlib.Core.List.{List, [], _∷_, _++_}
 use mathlib.Core.Path.{_≡_, refl, sym, ap, subst, _∙_}
@@ -9,18 +9,16 @@ use lib.Dec.{ltb}
 use lib.ListN.{getD, length, take, length-append}
 use lib.Seq.{take-at, getD-at, getD-append-add}
 use borrow.Author.Tests.{ne-eqb}
+use Rattle.base.specs.Pick.{pick}
 use Rattle.base.specs.Bytes.{low2, over}
 use Rattle.crc.specs.Crc.{crc}
 use Rattle.registers.specs.Registers.{fresh008, readAt, writeAt}
 use Rattle.registers.specs.declared.Config.{Config}
-use Rattle.wires.specs.Groups.{wiresStatus}
 use Rattle.command.specs.declared.Command as C₀
-use Rattle.peripheral.specs.Status.{peripheralStatus}
-use Rattle.peripheral.specs.declared.Peripheral.{Peripheral}
 use Rattle.state.specs.Status.{status}
 use Rattle.state.specs.declared.State.{State}
 use Rattle.rules.specs.Rules.Out.{responseByte}
-use Rattle.rules.specs.Rules.Channel.{Channel, peripheral, wires, Part, Command, Act, Board, Change, change, nextOf, outOf, actOf, acting, settle, reportOf, valueOf, given, ownBody, ownKept, part, put, each, on, edge, same}
+use Rattle.rules.specs.Rules.Channel.{Channel, peripheral, wires, Part, Command, Act, Board, Change, change, nextOf, outOf, actOf, acting, settle, reportOf, valueOf, given, bits, ownBody, ownKept, part, put, each, on, edge, same}
 use Rattle.rules.specs.Rules.Channel as N
 use Rattle.rules.specs.Rules.Lift.{lift, withStatus, show}
 use Rattle.rules.specs.Rules.Exchange.{reconfigured, configReset}
@@ -56,39 +54,54 @@ use Rattle.rules.specs.declared.Response.the-variants.{Accept, NonFatal}
 
 -- ---- the status without x's bits: the others' are left
 
-abbrev left : Channel → State → ℕ
-left peripheral s = wiresStatus (s .wires)
-left wires s = peripheralStatus (s .peripheral) + 4
+abbrev sum : (Channel → ℕ) → ℕ
+sum f = f peripheral + f wires
 
-cleared : (x : Channel) (s : State) → clear x (status s % 256) ≡ left x s
+sum-as : (f g : Channel → ℕ) → ((k : Channel) → f k ≡ g k) → sum f ≡ sum g
+sum-as f g h = rw (h peripheral, h wires)
+
+-- the bits that never change: VWIRE_FREE
+abbrev fixed : Channel → ℕ
+fixed peripheral = 0
+fixed wires = 4
+
+abbrev left : Channel → State → ℕ
+left x s = sum (λ k. pick (same x k) (fixed k) (bits k (part k s)))
+
+cleared : (x : Channel) (s : State) → clear x (status s) ≡ left x s
 unfolding status
 cleared peripheral s = omega (arith, status-bits s)
 cleared wires s = omega (arith, status-bits s)
 
 left-alike : (x : Channel) (s t : State) → StatesAlike x s t → left x s ≡ left x t
-left-alike peripheral s t h = ap wiresStatus (h .parts wires refl)
-left-alike wires s t h = ap (λ (p : Peripheral). peripheralStatus p + 4) (h .parts peripheral refl)
+left-alike x s t h = sum-as _ _ (λ k. go k (same x k) refl)
+  where
+    go : (k : Channel) (u : Bool) → same x k ≡ u → pick u (fixed k) (bits k (part k s)) ≡ pick u (fixed k) (bits k (part k t))
+    go k true e = refl
+    go k false e = ap (bits k) (h .parts k e)
 
-status-alike : (x : Channel) (s t : State) → StatesAlike x s t → clear x (status s % 256) ≡ clear x (status t % 256)
+status-alike : (x : Channel) (s t : State) → StatesAlike x s t → clear x (status s) ≡ clear x (status t)
 status-alike x s t h = cleared x s ∙ left-alike x s t h ∙ sym (cleared x t)
 
 -- ---- a reply but for x's status bits and the CRC byte
 
-parted : (x : Channel) (l m : List ℕ) (a : ℕ) → length l ≡ length m + 3 → take (length m) l ≡ m → getD l (length m) 0 ≡ a → getD l (length m + 1) 0 ≡ 0
-    → replyBut x l ≡ m ++ (clear x a ∷ 0 ∷ [])
-parted x l m a n t f g =
+parted : (x : Channel) (l m : List ℕ) (a b : ℕ) → length l ≡ length m + 3 → take (length m) l ≡ m → getD l (length m) 0 ≡ a → getD l (length m + 1) 0 ≡ b
+    → replyBut x l ≡ m ++ (clear x (a + 256 * b) ∷ [])
+parted x l m a b n t f g =
     let z = ne-eqb (length l) 0 (λ q. omega arith) in
     let e₃ : length l - 3 ≡ length m = omega arith in
     let e₂ : length l - 2 ≡ length m + 1 = omega arith in
     rw (z, e₃, e₂, t, f, g)
 
-closed-but : (x : Channel) (m : List ℕ) (s : State) → replyBut x (closed m (status s)) ≡ m ++ (clear x (status s % 256) ∷ 0 ∷ [])
+closed-but : (x : Channel) (m : List ℕ) (s : State) → replyBut x (closed m (status s)) ≡ m ++ (clear x (status s) ∷ [])
 closed-but x m s =
     let t = status s in
     let end = t % 256 ∷ t / 256 % 256 ∷ crc (m ++ low2 t) ∷ [] in
+    let two : t % 256 + 256 * (t / 256 % 256) ≡ t = omega (arith, status-small s) in
     ap (replyBut x) (closed-as m t)
-    ∙ parted x (m ++ end) m (t % 256) (simp length-append (omega arith)) (take-at m end (length m) refl)
-    (getD-at m (t % 256) _ 0 (length m) refl) (getD-append-add m end 1 0 ∙ omega (arith, status-small s))
+    ∙ parted x (m ++ end) m (t % 256) (t / 256 % 256) (simp length-append (omega arith)) (take-at m end (length m) refl)
+    (getD-at m (t % 256) _ 0 (length m) refl) (getD-append-add m end 1 0)
+    ∙ ap (λ (n : ℕ). m ++ (clear x n ∷ [])) two
 
 -- what a plan says, in two states that are alike but for x, its body's bytes being the same
 abbrev bodyOf : Say → List ℕ → List ℕ
@@ -101,8 +114,8 @@ module _ (x : Channel) (s t : State) (h : StatesAlike x s t) (l m : List ℕ) wh
   said-but Y.Silent e = refl
   said-but (Y.Said r body) e =
       closed-but x (responseByte r ∷ bodyBytes body l) s
-      ∙ ap (λ (z : ℕ). (responseByte r ∷ bodyBytes body l) ++ (z ∷ 0 ∷ [])) (status-alike x s t h)
-      ∙ ap (λ (z : List ℕ). (responseByte r ∷ z) ++ (clear x (status t % 256) ∷ 0 ∷ [])) e
+      ∙ ap (λ (z : ℕ). (responseByte r ∷ bodyBytes body l) ++ (z ∷ [])) (status-alike x s t h)
+      ∙ ap (λ (z : List ℕ). (responseByte r ∷ z) ++ (clear x (status t) ∷ [])) e
       ∙ sym (closed-but x (responseByte r ∷ bodyBytes body m) t)
 
   said-length : (y : Say) → bodyOf y l ≡ bodyOf y m → length (replyBytes (withStatus y (status s)) l) ≡ length (replyBytes (withStatus y (status t)) m)
@@ -461,15 +474,11 @@ none-tells x w v cs ds h e =
 to-wires : {w v : World} → SameButWires w v → Alike wires w v
 to-wires {w} {v} h =
     record {
-      state = record { config = h .config; parts = parts };
+      state = h .state;
       stores = stores;
       room = λ reply. ap (λ (l : List ℕ). lacks reply l (w .read)) (h .write) ∙ ap (lacks reply (v .write)) (h .read);
     }
   where
-    parts : (y : Channel) → same wires y ≡ false → part y (w .state) ≡ part y (v .state)
-    parts peripheral e = h .peripheral
-    parts wires e = absurd (true≢false e)
-
     stores : (y : Channel) → same wires y ≡ false → storesOf y (w .write) (w .read) ≡ storesOf y (v .write) (v .read)
     stores peripheral e = ap (λ (l : List ℕ). l ∷ w .read ∷ []) (h .write) ∙ ap (λ (l : List ℕ). v .write ∷ l ∷ []) (h .read)
     stores wires e = refl
@@ -477,8 +486,7 @@ to-wires {w} {v} h =
 from-wires : {w v : World} → Alike wires w v → SameButWires w v
 from-wires h =
     record {
-      config = h .state .config;
-      peripheral = h .state .parts peripheral refl;
+      state = h .state;
       write = ap (λ (l : List (List ℕ)). getD l 0 []) (h .stores peripheral refl);
       read = ap (λ (l : List (List ℕ)). getD l 1 []) (h .stores peripheral refl);
     }
@@ -487,18 +495,14 @@ pub wires-apart : WiresApart
 wires-apart w v cs ds h e = let r = none-tells wires w v cs ds (to-wires h) e in record { calls = r .calls; after = from-wires (r .after) }
 
 to-peripheral : {w v : World} → SameButPeripheral w v → Alike peripheral w v
-to-peripheral {w} {v} h = record { state = record { config = h .config; parts = parts }; stores = stores; room = h .room }
+to-peripheral {w} {v} h = record { state = h .state; stores = stores; room = h .room }
   where
-    parts : (y : Channel) → same peripheral y ≡ false → part y (w .state) ≡ part y (v .state)
-    parts peripheral e = absurd (true≢false e)
-    parts wires e = h .wires
-
     stores : (y : Channel) → same peripheral y ≡ false → storesOf y (w .write) (w .read) ≡ storesOf y (v .write) (v .read)
     stores peripheral e = absurd (true≢false e)
     stores wires e = refl
 
 from-peripheral : {w v : World} → Alike peripheral w v → SameButPeripheral w v
-from-peripheral h = record { config = h .state .config; wires = h .state .parts wires refl; room = h .room }
+from-peripheral h = record { state = h .state; room = h .room }
 
 pub peripheral-apart : PeripheralApart
 peripheral-apart w v cs ds h e = let r = none-tells peripheral w v cs ds (to-peripheral h) e in record { calls = r .calls; after = from-peripheral (r .after) }

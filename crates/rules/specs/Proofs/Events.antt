@@ -20,7 +20,7 @@ use Rattle.rules.specs.Statements.Requests.{without}
 
 -- ---- the edge of an enable bit
 
-enable-written : (k : Channel) (c : Config) (a v : ℕ) → on k (writeAt c a v) ≡ pick (eqb a (registerOf k)) (eqb (v % 2) 1) (on k c)
+pub enable-written : (k : Channel) (c : Config) (a v : ℕ) → on k (writeAt c a v) ≡ pick (eqb a (registerOf k)) (eqb (v % 2) 1) (on k c)
 enable-written peripheral c a v =
     by-address (λ (x : ℕ). on0 (writeAt c x v .r010) ≡ pick (eqb x 0x010) (eqb (v % 2) 1) (on0 (c .r010))) refl (on0-written (c .r010) v) refl
     (λ x e f g. rw (e, f, g)) a

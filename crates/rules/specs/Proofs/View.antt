@@ -79,7 +79,7 @@ status-at m a b x =
     let high : length (m ++ t) - 2 ≡ length m + 1 = omega arith in
     rw (low, high, getD-append-add m t 0 0, getD-append-add m t 1 0)
 
-status-in : (m : List ℕ) (st : ℕ) → st < 256 → statusIn (closed m st) ≡ st
+status-in : (m : List ℕ) (st : ℕ) → st < 65536 → statusIn (closed m st) ≡ st
 status-in m st h = rw (closed-as m st) (status-at m (st % 256) (st / 256 % 256) (crc (m ++ low2 st)) ∙ omega arith)
 
 -- a reply, where there is one, that shows the status of a state
