@@ -20,6 +20,7 @@ pub mod WholeRefusals
 pub mod Both
 pub mod Reply
 pub mod Whose
+pub mod Stores
 pub mod Apart
 pub mod Shape
 pub mod SoundBytes

@@ -18,7 +18,7 @@ use Rattle.command.specs.declared.Command as C₀
 use Rattle.state.specs.Status.{status}
 use Rattle.state.specs.declared.State.{State}
 use Rattle.rules.specs.Rules.Out.{responseByte}
-use Rattle.rules.specs.Rules.Channel.{Channel, peripheral, wires, Part, Command, Act, Board, Change, change, nextOf, outOf, actOf, acting, settle, reportOf, valueOf, given, bits, ownBody, ownKept, part, put, each, on, edge, same}
+use Rattle.rules.specs.Rules.Channel.{Channel, peripheral, wires, Part, Command, Act, Board, Change, change, nextOf, outOf, actOf, acting, settle, reportOf, valueOf, given, bits, ownKept, part, put, each, on, edge, same}
 use Rattle.rules.specs.Rules.Channel as N
 use Rattle.rules.specs.Rules.Lift.{lift, withStatus, show}
 use Rattle.rules.specs.Rules.Exchange.{reconfigured, configReset}
@@ -36,10 +36,11 @@ use Rattle.rules.specs.Proofs.Plans as Q
 use Rattle.rules.specs.Proofs.Channels as L₁
 use Rattle.rules.specs.Proofs.Peripheral.Apart as P₁
 use Rattle.rules.specs.Proofs.Wires.Apart as W₁
+use Rattle.rules.specs.Proofs.Stores.{lacks, SameLack, Owns, kept-other}
 use Rattle.rules.specs.Proofs.Whose.{begins, own-command}
 use Rattle.rules.specs.Proofs.Effects.{above}
 use Rattle.rules.specs.Proofs.Both.{both}
-use Rattle.rules.specs.Proofs.Lift.{out-change, part-stays, lift-change, put-config, put-both, part-each, same-is, planned}
+use Rattle.rules.specs.Proofs.Lift.{out-change, part-stays, lift-change, put-config, put-both, part-each, same-is, same-turned, planned}
 use Rattle.rules.specs.Proofs.Reads.{reads}
 use Rattle.rules.specs.Proofs.Reply.{closed-as, closed-length, status-bits, status-small, over-long}
 use Rattle.rules.specs.declared.Body.{Body}
@@ -167,47 +168,11 @@ each-alike : (x : Channel) (f g : (k : Channel) → Part k → Part k) (c d : Co
 each-alike x f g c d s t e u h =
     record { config = e; parts = λ y n. part-each f c s y ∙ ap (f y) (h .parts y n) ∙ u y (part y t) ∙ sym (part-each g d t y) }
 
--- ---- stores: a body of a channel's own reads none but its stores, data of its own goes to none but these
+-- ---- stores: what is a channel's own
 
-own-bytes : (k : Channel) (body : Body) (write read write′ read′ : List ℕ) → ownBody k body ≡ true → storesOf k write read ≡ storesOf k write′ read′
-    → bodyBytes body read ≡ bodyBytes body read′
-own-bytes peripheral body write read write′ read′ o e = ap (λ (l : List (List ℕ)). bodyBytes body (getD l 1 [])) e
-own-bytes wires body write read write′ read′ o e = W₁.own-bytes body read read′ o
-
-none-own : (k : Channel) → ownKept k K.Nothing ≡ true
-none-own peripheral = refl
-none-own wires = refl
-
--- the same data laid over a store of two worlds
-stores-written : (y : Channel) (d write read write′ read′ : List ℕ) → storesOf y write read ≡ storesOf y write′ read′
-    → storesOf y (over d write) read ≡ storesOf y (over d write′) read′
-stores-written peripheral d write read write′ read′ e = ap (λ (l : List (List ℕ)). over d (getD l 0 []) ∷ getD l 1 [] ∷ []) e
-stores-written wires d write read write′ read′ e = refl
-
-stores-answered : (y : Channel) (d write read write′ read′ : List ℕ) → storesOf y write read ≡ storesOf y write′ read′
-    → storesOf y write (over d read) ≡ storesOf y write′ (over d read′)
-stores-answered peripheral d write read write′ read′ e = ap (λ (l : List (List ℕ)). getD l 0 [] ∷ over d (getD l 1 []) ∷ []) e
-stores-answered wires d write read write′ read′ e = refl
-
--- number 10 of an exchange, by the stores
-abbrev lacks : (reply write read : List ℕ) → Bool
-lacks reply write read = ltb (length reply) replyLength || (ltb (length write) writeLength || ltb (length read) readLength)
-
-abbrev SameLack : (write read write′ read′ : List ℕ) → Type 0
-SameLack write read write′ read′ = (reply : List ℕ) → lacks reply write read ≡ lacks reply write′ read′
-
-module _ (write read write′ read′ : List ℕ) where
-  lack-written : (k : Channel) (kept : Kept) (b : List ℕ) → ownKept k kept ≡ true → storesOf k write read ≡ storesOf k write′ read′
-      → SameLack write read write′ read′
-      → SameLack (over (keptBytes kept b) write) read (over (keptBytes kept b) write′) read′
-  lack-written peripheral kept b o e h reply = ap (λ (l : List (List ℕ)). lacks reply (over (keptBytes kept b) (getD l 0 [])) (getD l 1 [])) e
-  lack-written wires kept b o e h reply = W₁.kept-none (λ (f : List ℕ → List ℕ). SameLack (f write) read (f write′) read′) kept b o h reply
-
-  lack-answered : (k : Channel) (kept : Kept) (b : List ℕ) → ownKept k kept ≡ true → storesOf k write read ≡ storesOf k write′ read′
-      → SameLack write read write′ read′
-      → SameLack write (over (keptBytes kept b) read) write′ (over (keptBytes kept b) read′)
-  lack-answered peripheral kept b o e h reply = ap (λ (l : List (List ℕ)). lacks reply (getD l 0 []) (over (keptBytes kept b) (getD l 1 []))) e
-  lack-answered wires kept b o e h reply = W₁.kept-none (λ (f : List ℕ → List ℕ). SameLack write (f read) write′ (f read′)) kept b o h reply
+owns : (k : Channel) → Owns k
+owns peripheral = P₁.owns
+owns wires = W₁.owns
 
 -- ---- another channel's call, in two worlds alike but for x
 
@@ -230,7 +195,7 @@ module _ (x : Channel) (w v : World) (h : Alike x w v) where
         shows =
             ap (λ (z : ℕ). record { number = n; value = z; report = []; reply = reply }) (said-length x s t g (w .read) (v .read) y e)
             ∙ ap (λ (z : List ℕ). record { number = n; value = value; report = []; reply = z }) (said-but x s t g (w .read) (v .read) y e);
-        next = record { state = g′; stores = λ z f. stores-written z (keptBytes kept b) (w .write) (w .read) (v .write) (v .read) (h .stores z f); room = l };
+        next = record { state = g′; stores = λ z f. owns z .written (keptBytes kept b) (w .write) (w .read) (v .write) (v .read) (h .stores z f); room = l };
       }
 
   -- above all channels nothing is kept and no store is read
@@ -249,13 +214,13 @@ module _ (x : Channel) (w v : World) (h : Alike x w v) where
         let g = put-alike x k q (w .state) (v .state) (h .state) in
         subst (λ (p : Plan). Together x (exchanged w b p) (exchanged v b (lift k (v .state) (change k q out)))) (sym (lift-change k (w .state) q out))
         (subst (λ (p : Plan). Together x (exchanged w b (planned (put k q (w .state)) out)) (exchanged v b p)) (sym (lift-change k (v .state) q out))
-        (exchanged-together b n y kept _ _ _ _ g g e (lack-written (w .write) (w .read) (v .write) (v .read) k kept b o (h .stores k other) (h .room))))
+        (exchanged-together b n y kept _ _ _ _ g g e (owns k .lackWritten kept b (w .write) (w .read) (v .write) (v .read) o (h .stores k other) (h .room))))
 
     acts-together : (b : List ℕ) {p : Part k} {a : Act k} {c : Change k} → Acts k p a c
         → Together x (exchanged w b (lift k (w .state) c)) (exchanged v b (lift k (v .state) c))
-    acts-together b {p = p} L.Acts.refused = out-together b p 1 _ K.Nothing refl (none-own k)
+    acts-together b {p = p} L.Acts.refused = out-together b p 1 _ K.Nothing refl (owns k .nothing)
     acts-together b (L.Acts.accepted q body kept o n) =
-        out-together b q 0 (Y.Said _ body) kept (own-bytes k body (w .write) (w .read) (v .write) (v .read) o (h .stores k other)) n
+        out-together b q 0 (Y.Said _ body) kept (owns k .bytes body (w .write) (w .read) (v .write) (v .read) o (h .stores k other)) n
 
     -- its change is the same in both
     acting-alike : (o : Command k) (b : List ℕ)
@@ -282,14 +247,14 @@ module _ (x : Channel) (w v : World) (h : Alike x w v) where
               shows = ap (λ (p : Part k). record { number = out .number; value = valueOf k p o; report = reportOf k p o; reply = [] }) (h .state .parts k other);
               next = record {
                 state = put-alike x k q (w .state) (v .state) (h .state);
-                stores = λ y f. stores-answered y (keptBytes (out .kept) (given k o)) (w .write) (w .read) (v .write) (v .read) (h .stores y f);
-                room = lack-answered (w .write) (w .read) (v .write) (v .read) k (out .kept) (given k o) n (h .stores k other) (h .room);
+                stores = λ y f. owns y .answered (keptBytes (out .kept) (given k o)) (w .write) (w .read) (v .write) (v .read) (h .stores y f);
+                room = owns k .lackAnswered (out .kept) (given k o) (w .write) (w .read) (v .write) (v .read) n (h .stores k other) (h .room);
               };
             }
 
     settles-together : (o : Board k) {p : Part k} {c : Change k} → Settles k p o c
         → Together x (settled k w o (lift k (w .state) c)) (settled k v o (lift k (v .state) c))
-    settles-together o {p = p} (L.Settles.refused n a b e f) = settled-together o p _ (none-own k)
+    settles-together o {p = p} (L.Settles.refused n a b e f) = settled-together o p _ (owns k .nothing)
     settles-together o (L.Settles.accepted q kept n) = settled-together o q _ n
 
   reconfigured-alike : (a n : ℕ)
@@ -336,11 +301,6 @@ middle true b c e = absurd (true≢false e)
 middle false true c e = absurd (true≢false e)
 middle false false c e = refl
 
-room-kept : (k : Channel) (w : World) (c : Config) (p : Part k) (o : Board k) (x : Change k) → Settled k c p o x → shortFor k o w ≡ false
-    → ltb (length (over (keptBytes (outOf k x .kept) (given k o)) (w .read))) readLength ≡ ltb (length (w .read)) readLength
-room-kept peripheral w c p o x d s = P₁.room w d s
-room-kept wires w c p o x d s = W₁.room w d
-
 -- data of k's own stays out of the others' stores
 module _ (b write read : List ℕ) where
   abbrev StoresStay : Channel → (List ℕ → List ℕ) → Type 0
@@ -348,8 +308,7 @@ module _ (b write read : List ℕ) where
 
   stores-own : (k y : Channel) (kept : Kept) → ownKept k kept ≡ true → same k y ≡ false → StoresStay y (over (keptBytes kept b))
   stores-own k wires kept o e = (refl, refl)
-  stores-own peripheral peripheral kept o e = absurd (true≢false e)
-  stores-own wires peripheral kept o e = W₁.kept-none (StoresStay peripheral) kept b o (refl, refl)
+  stores-own k peripheral kept o e = kept-other (StoresStay peripheral) k (same-turned k peripheral e) kept b o (refl, refl)
 
 module _ (k : Channel) (w : World) where
   acts-own : (b r : List ℕ) {p : Part k} {a : Act k} {c : Change k} → Acts k p a c → shortStores r w ≡ false
@@ -366,7 +325,7 @@ module _ (k : Channel) (w : World) where
       long = over-long _ (w .write) writeLength (middle (ltb (length r) replyLength) (ltb (length (w .write)) writeLength) (ltb (length (w .read)) readLength) s)
 
       kept-own : {p : Part k} {a : Act k} {c : Change k} → Acts k p a c → ownKept k (outOf k c .kept) ≡ true
-      kept-own {p = p} L.Acts.refused = ap (λ (out : Out). ownKept k (out .kept)) (out-change k p _) ∙ none-own k
+      kept-own {p = p} L.Acts.refused = ap (λ (out : Out). ownKept k (out .kept)) (out-change k p _) ∙ owns k .nothing
       kept-own (L.Acts.accepted q body kept o n) = ap (λ (out : Out). ownKept k (out .kept)) (out-change k q _) ∙ n
 
   settled-own : (o : Board k) (x : Change k) → Settled k (w .state .config) (part k (w .state)) o x → shortFor k o w ≡ false
@@ -376,11 +335,11 @@ module _ (k : Channel) (w : World) where
       record {
         state = put-own k (nextOf k x) (w .state);
         stores = λ y e. stores-own (given k o) (w .write) (w .read) k y (outOf k x .kept) (kept-own (L₁.settled k _ _ o x d)) e .1;
-        room = λ reply. ap (λ (t : Bool). ltb (length reply) replyLength || (ltb (length (w .write)) writeLength || t)) (room-kept k w _ _ o x d s);
+        room = λ reply. ap (λ (t : Bool). ltb (length reply) replyLength || (ltb (length (w .write)) writeLength || t)) (owns k .room w _ _ o x d s);
       }
     where
       kept-own : {p : Part k} {c : Change k} → Settles k p o c → ownKept k (outOf k c .kept) ≡ true
-      kept-own {p = p} (L.Settles.refused n a b e f) = ap (λ (out : Out). ownKept k (out .kept)) (out-change k p _) ∙ none-own k
+      kept-own {p = p} (L.Settles.refused n a b e f) = ap (λ (out : Out). ownKept k (out .kept)) (out-change k p _) ∙ owns k .nothing
       kept-own (L.Settles.accepted q kept n) = ap (λ (out : Out). ownKept k (out .kept)) (out-change k q _) ∙ n
 
 module _ (x : Channel) (w : World) where
@@ -408,11 +367,7 @@ module _ (x : Channel) (w : World) where
 same-room : (x : Channel) (w v : World) → Alike x w v → (c : Call) → isCallOf x c ≡ false → SameRoom w v c
 same-room x w v h (reset r) e = tt
 same-room x w v h (exchange b r) e = h .room r
-same-room x w v h (board k o) e = short-alike k o (h .stores k e)
-  where
-    short-alike : (k : Channel) (o : Board k) → storesOf k (w .write) (w .read) ≡ storesOf k (v .write) (v .read) → shortFor k o w ≡ shortFor k o v
-    short-alike peripheral o q = P₁.short-alike w v o q
-    short-alike wires o q = refl
+same-room x w v h (board k o) e = owns k .shortAlike w v o (h .stores k e)
 same-room x w v h (short state c) e = tt
 same-room x w v h (lend write read) e = tt
 

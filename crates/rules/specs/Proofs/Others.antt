@@ -20,7 +20,7 @@ use Rattle.rules.specs.declared.Kept.the-variants as K
 use Rattle.rules.specs.declared.Out.{Out}
 
 -- its calls keep nothing in channel 0's stores
-own-other : (k : Channel) → same peripheral k ≡ false → (kept : Kept) → ownKept k kept ≡ true → kept ≡ K.Nothing
+pub own-other : (k : Channel) → same peripheral k ≡ false → (kept : Kept) → ownKept k kept ≡ true → kept ≡ K.Nothing
 own-other peripheral e kept f = absurd (true≢false e)
 own-other wires e K.Nothing f = refl
 own-other wires e (K.Data from n) f = absurd (true≢false (sym f))
