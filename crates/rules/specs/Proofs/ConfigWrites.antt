@@ -24,7 +24,7 @@ use Rattle.rules.specs.Statements.Plans as N
 use Rattle.rules.specs.Statements.Cases.{Case, idle, shown, acted, settles, forbidden, configured, cleared, wiped, lent}
 use Rattle.rules.specs.Statements.Fields.{byte, registerAt, registerValue}
 use Rattle.rules.specs.Statements.Sizes.{isEnabled}
-use Rattle.rules.specs.Statements.Events.{registerOf}
+use Rattle.rules.specs.Statements.Events.{enablesAt}
 use Rattle.rules.specs.Statements.Shape.{replyOf}
 use Rattle.rules.specs.Statements.Effects.{switched, valueEnables, writtenPart, writtenState, boardEffect, exchangeEffect, effect}
 use Rattle.rules.specs.Statements.ConfigWrites.{bitOf, writableBits, valueAt, BitsWritten, turns, Configured, boardOnlyReads, onlyReads, registerBytes, ConfigWrites}
@@ -136,10 +136,10 @@ module _ (s : State) (v : ℕ) where
 
   -- a write of this address does not turn this channel
   abbrev Unturned : ℕ → Channel → Type 0
-  Unturned a k = (eqb a (registerOf k) && turns k (isEnabled k c) (valueEnables v)) ≡ false
+  Unturned a k = (enablesAt k a && turns k (isEnabled k c) (valueEnables v)) ≡ false
 
   pub parts-at : (k : Channel) (a : ℕ) → Unturned a k → part k (after a) ≡ part k s
-  parts-at k a h = part-each (writtenPart c a v) _ s k ∙ go (eqb a (registerOf k)) h
+  parts-at k a h = part-each (writtenPart c a v) _ s k ∙ go (enablesAt k a) h
     where
       go : (t : Bool) → (t && turns k (isEnabled k c) (valueEnables v)) ≡ false
           → switched k (isEnabled k c) (pick t (valueEnables v) (isEnabled k c)) (part k s) ≡ part k s

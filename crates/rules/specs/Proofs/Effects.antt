@@ -22,7 +22,7 @@ use Rattle.rules.specs.Rules.Step.{World, Call, Outcome, step, withState
 use Rattle.rules.specs.Statements.Cases.{Did, Settled, commandOf, Admits, status, register, Case, idle, shown, acted, settles, forbidden, configured, cleared, wiped, lent}
 use Rattle.rules.specs.Statements.Fields.{byte}
 use Rattle.rules.specs.Statements.Sizes.{isOf, isEnabled}
-use Rattle.rules.specs.Statements.Events.{registerOf}
+use Rattle.rules.specs.Statements.Events.{enablesAt}
 use Rattle.rules.specs.Statements.Effects.{commandPart, commandWrite, boardPart, boardRead, switched, commandEffect, boardEffect, resetEffect, writtenRegisters, valueEnables, enabledAfter, writtenPart, writtenState, exchangeEffect, effect, Effects, trafficOf, Frames, PartsKept}
 use Rattle.rules.specs.Statements.Refusals.{Refusal}
 use Rattle.rules.specs.Proofs.Cases.{cases}
@@ -67,8 +67,8 @@ enables v = ap (λ (x : ℕ). eqb x 1) (sym (bit-zero v))
 on-written : (k : Channel) (c : Config) (a v : ℕ) → on k (writeAt c a v) ≡ enabledAfter k c a v
 on-written k c a v =
     enable-written k c a v
-    ∙ ap (λ (t : Bool). pick (eqb a (registerOf k)) t (on k c)) (enables v)
-    ∙ ap (λ (t : Bool). pick (eqb a (registerOf k)) (valueEnables v) t) (on-as k c)
+    ∙ ap (λ (t : Bool). pick (enablesAt k a) t (on k c)) (enables v)
+    ∙ ap (λ (t : Bool). pick (enablesAt k a) (valueEnables v) t) (on-as k c)
 
 -- what a new configuration makes of the parts
 abbrev edges : (old new : Config) (k : Channel) → Part k → Part k

@@ -29,7 +29,7 @@ use Rattle.rules.specs.Statements.Wires as W
 use Rattle.rules.specs.Statements.Plans.{Did, Settled, Admits, commandOf, Shows, status as getsStatus, register}
 use Rattle.rules.specs.Statements.Cases as C
 use Rattle.rules.specs.Statements.Cases.{Case}
-use Rattle.rules.specs.Statements.Events.{accepted, ending, registerOf}
+use Rattle.rules.specs.Statements.Events.{accepted, ending, enablesAt}
 use Rattle.rules.specs.Statements.Fields.{byte, isChannel1, registerAt, registerValue}
 use Rattle.rules.specs.Statements.Reads as R
 use Rattle.rules.specs.Statements.Sizes.{isOf}
@@ -72,7 +72,7 @@ module _ (s : State) (b r : List ℕ) (write : eqb (byte b 0) 0x22 ≡ false) wh
   by-byte : commandWire s b ≡ pick (eqb (byte b 0) 0x04) puts (pick (eqb (byte b 0) 0x05) gets idle)
   by-byte =
       ap (λ (t : Bool). pick (eqb (byte b 0) 0x04) puts (pick (eqb (byte b 0) 0x05) gets (pick t enables idle)))
-      (ap (λ (t : Bool). t && (eqb (registerAt b) (registerOf wires) && (not (on wires (s .config)) && eqb (registerValue b % 2) 1))) write)
+      (ap (λ (t : Bool). t && (enablesAt wires (registerAt b) && (not (on wires (s .config)) && eqb (registerValue b % 2) 1))) write)
 
   quiet-exchange : (o : Outcome) → isChannel1 (byte b 0) ≡ false → wireEventOf s (exchange b r) o ≡ idle
   quiet-exchange o e = quiet-wire s (exchange b r) o (no-disabling wires s b write) (by-byte ∙ go (eqb (byte b 0) 0x04) (eqb (byte b 0) 0x05) e)
@@ -135,8 +135,8 @@ module _ (w : World) where
 
   enabling : (b : List ℕ) (a v : ℕ) → R.Writes b a v → switchesOn (w .state) b ≡ not was && on wires (writeAt (w .state .config) a v)
   enabling b a v h =
-      ap (λ (op : ℕ). eqb op 0x22 && (eqb (registerAt b) (registerOf wires) && (not was && eqb (registerValue b % 2) 1))) (h .opcode)
-      ∙ ap₂ (λ (x y : ℕ). eqb x (registerOf wires) && (not was && eqb (y % 2) 1)) (sym (h .address)) (sym (h .value))
+      ap (λ (op : ℕ). eqb op 0x22 && (enablesAt wires (registerAt b) && (not was && eqb (registerValue b % 2) 1))) (h .opcode)
+      ∙ ap₂ (λ (x y : ℕ). enablesAt wires x && (not was && eqb (y % 2) 1)) (sym (h .address)) (sym (h .value))
       ∙ sym (rising-edge wires (w .state .config) a v)
 
   module _ (b r : List ℕ) (a v : ℕ) (h : R.Writes b a v) where

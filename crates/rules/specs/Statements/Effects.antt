@@ -15,7 +15,7 @@ use Rattle.rules.specs.Rules.Channel.{Channel, peripheral, wires, Part, 
 use Rattle.rules.specs.Rules.Step.{World, Call, reset, exchange, board, short, lend, withState, step}
 use Rattle.rules.specs.Statements.Fields.{byte, registerAt, registerValue}
 use Rattle.rules.specs.Statements.Sizes.{isOf, isEnabled}
-use Rattle.rules.specs.Statements.Events.{registerOf}
+use Rattle.rules.specs.Statements.Events.{enablesAt}
 use Rattle.rules.specs.Statements.Peripheral.Effects as P
 use Rattle.rules.specs.Statements.Wires.Effects as W
 
@@ -108,7 +108,7 @@ valueEnables v = eqb (bits 0 0 v) 1
 
 -- a write of a channel's register enables it or not; of another, all is as it was
 abbrev pub enabledAfter : Channel → Config → ℕ → ℕ → Bool
-enabledAfter k c a v = pick (eqb a (registerOf k)) (valueEnables v) (isEnabled k c)
+enabledAfter k c a v = pick (enablesAt k a) (valueEnables v) (isEnabled k c)
 
 -- an edge for the part whose register it is
 abbrev pub writtenPart : Config → ℕ → ℕ → (k : Channel) → Part k → Part k
