@@ -25,22 +25,31 @@ use Rattle.rules.specs.Statements.Sizes.{isOf}
 use Rattle.rules.specs.Statements.Plans as N
 use Rattle.rules.specs.Statements.Plans.{Admits, Planned, commandOf}
 use Rattle.rules.specs.Statements.Shape.{statusShown}
-use Rattle.rules.specs.Statements.Status.{LongEnough}
+use Rattle.rules.specs.Statements.Status.{LongEnough, statusBit}
 use Rattle.rules.specs.Statements.StatusSays.{BitsOf, StatusBits, statusIn, ShowsStatus, StatusSays}
 use Rattle.rules.specs.Proofs.Fields.{one}
 use Rattle.rules.specs.Proofs.Reads.{reads}
 use Rattle.rules.specs.Proofs.Plans.{plans}
 use Rattle.rules.specs.Proofs.Cases.{exchange-step}
 use Rattle.rules.specs.Proofs.FirstApplies.{command-number}
-use Rattle.rules.specs.Proofs.Status.{word-bits, ByRows}
+use Rattle.rules.specs.Proofs.Reply.{status-small}
+use Rattle.rules.specs.Proofs.Reply as R
+use Rattle.rules.specs.Proofs.Status.{ByRows}
 use Rattle.rules.specs.Proofs.Peripheral.Status as P
 use Rattle.rules.specs.Proofs.Wires.Status as W
-use Rattle.rules.specs.Proofs.Effects.{command-own, above}
+use Rattle.rules.specs.Proofs.Effects.{command-own}
+use Rattle.rules.specs.Proofs.Whose.{never-set}
 use Rattle.rules.specs.declared.Say.{Say}
 use Rattle.rules.specs.declared.Say.the-variants as Y
 use Rattle.rules.specs.declared.Plan.{Plan}
 
 -- ---- the bits
+
+word-is : (w : World) → status (w .state) ≡ statusBit w 0 + 2 * statusBit w 1 + 4 + 16 * statusBit w 4 + 64 * statusBit w 6
+unfolding status
+word-is w =
+    let s = w .state in
+    rw (P.free-bit s, P.idle-bit s, P.avail-bit s, W.word-bit s) (omega (arith, R.status-bits s))
 
 module _ (w : World) (lent : List ℕ) (sound : Sound (w .state)) (long : LongEnough w lent) where
   abbrev s : State
@@ -61,7 +70,7 @@ module _ (w : World) (lent : List ℕ) (sound : Sound (w .state)) (long : LongEn
   of-channel wires = W.get-vwire w lent sound by-rows
 
   status-bits : StatusBits w lent
-  status-bits = record { word = word-bits s .is; ofChannel = of-channel }
+  status-bits = record { word = word-is w; ofChannel = of-channel }
 
 -- ---- the status in a reply
 
@@ -79,7 +88,7 @@ status-at p lo hi last r e =
 status-in : (m : List ℕ) (s : State) → statusIn (closed m (status s)) ≡ status s
 unfolding closed
 status-in m s =
-    status-at m (status s % 256) (status s / 256 % 256) (crc (m ++ low2 (status s))) (closed m (status s)) refl ∙ omega (arith, word-bits s .small)
+    status-at m (status s % 256) (status s / 256 % 256) (crc (m ++ low2 (status s))) (closed m (status s)) refl ∙ omega (arith, status-small s)
 
 -- a state that is not changed has one status
 shown-same : (op : ℕ) (s : State) → status s ≡ statusShown op s s
@@ -88,12 +97,6 @@ shown-same op s = pick-ind (λ (n : ℕ). status s ≡ n) (eqb op 0x22) (λ _. r
 module _ (s : State) (b store : List ℕ) where
   abbrev Shown : Plan → Type 0
   Shown p = replyBytes (p .reply) store ≢ [] → statusIn (replyBytes (p .reply) store) ≡ statusShown (byte b 0) s (p .next)
-
-  -- no channel's command is a SET_CONFIGURATION
-  not-set : (k : Channel) (o : Command k) → Admits s b (commandOf k o) → eqb (byte b 0) 0x22 ≡ false
-  not-set k o e =
-      one (λ (op : ℕ). isOf k op ≡ true → eqb op 0x22 ≡ false) (byte b 0) 0x22 (λ h. absurd (true≢false (sym h ∙ above k .at22))) (λ n _. n)
-      (command-own k s b o e)
 
   said : (say : Say) (t : State) → replyBytes (withStatus say (status t)) store ≢ [] → statusIn (replyBytes (withStatus say (status t)) store) ≡ status t
   unfolding replyBytes
@@ -104,7 +107,7 @@ module _ (s : State) (b store : List ℕ) where
   unfolding replyBytes lift
   plan-shows (N.turned n q) some = absurd (some refl)
   plan-shows (N.shows q) some = status-in _ s ∙ shown-same (byte b 0) s
-  plan-shows (N.acts k o x e d) some = passed _ _ (not-set k o e) (said (outOf k x .say) (put k (nextOf k x) s) some)
+  plan-shows (N.acts k o x e d) some = passed _ _ (never-set k (byte b 0) (command-own k s b o e)) (said (outOf k x .say) (put k (nextOf k x) s) some)
   plan-shows (N.forbids a v e f) some = status-in _ s ∙ shown-same (byte b 0) s
   plan-shows (N.configures a v e f) some = taken _ _ (ap (λ (op : ℕ). eqb op 0x22) (reads s b _ e .opcode)) (status-in _ s)
   plan-shows (N.clears e) some = absurd (some refl)

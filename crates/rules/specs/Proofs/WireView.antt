@@ -40,8 +40,8 @@ use Rattle.rules.specs.Proofs.SoundParts.{parts}
 use Rattle.rules.specs.Proofs.Reads.{reads}
 use Rattle.rules.specs.Proofs.Events.{rising-edge, no-disabling, disabling}
 use Rattle.rules.specs.Proofs.Lift.{same-turned, own-or-other, part-stays}
-use Rattle.rules.specs.Proofs.Effects.{command-own, above}
-use Rattle.rules.specs.Proofs.Whose.{own-opcode}
+use Rattle.rules.specs.Proofs.Effects.{command-own}
+use Rattle.rules.specs.Proofs.Whose.{own-opcode, never-set}
 use Rattle.rules.specs.declared.WiresChange.{WiresChange}
 use Rattle.rules.specs.declared.Body.{Body}
 
@@ -90,13 +90,6 @@ as-is : {w : World} {c : Call} {o : Outcome} {e : WireEvent} → wireEventOf (w 
 as-is {w} {c} {o} q m = subst (WireMove w c o) (sym q) m
 
 -- ---- another channel's change
-
-never-set : (k : Channel) (op : ℕ) → isOf k op ≡ true → eqb op 0x22 ≡ false
-never-set k op e = go (eqb op 0x22) refl
-  where
-    go : (t : Bool) → eqb op 0x22 ≡ t → t ≡ false
-    go true f = absurd (true≢false (sym e ∙ ap (isOf k) (eqb-true op 0x22 f) ∙ above k .at22))
-    go false f = refl
 
 board-other : (k : Channel) → same wires k ≡ false → (o : Board k) → boardWire k o ≡ idle
 board-other peripheral n o = refl
