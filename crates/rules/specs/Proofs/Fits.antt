@@ -9,11 +9,10 @@ use lib.Dec.{eqb, ltb}
 use lib.ListN.{length, drop, length-append, length-take}
 use borrow.Author.Tests.{not-false, eqb-true, leb-true}
 use Rattle.base.specs.Pick.{pick, pick-ind}
-use Rattle.registers.specs.Registers.{payloadSize, operatingCount, crcChecked, forbiddenAt, reachable}
+use Rattle.registers.specs.Registers.{payloadSize, crcChecked, forbiddenAt, reachable}
 use Rattle.registers.specs.Laws.{payload-legal, reachable-r010}
 use Rattle.registers.specs.declared.Config.{Config}
-use Rattle.wires.specs.Groups.{sent, packetBytes}
-use Rattle.wires.specs.declared.Wires.{Wires}
+use Rattle.wires.specs.Groups.{packetBytes}
 use Rattle.wires.specs.declared.Packet.{Packet}
 use Rattle.wires.specs.declared.Packet.the-variants as G
 use Rattle.command.specs.Decode.{admit}
@@ -23,8 +22,6 @@ use Rattle.command.specs.declared.Access.the-variants.{IoRead, IoWrite, MemoryR
 use Rattle.command.specs.declared.Span.{Span}
 use Rattle.command.specs.declared.PeripheralCommand.{PeripheralCommand}
 use Rattle.command.specs.declared.PeripheralCommand.the-variants.{PutPc, GetPc, PutNp, Short}
-use Rattle.command.specs.declared.WiresCommand.{WiresCommand}
-use Rattle.command.specs.declared.WiresCommand.the-variants.{PutVwire, GetVwire}
 use Rattle.command.specs.declared.Command.{Command}
 use Rattle.command.specs.declared.Command.the-variants as C
 use Rattle.command.specs.declared.Decoded.{Decoded}
@@ -44,19 +41,19 @@ use Rattle.state.specs.Facts.{sound-config, sound-request}
 use Rattle.state.specs.Sound.{sound}
 use Rattle.rules.specs.Rules.Out.{responseByte}
 use Rattle.rules.specs.Rules.Peripheral as P
-use Rattle.rules.specs.Rules.Wires as W
-use Rattle.rules.specs.Rules.Channel.{Channel, peripheral, wires, Change, outOf}
+use Rattle.rules.specs.Rules.Channel.{Channel, peripheral, wires, Change, outOf, actOf}
 use Rattle.rules.specs.Rules.Lift.{withStatus, lift}
 use Rattle.rules.specs.Rules.Exchange.{setConfiguration, decide, channelsOf, byDecoded, exchange}
 use Rattle.rules.specs.Rules.Reply.{bodyBytes, closed, replyBytes}
-use Rattle.rules.specs.Rules.Fits.{BodyFits, ReplyFits, KeptFits, PlanFits, PieceFits}
+use Rattle.rules.specs.Rules.Fits.{BodyFits, ReplyFits, SayFits, OutFits, KeptFits, PlanFits, PieceFits}
+use Rattle.rules.specs.Proofs.Plans.{did}
+use Rattle.rules.specs.Proofs.Wires.Fits as W
 use Rattle.rules.specs.declared.Body.{Body}
 use Rattle.rules.specs.declared.Body.the-variants as B
 use Rattle.rules.specs.declared.Say.{Say}
 use Rattle.rules.specs.declared.Say.the-variants as S
 use Rattle.rules.specs.declared.Out.{Out}
 use Rattle.rules.specs.declared.PeripheralChange.{PeripheralChange}
-use Rattle.rules.specs.declared.WiresChange.{WiresChange}
 use Rattle.rules.specs.declared.Reply.{Reply}
 use Rattle.rules.specs.declared.Reply.the-variants.{Silent, Said}
 
@@ -85,13 +82,6 @@ reply-length Silent reads f = omega arith
 reply-length (Said response body status) reads f = omega (arith, closed-length (responseByte response ∷ bodyBytes body reads) status, body-length body reads f)
 
 -- ---- what goes out of a channel
-
-abbrev SayFits : Say → Type 0
-SayFits S.Silent = Unit {0}
-SayFits (S.Said response body) = BodyFits body
-
-abbrev OutFits : ℕ → Out → Type 0
-OutFits m out = SayFits (out .say) × KeptFits (out .kept) m 256
 
 with-status : (say : Say) (word : ℕ) → SayFits say → ReplyFits (withStatus say word)
 with-status S.Silent word f = f
@@ -185,28 +175,6 @@ module _ (p : Peripheral) (serial : ℕ) (success : Bool) (n : ℕ) where
   unfolding P.answerTo
   answer-to-fits e = answering-fits (p .request) e
 
--- ---- channel 1
-
-abbrev Fits1 : ℕ → WiresChange → Type 0
-Fits1 m x = OutFits m (x .out)
-
-module _ (c : Config) (w : Wires) (m : ℕ) where
-  put-vwire-fits : (n : ℕ) (pairs : List ℕ) → Fits1 m (W.putVwire c w n pairs)
-  unfolding W.putVwire
-  put-vwire-fits n pairs = pick-ind (Fits1 m) (ltb (operatingCount (c .r020)) n) (λ _. (tt, tt)) (λ _. (tt, tt))
-
-  sending-fits : (ks : List ℕ) → Fits1 m (W.sending w ks)
-  sending-fits [] = (tt, tt)
-  sending-fits (k ∷ ks) = (tt, tt)
-
-  get-vwire-fits : Fits1 m (W.getVwire c w)
-  unfolding W.getVwire
-  get-vwire-fits = sending-fits (sent w (operatingCount (c .r020)))
-
-  wires-fits : (o : WiresCommand) (b : List ℕ) → Fits1 m (W.acting c w (W.actOf o b))
-  wires-fits (PutVwire n) b = put-vwire-fits n _
-  wires-fits GetVwire b = get-vwire-fits
-
 -- ---- an exchange
 
 module _ (s : State) (h : sound s ≡ true) where
@@ -218,7 +186,7 @@ module _ (s : State) (h : sound s ≡ true) where
   unfolding decide
   decide-fits (C.Peripheral o) b e =
       lift-fits peripheral s _ (length b) (peripheral-fits (s .config) (s .peripheral) (sound-config s h) o b (sound-request s h) e)
-  decide-fits (C.Wires o) b e = lift-fits wires s _ (length b) (wires-fits (s .config) (s .wires) (length b) o b)
+  decide-fits (C.Wires o) b e = lift-fits wires s _ (length b) (W.fits (length b) (did wires (s .config) (s .wires) (actOf wires (s .config) o b)))
   decide-fits (C.GetConfiguration a) b e = record { reply = tt; kept = tt }
   decide-fits (C.SetConfiguration a v) b e = set-configuration-fits (length b) a v
   decide-fits C.GetStatus b e = record { reply = tt; kept = tt }
