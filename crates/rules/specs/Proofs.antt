@@ -19,6 +19,7 @@ pub mod Refusals
 pub mod WholeRefusals
 pub mod Reply
 pub mod Whose
+pub mod Stores
 pub mod Apart
 pub mod Shape
 pub mod SoundBytes

@@ -1,7 +1,7 @@
 -- P3, packing: sound states and their 77 bytes, there and back; nothing past them matters.
 use Prim.Native.Nat.{ℕ, zero, suc, _<_, _≤_}
 use mathlib.Core.Bool.{true}
-use mathlib.Core.List.{List, _++_, append-assoc}
+use mathlib.Core.List.{List, [], _++_, append-assoc}
 use mathlib.Core.Logic.{_↔_}
 use mathlib.Core.Path.{_≡_, refl, sym, ap, subst, _∙_}
 use native.Mathlib.Nat.{le-of-eq}
@@ -46,7 +46,7 @@ round s w =
       config-back (s .config) (b ++ d) (config-fitting (s .config) (and-left (fitsConfig (s .config)) _ (w .isFit))),
       peripheral-back a d (s .peripheral) refl (g .request) (g .write) (and-left (fitsPeripheral (s .peripheral)) _ f),
       ap wiresIn (sym (append-assoc a b d))
-          ∙ wires-back (a ++ b) (s .wires) (length-join a b 12 52 refl (peripheral-length (s .peripheral))) (whole-level (s .wires) whole) (whole-marks (s .wires) whole),
+          ∙ wires-back (a ++ b) [] (s .wires) (length-join a b 12 52 refl (peripheral-length (s .peripheral))) (whole-level (s .wires) whole) (whole-marks (s .wires) whole),
     )
 
 -- a sound state packs to bytes

@@ -49,9 +49,9 @@ six d (a ∷ b ∷ c ∷ e ∷ []) h = absurd (omega arith)
 six d (a ∷ b ∷ c ∷ e ∷ f ∷ []) h = absurd (omega arith)
 six d (a ∷ b ∷ c ∷ e ∷ f ∷ g ∷ x ∷ l) h = absurd (omega arith)
 
-pub wires-back : (p : List ℕ) (w : Wires) → length p ≡ 64 → length (w .level) ≡ 6 → length (w .pending) ≡ 6 → wiresIn (p ++ wiresBytes w) ≡ w
-wires-back p w h a b =
-    let l = wiresBytes w in
+pub wires-back : (p r : List ℕ) (w : Wires) → length p ≡ 64 → length (w .level) ≡ 6 → length (w .pending) ≡ 6 → wiresIn (p ++ (wiresBytes w ++ r)) ≡ w
+wires-back p r w h a b =
+    let l = wiresBytes w ++ r in
     rw (
       past p l 64 0 (omega arith),
       past p l 65 1 (omega arith),

@@ -5,30 +5,26 @@ use mathlib.Core.List.{List, _∷_}
 use mathlib.Core.Path.{_≡_, subst}
 use native.Mathlib.Omega.{arith}
 use lib.ListN.{length, drop, length-take}
-use Rattle.registers.specs.declared.Config.{Config}
 use Rattle.wires.specs.Groups.{packetBytes}
 use Rattle.wires.specs.declared.Packet.{Packet}
 use Rattle.wires.specs.declared.Packet.the-variants as G
-use Rattle.wires.specs.declared.Wires.{Wires}
 use Rattle.state.specs.Sound.{sound}
 use Rattle.state.specs.Facts.{sound-config, sound-request}
 use Rattle.state.specs.declared.State.{State}
 use Rattle.rules.specs.Rules.Out.{responseByte}
 use Rattle.rules.specs.Rules.Peripheral as P₀
-use Rattle.rules.specs.Rules.Wires as W₀
 use Rattle.rules.specs.Rules.Channel.{Channel, peripheral, wires, Command, Change, outOf, part, actOf}
 use Rattle.rules.specs.Rules.Lift.{lift, withStatus}
 use Rattle.rules.specs.Rules.Exchange.{exchange}
 use Rattle.rules.specs.Rules.Reply.{bodyBytes, replyBytes}
-use Rattle.rules.specs.Rules.Fits.{BodyFits, ReplyFits, KeptFits, PlanFits}
-use Rattle.rules.specs.Statements.Wires as W
+use Rattle.rules.specs.Rules.Fits.{BodyFits, ReplyFits, SayFits, OutFits, KeptFits, PlanFits}
 use Rattle.rules.specs.Statements.Plans as N
 use Rattle.rules.specs.Statements.Plans.{Did, Planned}
 use Rattle.rules.specs.Proofs.Peripheral as P
 use Rattle.rules.specs.Proofs.Peripheral.Fits as P₁
+use Rattle.rules.specs.Proofs.Wires.Fits as W
 use Rattle.rules.specs.Proofs.Plans.{plans}
 use Rattle.rules.specs.Proofs.Reads as D
-use Rattle.rules.specs.Proofs.Replies.{SayFits, OutFits}
 use Rattle.rules.specs.Proofs.Reply.{closed-length}
 use Rattle.rules.specs.declared.Body.{Body}
 use Rattle.rules.specs.declared.Body.the-variants as B
@@ -38,7 +34,6 @@ use Rattle.rules.specs.declared.Reply.{Reply}
 use Rattle.rules.specs.declared.Reply.the-variants.{Silent, Said}
 use Rattle.rules.specs.declared.Plan.{Plan}
 use Rattle.rules.specs.declared.PeripheralChange.{PeripheralChange}
-use Rattle.rules.specs.declared.WiresChange.{WiresChange}
 
 -- ---- the reply's length
 
@@ -70,18 +65,11 @@ lift-fits : (k : Channel) (s : State) (x : Change k) (m : ℕ) → OutFits m (ou
 unfolding lift
 lift-fits k s x m f = record { reply = with-status (outOf k x .say) _ (f .0); kept = f .1 }
 
--- channel 1 keeps no data, and reads no store
-wires-fit : {c : Config} {w : Wires} {a : W₀.Act} {x : WiresChange} (m : ℕ) → W.Did c w a x → OutFits m (x .out)
-wires-fit m (W.overCount e) = (tt, tt)
-wires-fit m (W.put e) = (tt, tt)
-wires-fit m (W.nonePending e) = (tt, tt)
-wires-fit m (W.sentOff e) = (tt, tt)
-
 module _ (s : State) (h : sound s ≡ true) where
   acts-fit : (b : List ℕ) (k : Channel) (o : Command k) (x : Change k) → N.Admits s b (N.commandOf k o)
       → Did k (s .config) (part k s) (actOf k (s .config) o b) x → OutFits (length b) (outOf k x)
   acts-fit b peripheral o x e d = P₁.acts-fit (length b) (sound-config s h) (sound-request s h) d (P₁.data-there (D.reads s b (N.commandOf peripheral o) e))
-  acts-fit b wires o x e d = wires-fit (length b) d
+  acts-fit b wires o x e d = W.fits (length b) d
 
   planned-fits : {b : List ℕ} {p : Plan} → Planned s b p → PlanFits (length b) p
   planned-fits {b} (N.turned n q) = record { reply = tt; kept = tt }

@@ -11,11 +11,7 @@ use Rattle.base.specs.Pick.{pick}
 use Rattle.state.specs.Status.{status}
 use Rattle.state.specs.declared.State.{State}
 use Rattle.rules.specs.Rules.Reply.{replyBytes}
-use Rattle.rules.specs.Rules.Fits.{BodyFits, KeptFits}
 use Rattle.rules.specs.Statements.Shape.{replyOf, acceptCode, bodyLength, statusShown, AcceptedReply, Shape}
-use Rattle.rules.specs.declared.Say.{Say}
-use Rattle.rules.specs.declared.Say.the-variants as S
-use Rattle.rules.specs.declared.Out.{Out}
 use Rattle.rules.specs.declared.Plan.{Plan}
 
 abbrev pub isNone : {A : Type 0} → List A → Bool
@@ -25,14 +21,6 @@ isNone (x ∷ xs) = false
 abbrev pub headOr : {A : Type 0} → A → List A → A
 headOr y [] = y
 headOr y (x ∷ xs) = x
-
--- what goes out fits, m bytes being handed over and the write store the one that keeps
-abbrev pub SayFits : Say → Type 0
-SayFits S.Silent = Unit {0}
-SayFits (S.Said response body) = BodyFits body
-
-abbrev pub OutFits : ℕ → Out → Type 0
-OutFits m out = SayFits (out .say) × KeptFits (out .kept) m 256
 
 -- what an opcode says of the reply; at a numeral it computes
 pub record Traits : Type 0 where

@@ -34,8 +34,8 @@ pub status-bits : (s : State)
 status-bits s =
     (bit-below (pcFree (s .peripheral .write)), bit-below (npFree (s .peripheral .request)), bit-below (pcAvail (s .peripheral .request)), bit-below (anyPending (s .wires)))
 
--- all its bits are in the low byte
-pub status-small : (s : State) → status s < 256
+-- it has two bytes
+pub status-small : (s : State) → status s < 65536
 unfolding status
 status-small s = omega (arith, status-bits s)
 

@@ -237,7 +237,7 @@ module _ (w : World) where
       (λ (k : Channel). (o : Command k) (x : Change k) → Admits (w .state) b (commandOf k o)
       → Did k (w .state .config) (part k (w .state)) (actOf k (w .state .config) o b) x → Seen (exchange b r) (exchanged w b (lift k (w .state) x)))
       (λ o x e d. acted-seen b r (reads (w .state) b _ e) d)
-      (λ k n o x e d. acted-beside k n b r x (command-other k n (w .state .config) b o (reads (w .state) b _ e)))
+      (λ k n o x e d. acted-beside k n b r x (command-other k n (w .state) b o e))
       k o x e d
   case-seen (C.settles k o x e d) =
       own-or-other peripheral

@@ -6,7 +6,7 @@ use mathlib.Core.Path.{_≡_, refl, sym, ap, ap₂, subst, _∙_}
 use native.Mathlib.Omega.{arith}
 use lib.Dec.{eqb}
 use lib.ListN.{length}
-use borrow.Author.Tests.{ne-eqb, eqb-true}
+use borrow.Author.Tests.{ne-eqb}
 use Rattle.base.specs.Pick.{pick}
 use Rattle.registers.specs.Registers.{writeAt}
 use Rattle.wires.specs.Groups as G
@@ -29,10 +29,9 @@ use Rattle.rules.specs.Statements.Wires as W
 use Rattle.rules.specs.Statements.Plans.{Did, Settled, Admits, commandOf, Shows, status as getsStatus, register}
 use Rattle.rules.specs.Statements.Cases as C
 use Rattle.rules.specs.Statements.Cases.{Case}
-use Rattle.rules.specs.Statements.Events.{accepted, ending, registerOf}
+use Rattle.rules.specs.Statements.Events.{accepted, ending, enablesAt}
 use Rattle.rules.specs.Statements.Fields.{byte, isChannel1, registerAt, registerValue}
 use Rattle.rules.specs.Statements.Reads as R
-use Rattle.rules.specs.Statements.Sizes.{isOf}
 use Rattle.rules.specs.Statements.WireEvents.{WireEvent, idle, puts, gets, enables, ends, switchesOn, commandWire, boardWire, acceptedWire, wireEventOf, wiresOf}
 use Rattle.rules.specs.Statements.WireView.{WireMove, still, put, sent, set, enabled, disabled, wiped, platformWiped, WireView}
 use Rattle.rules.specs.Proofs.Cases.{cases}
@@ -40,8 +39,8 @@ use Rattle.rules.specs.Proofs.SoundParts.{parts}
 use Rattle.rules.specs.Proofs.Reads.{reads}
 use Rattle.rules.specs.Proofs.Events.{rising-edge, no-disabling, disabling}
 use Rattle.rules.specs.Proofs.Lift.{same-turned, own-or-other, part-stays}
-use Rattle.rules.specs.Proofs.Effects.{command-own, above}
-use Rattle.rules.specs.Proofs.Whose.{own-opcode}
+use Rattle.rules.specs.Proofs.Effects.{command-own}
+use Rattle.rules.specs.Proofs.Whose.{own-opcode, never-set}
 use Rattle.rules.specs.declared.WiresChange.{WiresChange}
 use Rattle.rules.specs.declared.Body.{Body}
 
@@ -72,7 +71,7 @@ module _ (s : State) (b r : List ℕ) (write : eqb (byte b 0) 0x22 ≡ false) wh
   by-byte : commandWire s b ≡ pick (eqb (byte b 0) 0x04) puts (pick (eqb (byte b 0) 0x05) gets idle)
   by-byte =
       ap (λ (t : Bool). pick (eqb (byte b 0) 0x04) puts (pick (eqb (byte b 0) 0x05) gets (pick t enables idle)))
-      (ap (λ (t : Bool). t && (eqb (registerAt b) (registerOf wires) && (not (on wires (s .config)) && eqb (registerValue b % 2) 1))) write)
+      (ap (λ (t : Bool). t && (enablesAt wires (registerAt b) && (not (on wires (s .config)) && eqb (registerValue b % 2) 1))) write)
 
   quiet-exchange : (o : Outcome) → isChannel1 (byte b 0) ≡ false → wireEventOf s (exchange b r) o ≡ idle
   quiet-exchange o e = quiet-wire s (exchange b r) o (no-disabling wires s b write) (by-byte ∙ go (eqb (byte b 0) 0x04) (eqb (byte b 0) 0x05) e)
@@ -90,13 +89,6 @@ as-is : {w : World} {c : Call} {o : Outcome} {e : WireEvent} → wireEventOf (w 
 as-is {w} {c} {o} q m = subst (WireMove w c o) (sym q) m
 
 -- ---- another channel's change
-
-never-set : (k : Channel) (op : ℕ) → isOf k op ≡ true → eqb op 0x22 ≡ false
-never-set k op e = go (eqb op 0x22) refl
-  where
-    go : (t : Bool) → eqb op 0x22 ≡ t → t ≡ false
-    go true f = absurd (true≢false (sym e ∙ ap (isOf k) (eqb-true op 0x22 f) ∙ above k .at22))
-    go false f = refl
 
 board-other : (k : Channel) → same wires k ≡ false → (o : Board k) → boardWire k o ≡ idle
 board-other peripheral n o = refl
@@ -135,8 +127,8 @@ module _ (w : World) where
 
   enabling : (b : List ℕ) (a v : ℕ) → R.Writes b a v → switchesOn (w .state) b ≡ not was && on wires (writeAt (w .state .config) a v)
   enabling b a v h =
-      ap (λ (op : ℕ). eqb op 0x22 && (eqb (registerAt b) (registerOf wires) && (not was && eqb (registerValue b % 2) 1))) (h .opcode)
-      ∙ ap₂ (λ (x y : ℕ). eqb x (registerOf wires) && (not was && eqb (y % 2) 1)) (sym (h .address)) (sym (h .value))
+      ap (λ (op : ℕ). eqb op 0x22 && (enablesAt wires (registerAt b) && (not was && eqb (registerValue b % 2) 1))) (h .opcode)
+      ∙ ap₂ (λ (x y : ℕ). enablesAt wires x && (not was && eqb (y % 2) 1)) (sym (h .address)) (sym (h .value))
       ∙ sym (rising-edge wires (w .state .config) a v)
 
   module _ (b r : List ℕ) (a v : ℕ) (h : R.Writes b a v) where

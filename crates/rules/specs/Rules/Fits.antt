@@ -7,6 +7,9 @@ use Rattle.rules.specs.declared.Reply.{Reply}
 use Rattle.rules.specs.declared.Reply.the-variants.{Silent, Said}
 use Rattle.rules.specs.declared.Kept.{Kept}
 use Rattle.rules.specs.declared.Kept.the-variants as K
+use Rattle.rules.specs.declared.Say.{Say}
+use Rattle.rules.specs.declared.Say.the-variants as Y
+use Rattle.rules.specs.declared.Out.{Out}
 use Rattle.rules.specs.declared.Plan.{Plan}
 
 -- within a reply's 256 data bytes, and within a read store of 4,096
@@ -33,7 +36,14 @@ abbrev pub KeptFits : Kept → ℕ → ℕ → Type 0
 KeptFits K.Nothing m room = Unit {0}
 KeptFits (K.Data at n) m room = DataFits at n m room
 
--- the data of an exchange goes to the write store
+-- what goes out of a channel's change; the data of an exchange goes to the write store
+abbrev pub SayFits : Say → Type 0
+SayFits Y.Silent = Unit {0}
+SayFits (Y.Said response body) = BodyFits body
+
+abbrev pub OutFits : ℕ → Out → Type 0
+OutFits m out = SayFits (out .say) × KeptFits (out .kept) m 256
+
 pub record PlanFits (m : ℕ) (p : Plan) : Type 0 where
   pub reply : ReplyFits (p .reply)
   pub kept : KeptFits (p .kept) m 256

@@ -20,10 +20,10 @@ use Rattle.peripheral.specs.declared.Np.the-variants.{Free, Waiting, Ready, Fai
 use Rattle.peripheral.specs.declared.Peripheral.{Peripheral}
 use Rattle.peripheral.specs.declared.Request.{Request}
 use Rattle.rules.specs.Rules.Peripheral as P₀
-use Rattle.rules.specs.Rules.Fits.{PieceFits, KeptFits}
+use Rattle.rules.specs.Rules.Fits.{PieceFits, OutFits, KeptFits}
 use Rattle.rules.specs.Statements.Peripheral as P
 use Rattle.rules.specs.Statements.Reads as F
-use Rattle.rules.specs.Proofs.Replies.{isNone, headOr, OutFits}
+use Rattle.rules.specs.Proofs.Replies.{isNone, headOr}
 use Rattle.rules.specs.declared.PeripheralChange.{PeripheralChange}
 
 success-fits : (k : Kind) (q : Request) (sent : ℕ) → ReadyRequest q sent → PieceFits (successOf k q sent)
