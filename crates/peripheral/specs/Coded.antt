@@ -9,7 +9,7 @@ use Rattle.base.specs.Pick.{and-right, taken, passed}
 use Rattle.peripheral.specs.Upward.{nextOf, afterPiece}
 use Rattle.peripheral.specs.Sound.{shortSize, ioMade, soundRequest}
 use Rattle.peripheral.specs.Facts.{ready-request}
-use Rattle.peripheral.specs.Layout.{writeOf, kindOf, npOf}
+use Rattle.peripheral.specs.Layout.{writeOf, kindOf, npOf, tidyWrite, tidyRequest}
 use Rattle.peripheral.specs.declared.Kind.the-variants.{IoWrite}
 use Rattle.peripheral.specs.declared.Request.{Request}
 use Rattle.peripheral.specs.declared.Np.{Np}
@@ -68,3 +68,15 @@ npOf-rest zero q sent x y z = absurd (x refl)
 npOf-rest (suc zero) q sent x y z = absurd (y refl)
 npOf-rest (suc (suc zero)) q sent x y z = absurd (z refl)
 npOf-rest (suc (suc (suc n))) q sent x y z = refl
+
+pub tidyWrite-rest : (n : ℕ) (w : Posted) → (n ≡ 0 → ⊥) → (n ≡ 1 → ⊥) → false ≡ tidyWrite n w
+tidyWrite-rest zero w x y = absurd (x refl)
+tidyWrite-rest (suc zero) w x y = absurd (y refl)
+tidyWrite-rest (suc (suc n)) w x y = refl
+
+pub tidyRequest-rest : (n kind : ℕ) (q : Request) (sent : ℕ) → (n ≡ 0 → ⊥) → (n ≡ 1 → ⊥) → (n ≡ 2 → ⊥) → (n ≡ 3 → ⊥) → false ≡ tidyRequest n kind q sent
+tidyRequest-rest zero kind q sent x y z v = absurd (x refl)
+tidyRequest-rest (suc zero) kind q sent x y z v = absurd (y refl)
+tidyRequest-rest (suc (suc zero)) kind q sent x y z v = absurd (z refl)
+tidyRequest-rest (suc (suc (suc zero))) kind q sent x y z v = absurd (v refl)
+tidyRequest-rest (suc (suc (suc (suc n)))) kind q sent x y z v = refl

@@ -1,6 +1,8 @@
 -- The channel's bytes in those of a state, as docs/STATE.md lays them out.
 use Prim.Native.Nat.{ℕ, zero, suc}
+use mathlib.Core.Bool.{Bool, true, false, _&&_}
 use mathlib.Core.List.{List, _∷_, _++_}
+use lib.Dec.{eqb, leb}
 use lib.ListN.{getD}
 use Rattle.base.specs.Bytes.{low4, low8, number4, number8}
 use Rattle.peripheral.specs.declared.Kind.{Kind}
@@ -84,3 +86,28 @@ peripheralIn l =
       request = npOf (getD l 29 0) (requestIn l) (number4 56 l);
       serial = number4 60 l;
     }
+
+-- ---- the canonical form (docs/STATE.md), by the bytes as they stand: 0 where nothing is held, and no byte that says nothing
+
+abbrev pub tidyWrite : ℕ → Posted → Bool
+tidyWrite zero w = eqb (w .address) 0 && (eqb (w .length) 0 && eqb (w .payload) 0)
+tidyWrite (suc zero) w = true
+tidyWrite (suc (suc n)) w = false
+
+abbrev pub blank : (kind : ℕ) → Request → ℕ → Bool
+blank kind q sent =
+    eqb kind 0
+    && (eqb (q .tag) 0
+    && (eqb (q .address) 0
+    && (eqb (q .length) 0 && (eqb (q .payload) 0 && (eqb (q .readsize) 0 && (eqb (q .bytes) 0 && eqb sent 0))))))
+
+-- by phase; bytes are sent of an answer with success alone
+abbrev pub tidyRequest : (phase kind : ℕ) → Request → ℕ → Bool
+tidyRequest zero kind q sent = blank kind q sent
+tidyRequest (suc zero) kind q sent = leb kind 2 && eqb sent 0
+tidyRequest (suc (suc zero)) kind q sent = leb kind 2
+tidyRequest (suc (suc (suc zero))) kind q sent = leb kind 2 && eqb sent 0
+tidyRequest (suc (suc (suc (suc n)))) kind q sent = false
+
+abbrev pub tidyPeripheral : List ℕ → Bool
+tidyPeripheral l = tidyWrite (getD l 12 0) (postedIn l) && tidyRequest (getD l 29 0) (getD l 30 0) (requestIn l) (number4 56 l)

@@ -43,10 +43,10 @@ peripheral-length p =
 -- ---- parts that stand behind others
 
 module _ (p l : List ℕ) where
-  posted-at : length p ≡ 12 → postedIn (p ++ l) ≡ record { address = number8 1 l; length = number4 9 l; payload = number4 13 l }
+  pub posted-at : length p ≡ 12 → postedIn (p ++ l) ≡ record { address = number8 1 l; length = number4 9 l; payload = number4 13 l }
   posted-at h = rw (number8-past p l 13 1 (omega arith), number4-past p l 21 9 (omega arith), number4-past p l 25 13 (omega arith))
 
-  request-at : length p ≡ 29
+  pub request-at : length p ≡ 29
       → requestIn (p ++ l)
       ≡ record { kind = kindOf (getD l 1 0); tag = getD l 2 0; address = number8 3 l; length = number4 11 l; payload = number4 15 l; readsize = number4 19 l; bytes = number4 23 l }
   request-at h =

@@ -11,7 +11,7 @@ ghost use Rattle.peripheral.specs.Queues.{idle, dropped};
 ghost use Rattle.peripheral.specs.Status.{pcFree, npFree, pcAvail, peripheralStatus};
 ghost use Rattle.peripheral.specs.Upward.{bare, pieceOf, successOf, upward, firstOf, afterPiece, afterSuccess, handed};
 ghost use Rattle.peripheral.specs.Sound.{within, shortSize, ioMade, madeAs, requestMade, writeMade, sentRight, soundRequest, soundWrite, soundPeripheral};
-ghost use Rattle.peripheral.specs.Layout.{writeBytes, kindNumber, numberBytes, requestBytes, npBytes, postedIn, writeOf, kindOf, requestIn, npOf, peripheralIn};
+ghost use Rattle.peripheral.specs.Layout.{writeBytes, kindNumber, numberBytes, requestBytes, npBytes, postedIn, writeOf, kindOf, requestIn, npOf, peripheralIn, tidyWrite, blank, tidyRequest, tidyPeripheral};
 
 pub enum Kind {
     MemoryRead,
@@ -510,6 +510,40 @@ fn np_of(n: u8, q: Request, sent: u32) -> Np
     }
 }
 
+// ---- the canonical form, by the bytes as they stand
+
+fn tidy_write(n: u8, w: Posted) -> bool
+    ensures { λ r. ⌜ r ≡ tidyWrite n w ⌝ }
+{
+    match n {
+        0 => (w.address == 0) & ((w.length == 0) & (w.payload == 0)),
+        1 => true,
+        _ => false,
+    }
+}
+
+fn blank(kind: u8, q: Request, sent: u32) -> bool
+    ensures { λ r. ⌜ r ≡ blank kind q sent ⌝ }
+{
+    (kind == 0)
+        & ((q.tag == 0)
+            & ((q.address == 0)
+                & ((q.length == 0)
+                    & ((q.payload == 0) & ((q.readsize == 0) & ((q.bytes == 0) & (sent == 0)))))))
+}
+
+fn tidy_request(phase: u8, kind: u8, q: Request, sent: u32) -> bool
+    ensures { λ r. ⌜ r ≡ tidyRequest phase kind q sent ⌝ }
+{
+    match phase {
+        0 => blank(kind, q, sent),
+        1 => (kind <= 2) & (sent == 0),
+        2 => kind <= 2,
+        3 => (kind <= 2) & (sent == 0),
+        _ => false,
+    }
+}
+
 // ---- the channel
 
 impl Peripheral {
@@ -564,5 +598,15 @@ impl Peripheral {
             request,
             serial: base::get4(b, 60),
         }
+    }
+
+    // Whether its bytes in `b` are those of a channel, packed.
+    pub fn tidy(b: &[u8]) -> bool
+        requires { ⌜ 64 ≤ length (now b) ⌝ }
+        ensures { λ r. ⌜ r ≡ tidyPeripheral (now (b .entry)) ⌝ }
+    {
+        let write = tidy_write(b[12], posted_in(b));
+        let request = tidy_request(b[29], b[30], request_in(b), base::get4(b, 56));
+        write & request
     }
 }

@@ -1,18 +1,18 @@
 -- How the code writes and reads the bytes that a definition says in another way: the laws that its proofs cite.
-use Prim.Native.Nat.{ℕ}
+use Prim.Native.Nat.{ℕ, _<_, _≤_}
 use mathlib.Core.Bool.{Bool, _&&_}
 use mathlib.Core.List.{List, _++_, append-assoc}
-use mathlib.Core.Path.{_≡_, refl, sym, ap, _∙_}
-use lib.ListN.{length}
-use Rattle.base.specs.Bytes.{low4, put, over, put-over, put-first, over-whole, agree}
+use mathlib.Core.Path.{_≡_, refl, ap, _∙_}
+use lib.ListN.{length, getD}
+use Rattle.base.specs.Bytes.{low4, put, over, put-over, put-first, agree}
 use Rattle.base.specs.Numbers.{length-join}
 use Rattle.registers.specs.Layout.{configBytes}
-use Rattle.wires.specs.Layout.{wiresBytes}
-use Rattle.peripheral.specs.Layout.{writeBytes, npBytes}
+use Rattle.wires.specs.Layout.{wiresBytes, tidyWires}
+use Rattle.peripheral.specs.Layout.{writeBytes, npBytes, tidyPeripheral}
 use Rattle.peripheral.specs.Packing.{write-length, np-length}
 use Rattle.state.specs.Sound.{sound}
-use Rattle.state.specs.Layout.{stateLength, packed, unpacked, holds, loaded}
-use Rattle.state.specs.Packing.{packed-length}
+use Rattle.state.specs.Layout.{stateLength, packed, unpacked, holds, tidy, loaded}
+use Rattle.state.specs.Tidy.{tidy-is}
 use Rattle.state.specs.declared.State.{State}
 use Rattle.state.specs.declared.Loaded.{Loaded}
 
@@ -44,15 +44,14 @@ packed-by s l m₁ m₂ m₃ m₄ m₅ e₁ e₂ e₃ e₄ e₅ =
     let f₄ = e₄ ∙ ap (put 60 d) f₃ ∙ put-over ((a ++ b) ++ c) d l 60 l₃ in
     e₅ ∙ ap (put 64 e) f₄ ∙ put-over (((a ++ b) ++ c) ++ d) e l 64 l₄ ∙ ap (λ (z : List ℕ). over z l) (nested a b c d e)
 
--- `load` by its callees: z is a local array of 77 bytes, packed over
-pub loaded-by : (l z m : List ℕ) (s : State) (fine back : Bool)
-    → length z ≡ stateLength
+-- `load` by its callees
+pub loaded-by : (l : List ℕ) (s : State) (fine p w : Bool) → ((k : ℕ) → getD l k 0 < 256) → stateLength ≤ length l
     → s ≡ unpacked l
     → fine ≡ sound s
-    → m ≡ over (packed s) z
-    → back ≡ agree stateLength m l
-    → _≡_ {A = Loaded} (record { ok = fine && back; state = s }) (loaded l)
-unfolding holds
-loaded-by l z m s fine back hz es ef em eb =
-    let e : m ≡ packed s = em ∙ over-whole (packed s) z (packed-length s ∙ sym hz) in
-    rw (ef, eb, e, es)
+    → p ≡ tidyPeripheral l
+    → w ≡ tidyWires l
+    → _≡_ {A = Loaded} (record { ok = fine && (p && w); state = s }) (loaded l)
+unfolding holds tidy
+loaded-by l s fine p w byte h es ef ep ew =
+    let e : p && w ≡ agree stateLength (packed (unpacked l)) l = rw (ep, ew) (tidy-is l byte h) in
+    rw (ef, e, es)

@@ -4,4 +4,5 @@ pub mod Sound
 pub mod Facts
 pub mod Layout
 pub mod Packing
+pub mod Tidy
 pub mod Coded

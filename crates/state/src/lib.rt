@@ -87,18 +87,16 @@ fn unpack(b: &[u8]) -> State
     }
 }
 
-// The state that the bytes pack, and whether they pack a sound one: it is packed again and compared.
+// The state that the bytes pack, and whether they pack a sound one: the bytes are tested as they stand.
 pub fn load(b: &[u8]) -> Loaded
     requires { ⌜ stateLength ≤ length (now b) ⌝ }
     ensures { λ r. ⌜ r ≡ loaded (now (b .entry)) ⌝ }
 {
     let state = unpack(b);
     let sound = sound(state);
-    let mut again: [u8; 77] = [0; 77];
-    pack(state, &mut again);
-    let same = base::same(&again, b, 77);
+    let tidy = Peripheral::tidy(b) & Wires::tidy(b);
     Loaded {
-        ok: sound & same,
+        ok: sound & tidy,
         state,
     }
 }

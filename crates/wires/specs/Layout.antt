@@ -1,11 +1,11 @@
 -- The wires' bytes in those of a state (docs/STATE.md), there and back.
 use Prim.Native.Nat.{ℕ, _-_, _<_, _≤_}
-use mathlib.Core.Bool.{Bool, true, false}
+use mathlib.Core.Bool.{Bool, true, false, _&&_}
 use mathlib.Core.List.{List, [], _∷_, _++_}
 use mathlib.Core.Path.{_≡_, refl}
 use native.Mathlib.Omega.{arith}
 use lib.Bits.{bitAnd}
-use lib.Dec.{eqb}
+use lib.Dec.{eqb, leb}
 use lib.ListN.{getD, length}
 use borrow.Author.Tests.{ltb-true}
 use Rattle.base.specs.Pick.{and-right}
@@ -31,6 +31,12 @@ wiresIn l =
       pending = eqb (getD l 70 0) 1 ∷ eqb (getD l 71 0) 1 ∷ eqb (getD l 72 0) 1 ∷ eqb (getD l 73 0) 1 ∷ eqb (getD l 74 0) 1 ∷ eqb (getD l 75 0) 1 ∷ [];
       place = getD l 76 0;
     }
+
+-- the canonical form, by the bytes as they stand: a mark is 0 or 1
+abbrev pub tidyWires : List ℕ → Bool
+tidyWires l =
+    leb (getD l 70 0) 1
+    && (leb (getD l 71 0) 1 && (leb (getD l 72 0) 1 && (leb (getD l 73 0) 1 && (leb (getD l 74 0) 1 && leb (getD l 75 0) 1))))
 
 -- ---- laws
 

@@ -6,7 +6,7 @@ ghost use lib.ListN.{length, take};
 ghost use Rattle.wires.specs.Turn.{after};
 ghost use Rattle.wires.specs.Sending.{packetAnd, leftBy, asked, sending, Sendable};
 ghost use Rattle.wires.specs.Groups.{senders, groupOf, freshWires, withGroup, levelAt, nibble, putPair, putPairs, definedBit, settable, setWire, readWire, anyPending, wiresStatus, differs, enabled, disabled, placed, resetGroup, platformWires, onlyDefined, undefinedZero, marksRight, placeRight, soundWires};
-ghost use Rattle.wires.specs.Layout.{wiresBytes, wiresIn};
+ghost use Rattle.wires.specs.Layout.{wiresBytes, wiresIn, tidyWires};
 
 pub struct WireRow {
     pub index: u8,
@@ -435,5 +435,14 @@ impl Wires {
             ],
             place: b[76],
         }
+    }
+
+    // Whether their bytes in `b` are those of wires, packed.
+    pub fn tidy(b: &[u8]) -> bool
+        requires { ⌜ 77 ≤ length (now b) ⌝ }
+        ensures { λ r. ⌜ r ≡ tidyWires (now (b .entry)) ⌝ }
+    {
+        (b[70] <= 1)
+            & ((b[71] <= 1) & ((b[72] <= 1) & ((b[73] <= 1) & ((b[74] <= 1) & (b[75] <= 1)))))
     }
 }

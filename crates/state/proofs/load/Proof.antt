@@ -1,4 +1,4 @@
-use mathlib.Core.Path.{refl}
+use native.Mathlib.Omega.{arith}
 use Rattle.state.specs.Coded.{loaded-by}
 use borrow.Author.Needs.{needs}
 use Rattle.state.proofs.load.Statement.{statement}
@@ -10,29 +10,20 @@ unpack-requires c κs = search needs
 sound-requires : tie.Need-sound-requires
 sound-requires c κs = search needs
 
-slice-aggregate-pack : tie.Need-slice-aggregate-pack
-slice-aggregate-pack c = search needs
+tidy-requires : tie.Need-tidy-requires
+tidy-requires c κs = search needs
 
-pack-requires : tie.Need-pack-requires
-pack-requires c κs = search needs
-
-slice-aggregate-same : tie.Need-slice-aggregate-same
-slice-aggregate-same c = search needs
-
-same-requires : tie.Need-same-requires
-same-requires c κs = search needs
+tidy-requires-2 : tie.Need-tidy-requires-2
+tidy-requires-2 c κs = search needs
 
 returns : tie.Need-returns
-returns c = loaded-by (c .before .before .before .before .before .before .before .before .args .b .now) _ _ _ _ _ refl (c .before .before .before .before .before .before .unpack .ensures) (c .before .before .before .before .before .sound .ensures) (c .before .before .before .pack .ensures) (c .same .ensures)
+returns c =
+    let p = c .before in
+    let s = p .before in
+    let u = s .before in
+    loaded-by (u .before .before .args .b .now) _ _ _ _ (λ k. omega (arith, u .before .shared-slice-known .given k)) (u .before .before .pre)
+    (u .unpack .ensures) (s .sound .ensures) (p .tidy .ensures) (c .tidy2 .ensures)
 
 pub load-spec : {M : Type 1} → statement M
 load-spec =
-    tie.close
-    (tie.spec
-    unpack-requires
-    sound-requires
-    slice-aggregate-pack
-    pack-requires
-    slice-aggregate-same
-    same-requires
-    returns)
+    tie.close (tie.spec unpack-requires sound-requires tidy-requires tidy-requires-2 returns)
