@@ -5,6 +5,7 @@ use mathlib.Core.List.{List, _∷_, _++_}
 use lib.Dec.{eqb, leb}
 use lib.ListN.{getD}
 use Rattle.base.specs.Bytes.{low4, low8, number4, number8}
+use Rattle.peripheral.specs.Sound.{soundRequest, soundWrite, soundPeripheral}
 use Rattle.peripheral.specs.declared.Kind.{Kind}
 use Rattle.peripheral.specs.declared.Kind.the-variants.{MemoryRead, IoRead, IoWrite}
 use Rattle.peripheral.specs.declared.Request.{Request}
@@ -79,13 +80,14 @@ npOf (suc zero) q sent = Waiting q
 npOf (suc (suc zero)) q sent = Ready q sent
 npOf (suc (suc (suc n))) q sent = Failed q
 
+abbrev pub writeIn : List ℕ → Write
+writeIn l = writeOf (getD l 12 0) (postedIn l)
+
+abbrev pub npIn : List ℕ → Np
+npIn l = npOf (getD l 29 0) (requestIn l) (number4 56 l)
+
 abbrev pub peripheralIn : List ℕ → Peripheral
-peripheralIn l =
-    record {
-      write = writeOf (getD l 12 0) (postedIn l);
-      request = npOf (getD l 29 0) (requestIn l) (number4 56 l);
-      serial = number4 60 l;
-    }
+peripheralIn l = record { write = writeIn l; request = npIn l; serial = number4 60 l }
 
 -- ---- the canonical form (docs/STATE.md), by the bytes as they stand: 0 where nothing is held, and no byte that says nothing
 
@@ -99,7 +101,7 @@ blank kind q sent =
     eqb kind 0
     && (eqb (q .tag) 0
     && (eqb (q .address) 0
-    && (eqb (q .length) 0 && (eqb (q .payload) 0 && (eqb (q .readsize) 0 && (eqb (q .bytes) 0 && eqb sent 0))))))
+    && ((eqb (q .length) 0 && eqb (q .payload) 0) && ((eqb (q .readsize) 0 && eqb (q .bytes) 0) && eqb sent 0))))
 
 -- by phase; bytes are sent of an answer with success alone
 abbrev pub tidyRequest : (phase kind : ℕ) → Request → ℕ → Bool
@@ -111,3 +113,17 @@ tidyRequest (suc (suc (suc (suc n)))) kind q sent = false
 
 abbrev pub tidyPeripheral : List ℕ → Bool
 tidyPeripheral l = tidyWrite (getD l 12 0) (postedIn l) && tidyRequest (getD l 29 0) (getD l 30 0) (requestIn l) (number4 56 l)
+
+-- ---- the bytes pack a sound write, a sound request, a sound channel that is on or off
+
+abbrev pub blankIn : List ℕ → Bool
+blankIn l = blank (getD l 30 0) (requestIn l) (number4 56 l)
+
+abbrev pub holdsWrite : List ℕ → Bool
+holdsWrite l = tidyWrite (getD l 12 0) (postedIn l) && soundWrite (writeIn l)
+
+abbrev pub holdsRequest : List ℕ → Bool
+holdsRequest l = tidyRequest (getD l 29 0) (getD l 30 0) (requestIn l) (number4 56 l) && soundRequest (npIn l)
+
+abbrev pub holdsPeripheral : Bool → List ℕ → Bool
+holdsPeripheral on l = tidyPeripheral l && soundPeripheral on (peripheralIn l)

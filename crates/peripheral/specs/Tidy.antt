@@ -1,7 +1,7 @@
 -- The test of the bytes as they stand: what passes is packed again to the same bytes, and every packed channel passes.
-use Prim.Native.Nat.{ℕ, zero, suc, _<_, _≤_}
-use mathlib.Core.Bool.{Bool, true, false, _&&_, true≢false}
-use mathlib.Core.List.{List, [], _∷_, _++_, append-assoc}
+use Prim.Native.Nat.{ℕ, zero, suc, _<_}
+use mathlib.Core.Bool.{Bool, true, _&&_, true≢false}
+use mathlib.Core.List.{List, _∷_, _++_, append-assoc}
 use mathlib.Core.Path.{_≡_, refl, sym, ap, _∙_}
 use native.Mathlib.Omega.{arith}
 use lib.Dec.{eqb, leb}
@@ -46,18 +46,18 @@ blank-again kind q sent e =
     let e₁ = and-right (eqb kind 0) _ e in
     let e₂ = and-right (eqb (q .tag) 0) _ e₁ in
     let e₃ = and-right (eqb (q .address) 0) _ e₂ in
-    let e₄ = and-right (eqb (q .length) 0) _ e₃ in
-    let e₅ = and-right (eqb (q .payload) 0) _ e₄ in
-    let e₆ = and-right (eqb (q .readsize) 0) _ e₅ in
+    let e₄ = and-right (eqb (q .length) 0 && eqb (q .payload) 0) _ e₃ in
+    let f = and-left (eqb (q .length) 0 && eqb (q .payload) 0) _ e₃ in
+    let g = and-left (eqb (q .readsize) 0 && eqb (q .bytes) 0) _ e₄ in
     rw (
       eqb-true kind 0 (and-left (eqb kind 0) _ e),
       eqb-true (q .tag) 0 (and-left (eqb (q .tag) 0) _ e₁),
       eqb-true (q .address) 0 (and-left (eqb (q .address) 0) _ e₂),
-      eqb-true (q .length) 0 (and-left (eqb (q .length) 0) _ e₃),
-      eqb-true (q .payload) 0 (and-left (eqb (q .payload) 0) _ e₄),
-      eqb-true (q .readsize) 0 (and-left (eqb (q .readsize) 0) _ e₅),
-      eqb-true (q .bytes) 0 (and-left (eqb (q .bytes) 0) _ e₆),
-      eqb-true sent 0 (and-right (eqb (q .bytes) 0) _ e₆),
+      eqb-true (q .length) 0 (and-left (eqb (q .length) 0) _ f),
+      eqb-true (q .payload) 0 (and-right (eqb (q .length) 0) _ f),
+      eqb-true (q .readsize) 0 (and-left (eqb (q .readsize) 0) _ g),
+      eqb-true (q .bytes) 0 (and-right (eqb (q .readsize) 0) _ g),
+      eqb-true sent 0 (and-right (eqb (q .readsize) 0 && eqb (q .bytes) 0) _ e₄),
     )
 
 module _ (kind : ℕ) (q : Request) (h : q .kind ≡ kindOf kind) where

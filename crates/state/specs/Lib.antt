@@ -5,4 +5,5 @@ pub mod Facts
 pub mod Layout
 pub mod Packing
 pub mod Tidy
+pub mod Stored
 pub mod Coded

@@ -1,10 +1,10 @@
 -- Testing the bytes as they stand says the same as packing again what they hold, and comparing.
 use Prim.Native.Nat.{ℕ, _<_, _≤_}
-use mathlib.Core.Bool.{Bool, true, false}
+use mathlib.Core.Bool.{true}
 use mathlib.Core.List.{List, _++_, append-assoc}
 use mathlib.Core.Path.{_≡_, refl, sym, ap, _∙_}
 use lib.ListN.{length, getD, take, drop, take-append-drop}
-use Rattle.base.specs.Pick.{and-left, and-right, and-true}
+use Rattle.base.specs.Pick.{and-left, and-right, and-true, same-test}
 use Rattle.base.specs.Bytes.{agree}
 use Rattle.base.specs.Numbers.{length-join, join, listed-drop}
 use Rattle.registers.specs.Layout.{configBytes, config-again}
@@ -34,12 +34,6 @@ packed-tidy s t =
     let f : a ++ (b ++ (d ++ t)) ≡ (a ++ b) ++ (d ++ t) = sym (append-assoc a b (d ++ t)) in
     and-true (ap tidyPeripheral e ∙ peripheral-tidy a (d ++ t) (s .peripheral) refl)
     (ap tidyWires (e ∙ f) ∙ wires-tidy (a ++ b) t (s .wires) (length-join a b 12 52 refl (peripheral-length (s .peripheral))))
-
--- two tests of which each follows from the other
-same-test : (a b : Bool) → (a ≡ true → b ≡ true) → (b ≡ true → a ≡ true) → a ≡ b
-same-test true b f g = sym (f refl)
-same-test false true f g = g refl
-same-test false false f g = refl
 
 pub tidy-is : (l : List ℕ) → ((k : ℕ) → getD l k 0 < 256) → stateLength ≤ length l → tidy l ≡ agree stateLength (packed (unpacked l)) l
 tidy-is l byte h =

@@ -7,23 +7,41 @@ use Rattle.state.proofs.load.Tie as tie
 unpack-requires : tie.Need-unpack-requires
 unpack-requires c κs = search needs
 
-sound-requires : tie.Need-sound-requires
-sound-requires c κs = search needs
+on-requires : tie.Need-on-requires
+on-requires c κs = search needs
 
-tidy-requires : tie.Need-tidy-requires
-tidy-requires c κs = search needs
+holds-requires : tie.Need-holds-requires
+holds-requires c κs = search needs
 
-tidy-requires-2 : tie.Need-tidy-requires-2
-tidy-requires-2 c κs = search needs
+on-requires-2 : tie.Need-on-requires-2
+on-requires-2 c κs = search needs
+
+holds-requires-2 : tie.Need-holds-requires-2
+holds-requires-2 c κs = search needs
+
+reachable-requires : tie.Need-reachable-requires
+reachable-requires c κs = search needs
 
 returns : tie.Need-returns
 returns c =
-    let p = c .before in
-    let s = p .before in
-    let u = s .before in
-    loaded-by (u .before .before .args .b .now) _ _ _ _ (λ k. omega (arith, u .before .shared-slice-known .given k)) (u .before .before .pre)
-    (u .unpack .ensures) (s .sound .ensures) (p .tidy .ensures) (c .tidy2 .ensures)
+    let w = c .before in
+    let p = w .before .before in
+    let u = p .before .before .before in
+    let a = u .before .before in
+    loaded-by (a .args .b .now) _ _ _ _ (λ k. omega (arith, u .before .shared-slice-known .given k)) (a .pre)
+    (u .unpack .ensures)
+    (c .reachable .ensures)
+    (rw (p .before .on .ensures) at (p .holds .ensures))
+    (rw (w .before .on2 .ensures) at (w .holds2 .ensures))
 
 pub load-spec : {M : Type 1} → statement M
 load-spec =
-    tie.close (tie.spec unpack-requires sound-requires tidy-requires tidy-requires-2 returns)
+    tie.close
+    (tie.spec
+    unpack-requires
+    on-requires
+    holds-requires
+    on-requires-2
+    holds-requires-2
+    reachable-requires
+    returns)
