@@ -159,8 +159,11 @@ platformWires w = placed (resetGroup (resetGroup w 6) 7) firstPlace
 -- ---- soundness (01, Sound state), clause by clause
 
 -- "undefined wire bits are 0"
+abbrev pub inRow : ℕ → ℕ → Bool
+inRow k level = eqb (bitAnd level (15 - rowAt k .defined)) 0 && ltb level 16
+
 abbrev pub onlyDefined : Wires → ℕ → Bool
-onlyDefined w i = eqb (bitAnd (levelAt w i) (15 - rowAt (i - 2) .defined)) 0 && ltb (levelAt w i) 16
+onlyDefined w i = inRow (i - 2) (levelAt w i)
 
 abbrev pub undefinedZero : Wires → Bool
 undefinedZero w = onlyDefined w 2 && onlyDefined w 3 && onlyDefined w 4 && onlyDefined w 5 && onlyDefined w 6 && onlyDefined w 7

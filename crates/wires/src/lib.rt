@@ -3,10 +3,12 @@ ghost use mathlib.Core.Path.{_≡_};
 ghost use mathlib.Core.Bool.{true};
 ghost use Prim.Native.Nat.{_+_, _-_, _*_, _≤_, _<_};
 ghost use lib.ListN.{length, take};
+ghost use mathlib.Core.List.{_++_};
+ghost use Rattle.base.specs.Bytes.{put, low4, low8};
 ghost use Rattle.wires.specs.Turn.{after};
 ghost use Rattle.wires.specs.Sending.{packetAnd, leftBy, asked, sending, Sendable};
-ghost use Rattle.wires.specs.Groups.{senders, groupOf, freshWires, withGroup, levelAt, nibble, putPair, putPairs, definedBit, settable, setWire, readWire, anyPending, wiresStatus, differs, enabled, disabled, placed, resetGroup, platformWires, onlyDefined, undefinedZero, marksRight, placeRight, soundWires};
-ghost use Rattle.wires.specs.Layout.{wiresBytes, wiresIn};
+ghost use Rattle.wires.specs.Groups.{senders, groupOf, freshWires, withGroup, levelAt, nibble, putPair, putPairs, definedBit, settable, setWire, readWire, anyPending, wiresStatus, differs, enabled, disabled, placed, resetGroup, platformWires, inRow};
+ghost use Rattle.wires.specs.Layout.{wiresBytes, wiresIn, holdsWires, levelsFit, marksIn};
 
 pub struct WireRow {
     pub index: u8,
@@ -360,45 +362,7 @@ impl Wires {
         self.reset_group(6).reset_group(7).placed(4)
     }
 
-    fn only_defined(self, index: usize) -> bool
-        requires { ⌜ (2 ≤ index) × (index ≤ 7) ⌝ }
-        ensures { λ r. ⌜ r ≡ onlyDefined self index ⌝ }
-    {
-        let at = index - 2;
-        let level = self.level[at];
-        (level & (15 - TABLE[at].defined) == 0) & (level < 16)
-    }
-
-    fn undefined_zero(self) -> bool
-        ensures { λ r. ⌜ r ≡ undefinedZero self ⌝ }
-    {
-        self.only_defined(2)
-            & self.only_defined(3)
-            & self.only_defined(4)
-            & self.only_defined(5)
-            & self.only_defined(6)
-            & self.only_defined(7)
-    }
-
-    fn marks_right(self, on: bool) -> bool
-        ensures { λ r. ⌜ r ≡ marksRight on self ⌝ }
-    {
-        !(self.pending[0] | (self.pending[1] | self.pending[5])) & (on | !self.any_pending())
-    }
-
-    fn place_right(self) -> bool
-        ensures { λ r. ⌜ r ≡ placeRight self ⌝ }
-    {
-        (4 <= self.place) & (self.place <= 6)
-    }
-
-    pub fn sound(self, on: bool) -> bool
-        ensures { λ r. ⌜ r ≡ soundWires on self ⌝ }
-    {
-        self.undefined_zero() & self.marks_right(on) & self.place_right()
-    }
-
-    pub fn bytes(self) -> [u8; 13]
+    fn bytes(self) -> [u8; 13]
         ensures { λ r. ⌜ r ≡ wiresBytes self ⌝ }
     {
         [
@@ -416,6 +380,15 @@ impl Wires {
             base::bit_of(self.pending[5]),
             self.place,
         ]
+    }
+
+    // Their bytes at their place in `dst`; what is beside them stays.
+    pub fn pack(self, dst: &mut [u8])
+        requires { ⌜ 77 ≤ length (now dst) ⌝ }
+        ensures { λ _. ⌜ now (dst .exit) ≡ put 64 (wiresBytes self) (now (dst .entry)) ⌝ }
+    {
+        let bytes = self.bytes();
+        base::put_at(dst, 64, &bytes);
     }
 
     // The wires whose bytes stand at their place in `b`, sound or not.
@@ -436,4 +409,50 @@ impl Wires {
             place: b[76],
         }
     }
+
+    // Whether their bytes in `b` pack sound wires, the channel being on or off: eight bytes are tested at a time.
+    pub fn holds(b: &[u8], on: bool) -> bool
+        requires { ⌜ 77 ≤ length (now b) ⌝ }
+        ensures { λ r. ⌜ r ≡ holdsWires on (now (b .entry)) ⌝ }
+    {
+        let low = base::get8(b, 64);
+        let high = base::get4(b, 72);
+        let place = b[76];
+        levels_fit(low) & (marks_fit(on, low, high) & ((4 <= place) & (place <= 6)))
+    }
+}
+
+fn in_row(k: usize, level: u8) -> bool
+    requires { ⌜ k < 6 ⌝ }
+    ensures { λ r. ⌜ r ≡ inRow k level ⌝ }
+{
+    (level & (15 - TABLE[k].defined) == 0) & (level < 16)
+}
+
+// The levels are the low six bytes.
+fn levels_fit(low: u64) -> bool
+    ensures { λ r. ⌜ r ≡ levelsFit (low8 low) ⌝ }
+{
+    in_row(0, (low % 256) as u8)
+        & in_row(1, (low / 256 % 256) as u8)
+        & in_row(2, (low / 65536 % 256) as u8)
+        & in_row(3, (low / 16777216 % 256) as u8)
+        & in_row(4, (low / 4294967296 % 256) as u8)
+        & in_row(5, (low / 1099511627776 % 256) as u8)
+}
+
+// The marks are the two bytes above them, and four more.
+fn marks_fit(on: bool, low: u64, high: u32) -> bool
+    ensures { λ r. ⌜ r ≡ marksIn on (low8 low ++ low4 high) ⌝ }
+{
+    let a = low / 281474976710656 % 256;
+    let b = low / 72057594037927936 % 256;
+    let c = high % 256;
+    let d = high / 256 % 256;
+    let e = high / 65536 % 256;
+    let f = high / 16777216 % 256;
+    (a == 0)
+        & ((b == 0)
+            & ((f == 0)
+                & ((c <= 1) & ((d <= 1) & ((e <= 1) & (on | ((c == 0) & ((d == 0) & (e == 0)))))))))
 }
