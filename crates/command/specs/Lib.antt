@@ -1,4 +1,4 @@
-pub mod Opcode
+pub mod Rows
 pub mod Needs
 pub mod Decode
 pub mod Laws
