@@ -325,6 +325,7 @@ pub record Decodes (on : Channels) (b : List ℕ) (c : Command) : Type 0 where
   pub row : Row
   pub need : Need
   pub passes : Passes on b row need
+  pub listed : cycleListed (row .cycle) (getD b 1 0) ≡ true
   pub right : LengthRight need (length b)
   pub same : c ≡ commandOf row b
 
@@ -336,7 +337,7 @@ module _ (on : Channels) (checked : Bool) (b : List ℕ) where
   checked-tells : (r : Row) (x : Need) → Passes on b r x → LengthRight x (length b) → AdmitTells on b (checkedAs checked b r)
   checked-tells r x p h =
       pick-ind (AdmitTells on b) (crcWrong checked (r .crc) b) (λ _. (omega arith, omega arith))
-      (λ _. record { row = r; need = x; passes = p; right = h; same = refl })
+      (λ _. record { row = r; need = x; passes = p; listed = passes-tells on b p .listed (p .told) (p .cycle); right = h; same = refl })
 
   reads-tells : (x : Need) → NeedTells on b x → AdmitTells on b (readOff checked b x)
   reads-tells (Whole r n) p =
