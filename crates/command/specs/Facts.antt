@@ -122,7 +122,7 @@ WiresFits c b = WiresLength c (length b) × WiresNumbers c
 abbrev pub CommandFits : Command → List ℕ → Type 0
 CommandFits c b = CommandLength c (length b) × NumbersFit c
 
-length-fits : (hi lo : ℕ) → lo < 256 → (1 ≤ lengthOf hi lo) × (lengthOf hi lo ≤ 4096)
+pub length-fits : (hi lo : ℕ) → lo < 256 → (1 ≤ lengthOf hi lo) × (lengthOf hi lo ≤ 4096)
 length-fits hi lo h =
     pick-ind (λ (n : ℕ). (1 ≤ n) × (n ≤ 4096)) (eqb (high2 (hi % 16) lo) 0)
     (λ _. (omega arith, omega arith))
@@ -230,7 +230,7 @@ pub record RowTells (on : Channels) (b : List ℕ) (r : Row) : Type 0 where
   pub numbers : IsBytes b → NumbersFit (commandOf r b)
 
 module _ (on : Channels) (b : List ℕ) where
-  abbrev ListedTells : Listed → Type 0
+  abbrev pub ListedTells : Listed → Type 0
   ListedTells (As r) = RowTells on b r
   ListedTells Unlisted = Unit {0}
 
@@ -243,7 +243,7 @@ module _ (on : Channels) (b : List ℕ) where
   reset-right r true h = h
   reset-right r false h = absurd h
 
-  row-tells : (op : ℕ) → ListedTells (rowOf op)
+  pub row-tells : (op : ℕ) → ListedTells (rowOf op)
   row-tells =
       by-row ListedTells
       (record { readable = record { told = lit≤ tt; from = lit≤ tt; address = lit≤ tt }; listed = λ h. there _ (omega arith); channel = λ e. e; right = λ h. h; numbers = λ h. head-fits b h _ })

@@ -3,3 +3,4 @@ pub mod Needs
 pub mod Decode
 pub mod Laws
 pub mod Facts
+pub mod Prefix

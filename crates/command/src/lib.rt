@@ -202,9 +202,21 @@ fn short(a: Access, address: u8, writes: bool, c: u8) -> Listed
     }
     let n = size_of_code(c);
     if writes {
-        return plain(Opcode::Short(a, n), Channel::Peripheral, 1, address, Data::Fixed(n));
+        return plain(
+            Opcode::Short(a, n),
+            Channel::Peripheral,
+            1,
+            address,
+            Data::Fixed(n),
+        );
     }
-    plain(Opcode::Short(a, n), Channel::Peripheral, 1, address, Data::Fixed(0))
+    plain(
+        Opcode::Short(a, n),
+        Channel::Peripheral,
+        1,
+        address,
+        Data::Fixed(0),
+    )
 }
 
 fn row_of(op: u8) -> Listed
@@ -216,9 +228,27 @@ fn row_of(op: u8) -> Listed
         0x02 => headed(Opcode::PutNp, 0x00, 0x02, 2, Data::Fixed(0)),
         0x04 => plain(Opcode::PutVwire, Channel::Wires, 2, 0, Data::Pairs),
         0x05 => plain(Opcode::GetVwire, Channel::Wires, 1, 0, Data::Fixed(0)),
-        0x21 => plain(Opcode::GetConfiguration, Channel::Independent, 1, 2, Data::Fixed(0)),
-        0x22 => plain(Opcode::SetConfiguration, Channel::Independent, 1, 2, Data::Fixed(4)),
-        0x25 => plain(Opcode::GetStatus, Channel::Independent, 1, 0, Data::Fixed(0)),
+        0x21 => plain(
+            Opcode::GetConfiguration,
+            Channel::Independent,
+            1,
+            2,
+            Data::Fixed(0),
+        ),
+        0x22 => plain(
+            Opcode::SetConfiguration,
+            Channel::Independent,
+            1,
+            2,
+            Data::Fixed(4),
+        ),
+        0x25 => plain(
+            Opcode::GetStatus,
+            Channel::Independent,
+            1,
+            0,
+            Data::Fixed(0),
+        ),
         0x40..=0x43 => short(Access::IoRead, 2, false, op % 4),
         0x44..=0x47 => short(Access::IoWrite, 2, true, op % 4),
         0x48..=0x4B => short(Access::MemoryRead, 4, false, op % 4),

@@ -18,12 +18,12 @@ cast-if1 : tie.Need-cast-if1
 cast-if1 c = search needs
 
 returns : tie.Need-returns
-returns c = 
+returns c =
     let a = c .before .before .before .before .before .before .args in
     admit-by (a .on) (a .checked) (a .b .now) _ _ _ (c .before .before .before .before .need-in .ensures) (c .before .before .need .given .1) (taken _ _ (ap not (ne-eqb _ _ (c .if1 .taken))) refl)
 
 checked-as-requires : tie.Need-checked-as-requires
-checked-as-requires c κs = 
+checked-as-requires c κs =
     let a = c .before .before .before .before .before .before .args in
     passes-ready (a .on) (a .b .now) (need-is (a .on) (a .b .now) _ (sym (c .before .before .before .before .need-in .ensures) ∙ c .before .before .need .given .1))
 
@@ -34,12 +34,12 @@ enum-known-need-2 : tie.Need-enum-known-need-2
 enum-known-need-2 c = search needs
 
 returns-2 : tie.Need-returns-2
-returns-2 c = 
+returns-2 c =
     let a = c .before .before .before .before .before .before .args in
     admit-by (a .on) (a .checked) (a .b .now) _ _ _ (c .before .before .before .before .need-in .ensures) (c .before .before .need2 .given .1) (taken _ _ (ap not (lt-leb _ _ (c .if2 .taken))) refl)
 
 checked-as-requires-2 : tie.Need-checked-as-requires-2
-checked-as-requires-2 c κs = 
+checked-as-requires-2 c κs =
     let a = c .before .before .before .before .before .before .args in
     passes-ready (a .on) (a .b .now) (need-is (a .on) (a .b .now) _ (sym (c .before .before .before .before .need-in .ensures) ∙ c .before .before .need2 .given .1))
 
@@ -47,22 +47,22 @@ enum-known-need-3 : tie.Need-enum-known-need-3
 enum-known-need-3 c = search needs
 
 returns-3 : tie.Need-returns-3
-returns-3 c = 
+returns-3 c =
     let a = c .before .before .before .before .before .before .before .args in
     admit-by (a .on) (a .checked) (a .b .now) _ _ _ (c .before .before .before .before .before .need-in .ensures) (c .before .before .before .need .given .1) (passed _ _ (ap not (eq-eqb _ _ (c .before .if1 .left))) (c .checked-as .ensures))
 
 returns-4 : tie.Need-returns-4
-returns-4 c = 
+returns-4 c =
     let a = c .before .before .before .before .args in
     admit-by (a .on) (a .checked) (a .b .now) _ _ _ (c .before .before .need-in .ensures) (c .enum-told .given .1) refl
 
 returns-5 : tie.Need-returns-5
-returns-5 c = 
+returns-5 c =
     let a = c .before .before .before .before .before .before .before .args in
     admit-by (a .on) (a .checked) (a .b .now) _ _ _ (c .before .before .before .before .before .need-in .ensures) (c .before .before .before .need2 .given .1) (passed _ _ (ap not (le-leb _ _ (c .before .if2 .left))) (c .checked-as2 .ensures))
 
 returns-6 : tie.Need-returns-6
-returns-6 c = 
+returns-6 c =
     let a = c .before .before .before .before .before .args in
     admit-by (a .on) (a .checked) (a .b .now) _ _ _ (c .before .before .before .need-in .ensures) (c .before .need3 .given .1) refl
 

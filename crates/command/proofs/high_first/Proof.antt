@@ -46,7 +46,7 @@ loop-again : tie.Need-loop-again Inv-loop μ-loop
 loop-again c = let a = c .before .before .before .before .args in let l = c .before .before .loop in (search needs, (high-next (l .i) (a .at) (a .b .now) (l .inv .1 .0) (c .byte-at .ensures), power-next _ _ _ (l .inv .1 .1) (omega arith)))
 
 returns : tie.Need-returns Inv-loop μ-loop
-returns c = 
+returns c =
     let a = c .before .before .before .args in
     let l = c .before .loop in
     let e : l .i ≡ a .n = omega arith in

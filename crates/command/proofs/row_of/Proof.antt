@@ -73,32 +73,32 @@ returns-9 : tie.Need-returns-9
 returns-9 c = simp (c .before .match .keys9, c .resets .ensures)
 
 returns-10 : tie.Need-returns-10
-returns-10 c = 
+returns-10 c =
     let op = c .before .before .before .before .args .op in
     c .short .ensures ∙ sym (middle op (omega arith) (omega arith) ∙ simp (quad 0x10 op (omega arith) (omega arith)))
 
 returns-11 : tie.Need-returns-11
-returns-11 c = 
+returns-11 c =
     let op = c .before .before .before .before .before .args .op in
     c .short2 .ensures ∙ sym (middle op (omega arith) (omega arith) ∙ simp (quad 0x11 op (omega arith) (omega arith)))
 
 returns-12 : tie.Need-returns-12
-returns-12 c = 
+returns-12 c =
     let op = c .before .before .before .before .before .before .args .op in
     c .short3 .ensures ∙ sym (middle op (omega arith) (omega arith) ∙ simp (quad 0x12 op (omega arith) (omega arith)))
 
 returns-13 : tie.Need-returns-13
-returns-13 c = 
+returns-13 c =
     let op = c .before .before .before .before .before .before .before .args .op in
     c .short4 .ensures ∙ sym (middle op (omega arith) (omega arith) ∙ simp (quad 0x13 op (omega arith) (omega arith)))
 
 returns-14 : tie.Need-returns-14
-returns-14 c = 
+returns-14 c =
     let op = c .before .before .args .op in
     sym (no-single op (c .before .match .rest) ∙ short-below op (c .if1 .taken))
 
 returns-15 : tie.Need-returns-15
-returns-15 c = 
+returns-15 c =
     let op = c .before .before .before .before .before .before .args .op in
     sym (no-single op (c .before .before .before .before .before .match .rest) ∙ short-above op (c .if5 .left))
 
