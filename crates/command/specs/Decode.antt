@@ -5,9 +5,9 @@ use mathlib.Core.List.{List}
 use lib.Dec.{eqb, leb}
 use lib.ListN.{length, getD, take}
 use Rattle.base.specs.Pick.{pick}
-use Rattle.base.specs.Bytes.{high8, joined4}
+use Rattle.base.specs.Bytes.{joined4}
 use Rattle.crc.specs.Crc.{crc}
-use Rattle.command.specs.Needs.{wideCycle, lengthOf, groupCount, needIn}
+use Rattle.command.specs.Needs.{wideCycle, addressBytes, lengthOf, groupCount, needIn}
 use Rattle.command.specs.declared.Opcode.{Opcode}
 use Rattle.command.specs.declared.Opcode.the-variants as O
 use Rattle.command.specs.declared.Channels.{Channels}
@@ -29,10 +29,9 @@ abbrev pub highFirst : ℕ → ℕ → List ℕ → ℕ
 highFirst zero at b = 0
 highFirst (suc n) at b = highFirst n at b * 256 + getD b (at + n) 0
 
--- "address high byte first", of 8 bytes or as many as the row says
+-- "address high byte first"
 abbrev pub addressIn : Row → List ℕ → ℕ
-addressIn r b =
-    pick (wideCycle (r .cycle) (getD b 1 0)) (high8 (highFirst 4 (r .from) b) (highFirst 4 (r .from + 4) b)) (highFirst (r .address) (r .from) b)
+addressIn r b = highFirst (addressBytes r b) (r .from) b
 
 -- "cycle type, then tag (4 bits) with length bits 11:8, then length 7:0, address"
 abbrev pub headOf : Row → List ℕ → Head

@@ -9,9 +9,9 @@ use borrow.Author.Tests.{ltb-false, ltb-true, lt-ltb, leb-true, eqb-true, eqb-fa
 use lib.Dec.{eqb, ltb, leb, lit≤}
 use lib.ListN.{length, getD}
 use Rattle.base.specs.Pick.{pick, pick-ind}
-use Rattle.base.specs.Bytes.{high2, high8}
-use Rattle.command.specs.Rows.{plain, headed, resets, sizeOfCode, short, rowOf}
-use Rattle.command.specs.Needs.{channelOn, cycleListed, wideCycle, lengthOf, groupCount, allFF, needData, needRow, needListed, needIn}
+use Rattle.base.specs.Bytes.{high2}
+use Rattle.command.specs.Rows.{plain, headed, counted, resets, sizeOfCode, short, rowOf}
+use Rattle.command.specs.Needs.{channelOn, cycleListed, wideCycle, addressBytes, lengthOf, groupCount, allFF, needData, needRow, needListed, needIn}
 use Rattle.command.specs.Decode.{highFirst, addressIn, headOf, registerAddress, commandOf, crcWrong, checkedAs, readOff, admit}
 use Rattle.command.specs.declared.Access.{Access}
 use Rattle.command.specs.declared.Access.the-variants.{IoRead, IoWrite, MemoryRead, MemoryWrite}
@@ -20,7 +20,7 @@ use Rattle.command.specs.declared.Opcode.the-variants as O
 use Rattle.command.specs.declared.Channels.{Channels}
 use Rattle.command.specs.declared.Channel.{Channel}
 use Rattle.command.specs.declared.Channel.the-variants.{Peripheral, Wires, Independent}
-use Rattle.command.specs.declared.Cycle.the-variants.{Types}
+use Rattle.command.specs.declared.Cycle.the-variants.{Absent, Types}
 use Rattle.command.specs.declared.Data.{Data}
 use Rattle.command.specs.declared.Data.the-variants.{Fixed, Length, Pairs, Ones}
 use Rattle.command.specs.declared.Row.{Row}
@@ -138,20 +138,14 @@ module _ (b : List ℕ) (bytes : IsBytes b) where
 
   -- an address of 4 or 8 bytes behind the header
   head-fits : (wide : Bool)
-      → HeadFits (record {
-        wide = wide;
-        tag = getD b 2 0 / 16;
-        length = lengthOf (getD b 2 0) (getD b 3 0);
-        address = pick wide (high8 (highFirst 4 4 b) (highFirst 4 8 b)) (highFirst 4 4 b);
-      })
+      → HeadFits (record { wide = wide; tag = getD b 2 0 / 16; length = lengthOf (getD b 2 0) (getD b 3 0); address = highFirst (pick wide 8 4) 4 b })
   head-fits wide =
-      record {
-        tag = omega (arith, bytes 2);
-        some = length-fits (getD b 2 0) (getD b 3 0) (bytes 3) .0;
-        most = length-fits (getD b 2 0) (getD b 3 0) (bytes 3) .1;
-        address = pick-ind (λ (n : ℕ). n < 18446744073709551616) wide (λ _. omega (arith, high-fits 4 4, high-fits 4 8)) (λ _. omega (arith, high-fits 4 4));
-        narrow = λ e. pick-ind (λ (n : ℕ). n < 4294967296) wide (λ t. absurd (true≢false (sym t ∙ e))) (λ _. high-fits 4 4);
-      }
+      let l = length-fits (getD b 2 0) (getD b 3 0) (bytes 3) in
+      record { tag = omega (arith, bytes 2); some = l .0; most = l .1; address = most wide; narrow = λ e. subst (λ (t : Bool). highFirst (pick t 8 4) 4 b < 4294967296) (sym e) (high-fits 4 4) }
+    where
+      most : (t : Bool) → highFirst (pick t 8 4) 4 b < 18446744073709551616
+      most true = high-fits 8 4
+      most false = omega (arith, high-fits 4 4)
 
 -- ---- whose
 
@@ -167,7 +161,7 @@ CommandOn on C.Reset = Unit {0}
 -- ---- row by row
 
 sized : (Q : Listed → Type 0) (a : Access) (address : ℕ) (writes : Bool)
-    → ((n : ℕ) → SizeFits n → Q (plain (O.Short a n) Peripheral 1 address (Fixed (pick writes n 0))))
+    → ((n : ℕ) → SizeFits n → Q (plain (O.Short a n) Peripheral address (pick writes n 0)))
     → Q Unlisted → (c : ℕ) → Q (short a address writes c)
 sized Q a n w h none c =
     pick-ind Q (eqb c 2) (λ _. none)
@@ -176,18 +170,18 @@ sized Q a n w h none c =
 -- what holds of each row, and where there is none, holds of every opcode's
 pub by-row : (Q : Listed → Type 0)
     → Q (headed O.PutPc 0x01 0x03 4 Length)
-    → Q (plain O.GetPc Peripheral 1 0 (Fixed 0))
+    → Q (plain O.GetPc Peripheral 0 0)
     → Q (headed O.PutNp 0x00 0x02 2 (Fixed 0))
-    → Q (plain O.PutVwire Wires 2 0 Pairs)
-    → Q (plain O.GetVwire Wires 1 0 (Fixed 0))
-    → Q (plain O.GetConfiguration Independent 1 2 (Fixed 0))
-    → Q (plain O.SetConfiguration Independent 1 2 (Fixed 4))
-    → Q (plain O.GetStatus Independent 1 0 (Fixed 0))
+    → Q counted
+    → Q (plain O.GetVwire Wires 0 0)
+    → Q (plain O.GetConfiguration Independent 2 0)
+    → Q (plain O.SetConfiguration Independent 2 4)
+    → Q (plain O.GetStatus Independent 0 0)
     → Q resets
-    → ((n : ℕ) → SizeFits n → Q (plain (O.Short IoRead n) Peripheral 1 2 (Fixed 0)))
-    → ((n : ℕ) → SizeFits n → Q (plain (O.Short IoWrite n) Peripheral 1 2 (Fixed n)))
-    → ((n : ℕ) → SizeFits n → Q (plain (O.Short MemoryRead n) Peripheral 1 4 (Fixed 0)))
-    → ((n : ℕ) → SizeFits n → Q (plain (O.Short MemoryWrite n) Peripheral 1 4 (Fixed n)))
+    → ((n : ℕ) → SizeFits n → Q (plain (O.Short IoRead n) Peripheral 2 0))
+    → ((n : ℕ) → SizeFits n → Q (plain (O.Short IoWrite n) Peripheral 2 n))
+    → ((n : ℕ) → SizeFits n → Q (plain (O.Short MemoryRead n) Peripheral 4 0))
+    → ((n : ℕ) → SizeFits n → Q (plain (O.Short MemoryWrite n) Peripheral 4 n))
     → Q Unlisted
     → (op : ℕ) → Q (rowOf op)
 by-row Q putPc getPc putNp putVwire getVwire getConfiguration setConfiguration getStatus reset ioRead ioWrite memoryRead memoryWrite none op =
@@ -205,11 +199,13 @@ by-row Q putPc getPc putNp putVwire getVwire getConfiguration setConfiguration g
     λ _. pick-ind Q (eqb (op / 4) 0x12) (λ _. sized Q MemoryRead 4 false memoryRead none (op % 4))
     λ _. pick-ind Q (eqb (op / 4) 0x13) (λ _. sized Q MemoryWrite 4 true memoryWrite none (op % 4)) (λ _. none)
 
--- header and narrow address are of four bytes at most
+-- few bytes tell how many there are in all, and a narrow address has few
 pub record Readable (r : Row) : Type 0 where
   pub told : r .told ≤ 4
-  pub from : r .from ≤ 4
   pub address : r .address ≤ 4
+
+pub address-few : (r : Row) (b : List ℕ) → Readable r → addressBytes r b ≤ 8
+address-few r b h = pick-ind (λ (n : ℕ). n ≤ 8) (wideCycle (r .cycle) (getD b 1 0)) (λ _. omega arith) (λ _. omega (arith, h .address))
 
 -- the bytes are as many as the need says
 abbrev pub LengthRight : Need → ℕ → Type 0
@@ -243,28 +239,42 @@ module _ (on : Channels) (b : List ℕ) where
   reset-right r true h = h
   reset-right r false h = absurd h
 
+  module _ (op : Opcode) where
+    plain-tells : (k : Channel) (a n : ℕ) → a ≤ 4
+        → let r : Row = record { opcode = op; channel = k; cycle = Absent; told = 1; from = 1; address = a; carries = Fixed n; crc = true } in
+        (channelOn on k ≡ true → CommandOn on (commandOf r b)) → (length b ≡ 1 + a + n + 1 → CommandLength (commandOf r b) (length b))
+        → (IsBytes b → NumbersFit (commandOf r b)) → RowTells on b r
+    plain-tells k a n m x y z = record { readable = record { told = lit≤ tt; address = m }; listed = λ _ _. refl; channel = x; right = y; numbers = z }
+
+    headed-tells : (n w t : ℕ) (d : Data) → 2 ≤ t → t ≤ 4
+        → let r : Row = record { opcode = op; channel = Peripheral; cycle = Types n w; told = t; from = 4; address = 4; carries = d; crc = true } in
+        (on .peripheral ≡ true → CommandOn on (commandOf r b)) → (LengthRight (needData r b d) (length b) → CommandLength (commandOf r b) (length b))
+        → (IsBytes b → NumbersFit (commandOf r b)) → RowTells on b r
+    headed-tells n w t d l m x y z =
+        record { readable = record { told = m; address = lit≤ tt }; listed = λ h. there _ (omega arith); channel = x; right = y; numbers = z }
+
   pub row-tells : (op : ℕ) → ListedTells (rowOf op)
   row-tells =
       by-row ListedTells
-      (record { readable = record { told = lit≤ tt; from = lit≤ tt; address = lit≤ tt }; listed = λ h. there _ (omega arith); channel = λ e. e; right = λ h. h; numbers = λ h. head-fits b h _ })
-      (record { readable = record { told = lit≤ tt; from = lit≤ tt; address = lit≤ tt }; listed = λ _ _. refl; channel = λ e. e; right = λ h. h; numbers = λ _. tt })
-      (record { readable = record { told = lit≤ tt; from = lit≤ tt; address = lit≤ tt }; listed = λ h. there _ h; channel = λ e. e; right = λ h. omega arith; numbers = λ h. head-fits b h _ })
-      (record { readable = record { told = lit≤ tt; from = lit≤ tt; address = lit≤ tt }; listed = λ _ _. refl; channel = λ e. e; right = λ h. h; numbers = λ _. (omega arith, omega arith) })
-      (record { readable = record { told = lit≤ tt; from = lit≤ tt; address = lit≤ tt }; listed = λ _ _. refl; channel = λ e. e; right = λ h. h; numbers = λ _. tt })
-      (record { readable = record { told = lit≤ tt; from = lit≤ tt; address = lit≤ tt }; listed = λ _ _. refl; channel = λ _. tt; right = λ h. h; numbers = λ _. register-fits _ })
+      (headed-tells O.PutPc 1 3 4 Length (lit≤ tt) (lit≤ tt) (λ e. e) (λ h. h) (λ h. head-fits b h _))
+      (plain-tells O.GetPc _ _ _ (lit≤ tt) (λ e. e) (λ h. h) (λ _. tt))
+      (headed-tells O.PutNp 0 2 2 (Fixed 0) (lit≤ tt) (lit≤ tt) (λ e. e) (λ h. omega arith) (λ h. head-fits b h _))
       (record {
-        readable = record { told = lit≤ tt; from = lit≤ tt; address = lit≤ tt };
+        readable = record { told = lit≤ tt; address = lit≤ tt };
         listed = λ _ _. refl;
-        channel = λ _. tt;
+        channel = λ e. e;
         right = λ h. h;
-        numbers = λ h. (register-fits _, omega (arith, h 3, h 4, h 5, h 6));
+        numbers = λ _. (omega arith, omega arith);
       })
-      (record { readable = record { told = lit≤ tt; from = lit≤ tt; address = lit≤ tt }; listed = λ _ _. refl; channel = λ _. tt; right = λ h. h; numbers = λ _. tt })
-      (record { readable = record { told = lit≤ tt; from = lit≤ tt; address = lit≤ tt }; listed = λ _ _. refl; channel = λ _. tt; right = reset-right _ (allFF b); numbers = λ _. tt })
-      (λ n f. record { readable = record { told = lit≤ tt; from = lit≤ tt; address = lit≤ tt }; listed = λ _ _. refl; channel = λ e. e; right = λ h. h; numbers = λ h. record { size = f; address = high-fits b h 2 1 } })
-      (λ n f. record { readable = record { told = lit≤ tt; from = lit≤ tt; address = lit≤ tt }; listed = λ _ _. refl; channel = λ e. e; right = λ h. h; numbers = λ h. record { size = f; address = high-fits b h 2 1 } })
-      (λ n f. record { readable = record { told = lit≤ tt; from = lit≤ tt; address = lit≤ tt }; listed = λ _ _. refl; channel = λ e. e; right = λ h. h; numbers = λ h. record { size = f; address = high-fits b h 4 1 } })
-      (λ n f. record { readable = record { told = lit≤ tt; from = lit≤ tt; address = lit≤ tt }; listed = λ _ _. refl; channel = λ e. e; right = λ h. h; numbers = λ h. record { size = f; address = high-fits b h 4 1 } })
+      (plain-tells O.GetVwire _ _ _ (lit≤ tt) (λ e. e) (λ h. h) (λ _. tt))
+      (plain-tells O.GetConfiguration _ _ _ (lit≤ tt) (λ _. tt) (λ h. h) (λ _. register-fits _))
+      (plain-tells O.SetConfiguration _ _ _ (lit≤ tt) (λ _. tt) (λ h. h) (λ h. (register-fits _, omega (arith, h 3, h 4, h 5, h 6))))
+      (plain-tells O.GetStatus _ _ _ (lit≤ tt) (λ _. tt) (λ h. h) (λ _. tt))
+      (record { readable = record { told = lit≤ tt; address = lit≤ tt }; listed = λ _ _. refl; channel = λ _. tt; right = reset-right _ (allFF b); numbers = λ _. tt })
+      (λ n f. plain-tells (O.Short IoRead n) _ _ _ (lit≤ tt) (λ e. e) (λ h. h) (λ h. record { size = f; address = high-fits b h 2 1 }))
+      (λ n f. plain-tells (O.Short IoWrite n) _ _ _ (lit≤ tt) (λ e. e) (λ h. h) (λ h. record { size = f; address = high-fits b h 2 1 }))
+      (λ n f. plain-tells (O.Short MemoryRead n) _ _ _ (lit≤ tt) (λ e. e) (λ h. h) (λ h. record { size = f; address = high-fits b h 4 1 }))
+      (λ n f. plain-tells (O.Short MemoryWrite n) _ _ _ (lit≤ tt) (λ e. e) (λ h. h) (λ h. record { size = f; address = high-fits b h 4 1 }))
       tt
 
   -- ---- what a need tells

@@ -1,9 +1,10 @@
 -- Laws of the definitions, for the proofs of the code.
-use Prim.Native.Nat.{ℕ, zero, suc, _+_, _*_, _/_, _^_, _<_, _≤_}
+use Prim.Native.Nat.{ℕ, zero, suc, _+_, _-_, _*_, _/_, _^_, _<_, _≤_}
 use mathlib.Core.Bool.{Bool, true, false}
 use mathlib.Core.List.{List, [], _∷_}
-use mathlib.Core.Path.{_≡_, refl, sym, ap, _∙_}
+use mathlib.Core.Path.{_≡_, refl, sym, ap, subst, _∙_}
 use native.Mathlib.Omega.{arith}
+use native.Mathlib.Nat.{zero-add, suc-add}
 use native.Mathlib.Numerals.{add-one}
 use borrow.Author.Tests.{eq-eqb, ne-eqb}
 use lib.ListN.{length, getD, drop}
@@ -77,21 +78,21 @@ pub allFF-stop : (b : List ℕ) (i : ℕ) → i < length b → (getD b i 0 ≡ 0
 unfolding allFF
 allFF-stop b i h e = rw (drop-cons b i 0, ne-eqb (getD b i 0) 0xFF e)
 
--- ---- numbers of up to four bytes
+-- ---- numbers of bytes
 
--- one byte more
 pub high-next : (n at : ℕ) (b : List ℕ) {v x : ℕ} → v ≡ highFirst n at b → x ≡ getD b (at + n) 0 → v * 256 + x ≡ highFirst (n + 1) at b
 high-next n at b e f = rw (add-one, e, f)
 
 pub power-next : (n v x : ℕ) → v < 256 ^ n → x < 256 → v * 256 + x < 256 ^ (n + 1)
 power-next n v x h l = rw add-one (omega arith)
 
-pub three-bytes : (n v : ℕ) → n < 4 → v < 256 ^ n → v < 16777216
-three-bytes zero v h l = omega arith
-three-bytes (suc zero) v h l = omega arith
-three-bytes (suc (suc zero)) v h l = omega arith
-three-bytes (suc (suc (suc zero))) v h l = l
-three-bytes (suc (suc (suc (suc n)))) v h l = absurd (omega arith)
+power-up : (k n : ℕ) → 256 ^ n ≤ 256 ^ (k + n)
+power-up zero n = rw zero-add (omega arith)
+power-up (suc k) n = rw suc-add (omega (arith, power-up k n))
+
+-- fewer bytes are less
+pub within : (m n v : ℕ) → n ≤ m → v < 256 ^ n → v < 256 ^ m
+within m n v h l = let e : m - n + n ≡ m = omega arith in omega (arith, subst (λ (k : ℕ). 256 ^ n ≤ 256 ^ k) e (power-up (m - n) n))
 
 -- ---- the decoder, of a need
 

@@ -109,7 +109,7 @@ module _ (b d : List ℕ) where
   ListedReads (As r) = (1 ≤ r .told) × (Alike (r .told) b d → RowReads b d r)
   ListedReads Unlisted = Unit {0}
 
-  plain-reads : (op : Opcode) (k : Channel) (a n : ℕ) → ListedReads (plain op k 1 a (Fixed n))
+  plain-reads : (op : Opcode) (k : Channel) (a n : ℕ) → ListedReads (plain op k a n)
   plain-reads op k a n = (lit≤ tt, λ _. record { cycle = refl; whole = λ x m e. e; never = λ _ m e. absurd (not-whole refl e) })
 
   reset-whole : (r x : Row) (n : ℕ) (t : Bool) (y : Need) → pick t (Open r) (Never 13) ≡ Whole x n → y ≡ Whole x n
@@ -299,7 +299,7 @@ module _ (on : Channels) (checked : Bool) (b : List ℕ) (bytes : IsBytes b) whe
   small n (inr (inl e)) = omega arith
   small n (inr (inr e)) = omega arith
 
-  plain-ends : (op : Opcode) (k : Channel) (a n : ℕ) → a ≤ 4 → n ≤ 4 → Ends (plain op k 1 a (Fixed n))
+  plain-ends : (op : Opcode) (k : Channel) (a n : ℕ) → a ≤ 4 → n ≤ 4 → Ends (plain op k a n)
   plain-ends op k a n h l = whole-ends _ _ refl refl (omega arith) (omega arith)
 
   wide-most : (t : Bool) → pick t 8 4 ≤ 8

@@ -16,15 +16,19 @@ use Rattle.command.specs.declared.Row.{Row}
 use Rattle.command.specs.declared.Listed.{Listed}
 use Rattle.command.specs.declared.Listed.the-variants.{As, Unlisted}
 
--- without a cycle type: so many header bytes, then the address, the data, the CRC
-abbrev pub plain : Opcode → Channel → (header address : ℕ) → Data → Listed
-plain op k h a d = As (record { opcode = op; channel = k; cycle = Absent; told = h; from = h; address = a; carries = d; crc = true })
+-- the opcode tells all: so many address and data bytes behind it, and a CRC
+abbrev pub plain : Opcode → Channel → (address bytes : ℕ) → Listed
+plain op k a n = As (record { opcode = op; channel = k; cycle = Absent; told = 1; from = 1; address = a; carries = Fixed n; crc = true })
 
 -- "cycle type, then tag (4 bits) with length bits 11:8, then length 7:0, address high byte first, data"
 abbrev pub headed : Opcode → (narrow wide told : ℕ) → Data → Listed
 headed op n w t d = As (record { opcode = op; channel = Peripheral; cycle = Types n w; told = t; from = 4; address = 4; carries = d; crc = true })
 
--- "RESET: two or more bytes, all FFh"
+-- "a byte whose low six bits are the group count less one (bits 7:6 ignored), then index and data pairs"
+abbrev pub counted : Listed
+counted = As (record { opcode = O.PutVwire; channel = Wires; cycle = Absent; told = 2; from = 2; address = 0; carries = Pairs; crc = true })
+
+-- "RESET: two or more bytes, all FFh", no CRC
 abbrev pub resets : Listed
 resets = As (record { opcode = O.Reset; channel = Independent; cycle = Absent; told = 1; from = 1; address = 0; carries = Ones; crc = false })
 
@@ -34,7 +38,7 @@ sizeOfCode c = pick (eqb c 0) 1 (pick (eqb c 1) 2 4)
 
 -- "I/O has 2 address bytes, memory 4, high byte first; data follows for a write"
 abbrev pub short : Access → (address : ℕ) (writes : Bool) (code : ℕ) → Listed
-short a n w c = pick (eqb c 2) Unlisted (plain (O.Short a (sizeOfCode c)) Peripheral 1 n (Fixed (pick w (sizeOfCode c) 0)))
+short a n w c = pick (eqb c 2) Unlisted (plain (O.Short a (sizeOfCode c)) Peripheral n (pick w (sizeOfCode c) 0))
 
 -- "short I/O read 40h+c, I/O write 44h+c, memory read 48h+c, memory write 4Ch+c"
 abbrev pub shortRow : ℕ → Listed
@@ -50,12 +54,12 @@ shortRow op =
 abbrev pub rowOf : ℕ → Listed
 rowOf op =
     pick (eqb op 0x00) (headed O.PutPc 0x01 0x03 4 Length)
-    (pick (eqb op 0x01) (plain O.GetPc Peripheral 1 0 (Fixed 0))
+    (pick (eqb op 0x01) (plain O.GetPc Peripheral 0 0)
     (pick (eqb op 0x02) (headed O.PutNp 0x00 0x02 2 (Fixed 0))
-    (pick (eqb op 0x04) (plain O.PutVwire Wires 2 0 Pairs)
-    (pick (eqb op 0x05) (plain O.GetVwire Wires 1 0 (Fixed 0))
-    (pick (eqb op 0x21) (plain O.GetConfiguration Independent 1 2 (Fixed 0))
-    (pick (eqb op 0x22) (plain O.SetConfiguration Independent 1 2 (Fixed 4))
-    (pick (eqb op 0x25) (plain O.GetStatus Independent 1 0 (Fixed 0))
+    (pick (eqb op 0x04) counted
+    (pick (eqb op 0x05) (plain O.GetVwire Wires 0 0)
+    (pick (eqb op 0x21) (plain O.GetConfiguration Independent 2 0)
+    (pick (eqb op 0x22) (plain O.SetConfiguration Independent 2 4)
+    (pick (eqb op 0x25) (plain O.GetStatus Independent 0 0)
     (pick (eqb op 0xFF) resets
     (shortRow op)))))))))

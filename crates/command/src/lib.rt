@@ -2,7 +2,7 @@
 ghost use mathlib.Core.Path.{_≡_};
 ghost use Prim.Native.Nat.{_^_, _≤_, _<_};
 ghost use lib.ListN.{length, getD};
-ghost use Rattle.command.specs.Rows.{plain, headed, resets, sizeOfCode, short, rowOf};
+ghost use Rattle.command.specs.Rows.{plain, headed, sizeOfCode, short, rowOf};
 ghost use Rattle.command.specs.Needs.{channelOn, cycleListed, wideCycle, addressBytes, lengthOf, groupCount, allFF, wholeWith, needData, needRow, needIn};
 ghost use Rattle.command.specs.Decode.{highFirst, addressIn, headOf, registerAddress, registerData, commandOf, crcGood, crcWrong, checkedAs, admit};
 ghost use Rattle.command.specs.Facts.{Readable};
@@ -137,17 +137,17 @@ pub enum Decoded {
 
 // ---- rows
 
-fn plain(opcode: Opcode, channel: Channel, header: u8, address: u8, carries: Data) -> Listed
-    ensures { λ r. ⌜ r ≡ plain opcode channel header address carries ⌝ }
+fn plain(opcode: Opcode, channel: Channel, address: u8, n: u8) -> Listed
+    ensures { λ r. ⌜ r ≡ plain opcode channel address n ⌝ }
 {
     Listed::As(Row {
         opcode,
         channel,
         cycle: Cycle::Absent,
-        told: header,
-        from: header,
+        told: 1,
+        from: 1,
         address,
-        carries,
+        carries: Data::Fixed(n),
         crc: true,
     })
 }
@@ -164,21 +164,6 @@ fn headed(opcode: Opcode, narrow: u8, wide: u8, told: u8, carries: Data) -> List
         address: 4,
         carries,
         crc: true,
-    })
-}
-
-fn resets() -> Listed
-    ensures { λ r. ⌜ r ≡ resets ⌝ }
-{
-    Listed::As(Row {
-        opcode: Opcode::Reset,
-        channel: Channel::Independent,
-        cycle: Cycle::Absent,
-        told: 1,
-        from: 1,
-        address: 0,
-        carries: Data::Ones,
-        crc: false,
     })
 }
 
@@ -202,21 +187,9 @@ fn short(a: Access, address: u8, writes: bool, c: u8) -> Listed
     }
     let n = size_of_code(c);
     if writes {
-        return plain(
-            Opcode::Short(a, n),
-            Channel::Peripheral,
-            1,
-            address,
-            Data::Fixed(n),
-        );
+        return plain(Opcode::Short(a, n), Channel::Peripheral, address, n);
     }
-    plain(
-        Opcode::Short(a, n),
-        Channel::Peripheral,
-        1,
-        address,
-        Data::Fixed(0),
-    )
+    plain(Opcode::Short(a, n), Channel::Peripheral, address, 0)
 }
 
 fn row_of(op: u8) -> Listed
@@ -224,36 +197,36 @@ fn row_of(op: u8) -> Listed
 {
     match op {
         0x00 => headed(Opcode::PutPc, 0x01, 0x03, 4, Data::Length),
-        0x01 => plain(Opcode::GetPc, Channel::Peripheral, 1, 0, Data::Fixed(0)),
+        0x01 => plain(Opcode::GetPc, Channel::Peripheral, 0, 0),
         0x02 => headed(Opcode::PutNp, 0x00, 0x02, 2, Data::Fixed(0)),
-        0x04 => plain(Opcode::PutVwire, Channel::Wires, 2, 0, Data::Pairs),
-        0x05 => plain(Opcode::GetVwire, Channel::Wires, 1, 0, Data::Fixed(0)),
-        0x21 => plain(
-            Opcode::GetConfiguration,
-            Channel::Independent,
-            1,
-            2,
-            Data::Fixed(0),
-        ),
-        0x22 => plain(
-            Opcode::SetConfiguration,
-            Channel::Independent,
-            1,
-            2,
-            Data::Fixed(4),
-        ),
-        0x25 => plain(
-            Opcode::GetStatus,
-            Channel::Independent,
-            1,
-            0,
-            Data::Fixed(0),
-        ),
+        0x04 => Listed::As(Row {
+            opcode: Opcode::PutVwire,
+            channel: Channel::Wires,
+            cycle: Cycle::Absent,
+            told: 2,
+            from: 2,
+            address: 0,
+            carries: Data::Pairs,
+            crc: true,
+        }),
+        0x05 => plain(Opcode::GetVwire, Channel::Wires, 0, 0),
+        0x21 => plain(Opcode::GetConfiguration, Channel::Independent, 2, 0),
+        0x22 => plain(Opcode::SetConfiguration, Channel::Independent, 2, 4),
+        0x25 => plain(Opcode::GetStatus, Channel::Independent, 0, 0),
         0x40..=0x43 => short(Access::IoRead, 2, false, op % 4),
         0x44..=0x47 => short(Access::IoWrite, 2, true, op % 4),
         0x48..=0x4B => short(Access::MemoryRead, 4, false, op % 4),
         0x4C..=0x4F => short(Access::MemoryWrite, 4, true, op % 4),
-        0xFF => resets(),
+        0xFF => Listed::As(Row {
+            opcode: Opcode::Reset,
+            channel: Channel::Independent,
+            cycle: Cycle::Absent,
+            told: 1,
+            from: 1,
+            address: 0,
+            carries: Data::Ones,
+            crc: false,
+        }),
         _ => Listed::Unlisted,
     }
 }
@@ -398,14 +371,14 @@ pub fn need_in(on: Channels, b: &[u8]) -> Need
 
 // ---- the fields of a command
 
-fn high_first(n: u8, at: u8, b: &[u8]) -> u32
-    requires { ⌜ n ≤ 4 ⌝ }
-    ensures { λ r. ⌜ r ≡ highFirst n at (now (b .entry)) ⌝ }
+fn high_first(n: u8, at: u8, b: &[u8]) -> u64
+    requires { ⌜ n ≤ 8 ⌝ }
+    ensures { λ r. ⌜ (r ≡ highFirst n at (now (b .entry))) × (r < 256 ^ n) ⌝ }
 {
-    let mut v: u32 = 0;
+    let mut v: u64 = 0;
     let mut i: u8 = 0;
     while i < n {
-        v = v * 256 + (byte_at(b, (at as usize) + (i as usize)) as u32);
+        v = v * 256 + (byte_at(b, (at as usize) + (i as usize)) as u64);
         i += 1;
     }
     v
@@ -415,10 +388,7 @@ fn address_in(r: Row, b: &[u8]) -> u64
     requires { ⌜ Readable r ⌝ }
     ensures { λ a. ⌜ a ≡ addressIn r (now (b .entry)) ⌝ }
 {
-    if wide_cycle(r, b) {
-        return base::from_high8(high_first(4, r.from, b), high_first(4, r.from + 4, b));
-    }
-    high_first(r.address, r.from, b) as u64
+    high_first(address_bytes(r, b), r.from, b)
 }
 
 fn head_of(r: Row, b: &[u8]) -> Head
@@ -437,7 +407,7 @@ fn register_address(r: Row, b: &[u8]) -> u32
     requires { ⌜ Readable r ⌝ }
     ensures { λ a. ⌜ a ≡ registerAddress r (now (b .entry)) ⌝ }
 {
-    high_first(r.address, r.from, b) / 4 % 1024 * 4
+    (high_first(r.address, r.from, b) as u32) / 4 % 1024 * 4
 }
 
 fn register_data(b: &[u8]) -> u32

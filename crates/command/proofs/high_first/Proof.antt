@@ -1,9 +1,9 @@
+use Rattle.command.specs.Laws.{high-next, power-next, within}
 use Prim.Native.Nat.{ℕ}
 use Prim.Native.Nat.{_≤_, _<_, _-_, _^_}
-use mathlib.Core.Path.{_≡_, refl, sym, ap, _∙_}
+use mathlib.Core.Path.{_≡_, refl, ap, subst, _∙_}
 use native.Mathlib.Omega.{arith}
 use Rattle.command.specs.Decode.{highFirst}
-use Rattle.command.specs.Laws.{high-next, power-next, three-bytes}
 use borrow.Author.Needs.{needs}
 use native.Mathlib.Omega.{arith}
 use Rattle.command.proofs.high_first.Statement.{statement}
@@ -19,7 +19,7 @@ loop-holds : tie.Need-loop-holds Inv-loop μ-loop
 loop-holds c = (search needs, (refl, omega arith))
 
 mul-v : tie.Need-mul-v Inv-loop μ-loop
-mul-v c = omega (arith, three-bytes _ _ (omega arith) (c .before .loop .inv .1 .1))
+mul-v c = omega (arith, within 7 _ _ (omega arith) (c .before .loop .inv .1 .1))
 
 cast-byte-at : tie.Need-cast-byte-at Inv-loop μ-loop
 cast-byte-at c = search needs
@@ -34,7 +34,7 @@ cast-v : tie.Need-cast-v Inv-loop μ-loop
 cast-v c = search needs
 
 add-v : tie.Need-add-v Inv-loop μ-loop
-add-v c = omega (arith, three-bytes _ _ (omega arith) (c .before .before .loop .inv .1 .1))
+add-v c = omega (arith, within 7 _ _ (omega arith) (c .before .before .loop .inv .1 .1))
 
 add-i : tie.Need-add-i Inv-loop μ-loop
 add-i c = search needs
@@ -50,7 +50,7 @@ returns c =
     let a = c .before .before .before .args in
     let l = c .before .loop in
     let e : l .i ≡ a .n = omega arith in
-    l .inv .1 .0 ∙ ap (λ (k : ℕ). highFirst k (a .at) (a .b .now)) e
+    (l .inv .1 .0 ∙ ap (λ (k : ℕ). highFirst k (a .at) (a .b .now)) e, subst (λ (k : ℕ). l .v < 256 ^ k) e (l .inv .1 .1))
 
 pub high-first-spec : {M : Type 1} → statement M
 high-first-spec =

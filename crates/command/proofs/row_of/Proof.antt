@@ -27,12 +27,6 @@ plain-requires-4 c κs = search needs
 plain-requires-5 : tie.Need-plain-requires-5
 plain-requires-5 c κs = search needs
 
-plain-requires-6 : tie.Need-plain-requires-6
-plain-requires-6 c κs = search needs
-
-resets-requires : tie.Need-resets-requires
-resets-requires c κs = search needs
-
 short-requires : tie.Need-short-requires
 short-requires c κs = search needs
 
@@ -55,22 +49,22 @@ returns-3 : tie.Need-returns-3
 returns-3 c = simp (c .before .match .keys3, c .headed2 .ensures)
 
 returns-4 : tie.Need-returns-4
-returns-4 c = simp (c .before .match .keys4, c .plain2 .ensures)
+returns-4 c = simp (c .match .keys4)
 
 returns-5 : tie.Need-returns-5
-returns-5 c = simp (c .before .match .keys5, c .plain3 .ensures)
+returns-5 c = simp (c .before .match .keys5, c .plain2 .ensures)
 
 returns-6 : tie.Need-returns-6
-returns-6 c = simp (c .before .match .keys6, c .plain4 .ensures)
+returns-6 c = simp (c .before .match .keys6, c .plain3 .ensures)
 
 returns-7 : tie.Need-returns-7
-returns-7 c = simp (c .before .match .keys7, c .plain5 .ensures)
+returns-7 c = simp (c .before .match .keys7, c .plain4 .ensures)
 
 returns-8 : tie.Need-returns-8
-returns-8 c = simp (c .before .match .keys8, c .plain6 .ensures)
+returns-8 c = simp (c .before .match .keys8, c .plain5 .ensures)
 
 returns-9 : tie.Need-returns-9
-returns-9 c = simp (c .before .match .keys9, c .resets .ensures)
+returns-9 c = simp (c .match .keys9)
 
 returns-10 : tie.Need-returns-10
 returns-10 c =
@@ -113,8 +107,6 @@ row-of-spec =
     plain-requires-3
     plain-requires-4
     plain-requires-5
-    plain-requires-6
-    resets-requires
     short-requires
     short-requires-2
     short-requires-3

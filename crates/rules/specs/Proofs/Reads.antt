@@ -10,11 +10,12 @@ use lib.ListN.{length, getD, take, drop, length-take, List·getD-eq-default}
 use lib.Seq.{getD-take, getD-drop}
 use borrow.Author.Tests.{ltb-true, ltb-false}
 use Rattle.base.specs.Pick.{pick, pick-ind}
-use Rattle.base.specs.Bytes.{joined4, high8}
+use Rattle.base.specs.Bytes.{joined4}
 use Rattle.registers.specs.Registers.{crcChecked}
 use Rattle.registers.specs.declared.Config.{Config}
 use Rattle.command.specs.Rows.{rowOf}
 use Rattle.command.specs.Needs.{cycleListed}
+use Rattle.command.specs.Decode as D
 use Rattle.command.specs.Decode.{commandOf, registerData}
 use Rattle.command.specs.Facts.{CommandLength, Decodes, admit-decodes, admit-length}
 use Rattle.command.specs.declared.Command.{Command}
@@ -49,11 +50,11 @@ Wide w t = eqb t w ≡ (eqb t 2 || eqb t 3)
 pub width-as : (w t : ℕ) → Wide w t → pick (eqb t w) 8 4 ≡ cycleWidth t
 width-as w t e = ap (λ (u : Bool). pick u 8 4) e
 
-address-as : (b : List ℕ) (w t : ℕ) → Wide w t → pick (eqb t w) (high8 (highFirst 4 4 b) (highFirst 4 8 b)) (highFirst 4 4 b) ≡ highFirst (cycleWidth t) 4 b
-address-as b w t e = ap (λ (u : Bool). pick u (high8 (highFirst 4 4 b) (highFirst 4 8 b)) (highFirst 4 4 b)) e ∙ go (eqb t 2 || eqb t 3)
+address-as : (b : List ℕ) (w t : ℕ) → Wide w t → D.highFirst (pick (eqb t w) 8 4) 4 b ≡ highFirst (cycleWidth t) 4 b
+address-as b w t e = ap (λ (u : Bool). D.highFirst (pick u 8 4) 4 b) e ∙ go (eqb t 2 || eqb t 3)
   where
-    go : (u : Bool) → pick u (high8 (highFirst 4 4 b) (highFirst 4 8 b)) (highFirst 4 4 b) ≡ highFirst (pick u 8 4) 4 b
-    go true = omega arith
+    go : (u : Bool) → D.highFirst (pick u 8 4) 4 b ≡ highFirst (pick u 8 4) 4 b
+    go true = refl
     go false = refl
 
 -- an I/O write's bytes in bus order, 0 past its size
