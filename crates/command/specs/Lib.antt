@@ -1,5 +1,6 @@
-pub mod Opcode
+pub mod Rows
 pub mod Needs
 pub mod Decode
 pub mod Laws
 pub mod Facts
+pub mod Prefix

@@ -7,11 +7,7 @@ use Rattle.base.specs.Pick.{and-left, and-right}
 use Rattle.registers.specs.Registers.{writeAt, forbiddenAt}
 use Rattle.registers.specs.Laws.{fits-write, reachable-write}
 use Rattle.registers.specs.declared.Config.{Config}
-use Rattle.command.specs.Opcode.{channelOn}
-use Rattle.command.specs.Facts.{IsBytes, peripheralOpcode, admit-numbers, admit-channel}
-use Rattle.command.specs.declared.Channels.{Channels}
-use Rattle.command.specs.declared.PeripheralCommand.{PeripheralCommand}
-use Rattle.command.specs.declared.PeripheralCommand.the-variants.{PutPc, GetPc, PutNp, Short}
+use Rattle.command.specs.Facts.{IsBytes, admit-numbers, admit-channel}
 use Rattle.command.specs.declared.Command.the-variants as C₀
 use Rattle.state.specs.Facts.{fresh-sound}
 use Rattle.state.specs.declared.State.{State}
@@ -39,17 +35,10 @@ use Rattle.rules.specs.declared.Plan.{Plan}
 
 -- ---- every channel keeps its part sound
 
--- a command of channel 0 is admitted while it is on
-on-for : (c : Channels) (o : PeripheralCommand) → channelOn c (peripheralOpcode o) ≡ true → c .peripheral ≡ true
-on-for c (PutPc h) e = e
-on-for c GetPc e = e
-on-for c (PutNp h) e = e
-on-for c (Short a p) e = e
-
 acts-ok : (k : Channel) (s : State) (b : List ℕ) (o : Command k) (x : Change k) → Parts s → IsBytes b → Admits s b (N.commandOf k o)
     → Did k (s .config) (part k s) (actOf k (s .config) o b) x → PartOk k (on k (s .config)) (nextOf k x)
 acts-ok peripheral s b o x h bytes e d =
-    P.acts-ok (h .config .right) (h .each peripheral) (on-for (channelsOf (s .config)) o (admit-channel _ _ b (C₀.Peripheral o) e))
+    P.acts-ok (h .config .right) (h .each peripheral) (admit-channel _ _ b (C₀.Peripheral o) e)
     (P.act-fits (s .config) o b bytes (admit-numbers _ _ b (C₀.Peripheral o) e bytes)) d
 acts-ok wires s b o x h bytes e d = W.acts-ok (h .each wires) d
 

@@ -21,7 +21,7 @@ use Rattle.rules.specs.Proofs.Lift.{same-is}
 use Rattle.rules.specs.Proofs.Effects.{command-own, one-channel, above}
 
 pub begins : (x : Channel) (s : State) (b : List ℕ) (o : C₀.Command) → Admits s b o → isCommandOf x b ≡ isOf x (byte b 0)
-begins x s b o e = go b (admit-decodes (channelsOf (s .config)) (crcChecked (s .config .r008)) b o e .some)
+begins x s b o e = go b (admit-decodes (channelsOf (s .config)) (crcChecked (s .config .r008)) b o e .passes .some)
   where
     go : (l : List ℕ) → 1 ≤ length l → isCommandOf x l ≡ isOf x (byte l 0)
     go [] h = absurd (omega (arith, h))
