@@ -1,15 +1,15 @@
 -- The decoder held against Fields, opcode by opcode.
-use Prim.Native.Nat.{ℕ, _+_, _-_, _*_, _/_, _%_, _≤_}
+use Prim.Native.Nat.{ℕ, _+_, _-_, _/_, _≤_}
 use mathlib.Core.Bool.{Bool, true, false, _||_, true≢false}
 use mathlib.Core.List.{List, [], _∷_}
 use mathlib.Core.Path.{_≡_, refl, sym, ap, subst, _∙_}
-use native.Mathlib.Nat.{add-zero, mul-comm}
+use native.Mathlib.Nat.{mul-comm}
 use native.Mathlib.Omega.{arith}
 use lib.Dec.{eqb, ltb}
 use lib.ListN.{length, getD, take, drop, length-take, List·getD-eq-default}
 use lib.Seq.{getD-take, getD-drop}
 use borrow.Author.Tests.{ltb-true, ltb-false}
-use Rattle.base.specs.Pick.{pick, pick-ind}
+use Rattle.base.specs.Pick.{pick}
 use Rattle.base.specs.Bytes.{joined4}
 use Rattle.registers.specs.Registers.{crcChecked}
 use Rattle.registers.specs.declared.Config.{Config}
@@ -23,15 +23,12 @@ use Rattle.command.specs.declared.Listed.{Listed}
 use Rattle.command.specs.declared.Listed.the-variants.{As, Unlisted}
 use Rattle.peripheral.specs.declared.Kind.{Kind}
 use Rattle.peripheral.specs.declared.Kind.the-variants as R
-use Rattle.peripheral.specs.declared.Request.{Request}
-use Rattle.state.specs.declared.State.{State}
 use Rattle.rules.specs.Rules.Peripheral as P
 use Rattle.rules.specs.Rules.Peripheral.{requestOf, bytesOf}
 use Rattle.rules.specs.Rules.Wires as W
 use Rattle.rules.specs.Rules.Exchange.{channelsOf}
-use Rattle.rules.specs.Statements.Cases.{Admits}
-use Rattle.rules.specs.Statements.Fields.{byte, isPosted, isNonPosted, highFirst, lowFirst, cycleWidth, accessAddress, accessLength, accessTag, dataFrom, requestKind, ioBytes, groups, pairs, registerAt, registerValue}
-use Rattle.rules.specs.Statements.Reads.{requestIn, Peripheral, posts, asks, Wires, puts, ReadAs, Reads}
+use Rattle.rules.specs.Statements.Fields.{byte, isPosted, isNonPosted, highFirst, lowFirst, cycleWidth, accessAddress, accessLength, accessTag, dataFrom, requestKind, ioBytes, groups}
+use Rattle.rules.specs.Statements.Reads.{Peripheral, posts, asks, Wires, puts, ReadAs, Reads}
 use Rattle.rules.specs.Statements.Reads as S
 use Rattle.rules.specs.Proofs.Fields.{by-opcode, one}
 

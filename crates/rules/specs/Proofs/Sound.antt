@@ -2,7 +2,7 @@
 use Prim.Native.Nat.{ℕ, _^_, _<_}
 use mathlib.Core.Bool.{Bool, true, false}
 use mathlib.Core.List.{List, [], _∷_}
-use mathlib.Core.Path.{_≡_, refl, sym, ap, subst, _∙_}
+use mathlib.Core.Path.{_≡_, refl, sym, subst}
 use lib.Dec.{lit<}
 use Rattle.base.specs.Pick.{and-left, and-right}
 use Rattle.registers.specs.Registers.{writeAt, forbiddenAt}
@@ -13,11 +13,11 @@ use Rattle.command.specs.declared.Command.the-variants as C₀
 use Rattle.state.specs.Fresh.{freshState}
 use Rattle.state.specs.declared.State.{State}
 use Rattle.state.specs.Sound.{Sound}
-use Rattle.rules.specs.Rules.Reset.{Reset, start}
-use Rattle.rules.specs.Rules.Channel.{Channel, peripheral, wires, Part, Command, Act, Board, Change, nextOf, part, put, each, on, actOf, edge, reset}
+use Rattle.rules.specs.Rules.Reset.{Reset}
+use Rattle.rules.specs.Rules.Channel.{Channel, peripheral, wires, Part, Command, Board, Change, nextOf, part, put, each, on, actOf, edge, reset}
 use Rattle.rules.specs.Rules.Lift as L
 use Rattle.rules.specs.Rules.Lift.{lift}
-use Rattle.rules.specs.Rules.Exchange.{channelsOf, reconfigured, configReset, wasReset, reset008h, exchange}
+use Rattle.rules.specs.Rules.Exchange.{reconfigured, configReset, wasReset, reset008h, exchange}
 use Rattle.rules.specs.Rules.Step as S
 use Rattle.rules.specs.Rules.Step.{World, Call, Outcome, exchanged, settled}
 use Rattle.rules.specs.Statements.Plans as N
@@ -29,7 +29,7 @@ use Rattle.rules.specs.Proofs.Plans as D
 use Rattle.rules.specs.Proofs.Plans.{plans}
 use Rattle.rules.specs.Proofs.Cases.{cases}
 use Rattle.rules.specs.Proofs.SoundBytes.{bytes-below}
-use Rattle.rules.specs.Proofs.SoundParts.{ConfigOk, PartOk, Parts, parts, whole, with-part, with-each, fresh008-ok, reset-config}
+use Rattle.rules.specs.Proofs.SoundParts.{PartOk, Parts, parts, whole, with-part, with-each, fresh008-ok, reset-config}
 use Rattle.rules.specs.Proofs.Peripheral.Sound as P
 use Rattle.rules.specs.Proofs.Wires.Sound as W
 use Rattle.rules.specs.declared.Plan.{Plan}
