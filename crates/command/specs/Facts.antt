@@ -11,8 +11,8 @@ use lib.ListN.{length, getD}
 use Rattle.base.specs.Pick.{pick, pick-ind}
 use Rattle.base.specs.Bytes.{high2}
 use Rattle.command.specs.Rows.{plain, headed, counted, resets, sizeOfCode, short, rowOf}
-use Rattle.command.specs.Needs.{channelOn, cycleListed, wideCycle, addressBytes, lengthOf, groupCount, allFF, needData, needRow, needListed, needIn}
-use Rattle.command.specs.Decode.{highFirst, addressIn, headOf, registerAddress, commandOf, crcWrong, checkedAs, readOff, admit}
+use Rattle.command.specs.Needs.{channelOn, cycleListed, wideCycle, addressBytes, lengthOf, allFF, needData, needListed, needIn}
+use Rattle.command.specs.Decode.{highFirst, commandOf, crcWrong, checkedAs, readOff, admit}
 use Rattle.command.specs.declared.Access.{Access}
 use Rattle.command.specs.declared.Access.the-variants.{IoRead, IoWrite, MemoryRead, MemoryWrite}
 use Rattle.command.specs.declared.Opcode.{Opcode}
@@ -141,7 +141,13 @@ module _ (b : List ℕ) (bytes : IsBytes b) where
       → HeadFits (record { wide = wide; tag = getD b 2 0 / 16; length = lengthOf (getD b 2 0) (getD b 3 0); address = highFirst (pick wide 8 4) 4 b })
   head-fits wide =
       let l = length-fits (getD b 2 0) (getD b 3 0) (bytes 3) in
-      record { tag = omega (arith, bytes 2); some = l .0; most = l .1; address = most wide; narrow = λ e. subst (λ (t : Bool). highFirst (pick t 8 4) 4 b < 4294967296) (sym e) (high-fits 4 4) }
+      record {
+        tag = omega (arith, bytes 2);
+        some = l .0;
+        most = l .1;
+        address = most wide;
+        narrow = λ e. subst (λ (t : Bool). highFirst (pick t 8 4) 4 b < 4294967296) (sym e) (high-fits 4 4);
+      }
     where
       most : (t : Bool) → highFirst (pick t 8 4) 4 b < 18446744073709551616
       most true = high-fits 8 4
@@ -165,7 +171,8 @@ sized : (Q : Listed → Type 0) (a : Access) (address : ℕ) (writes : Bool)
     → Q Unlisted → (c : ℕ) → Q (short a address writes c)
 sized Q a n w h none c =
     pick-ind Q (eqb c 2) (λ _. none)
-    (λ _. h (sizeOfCode c) (pick-ind SizeFits (eqb c 0) (λ _. inl refl) (λ _. pick-ind SizeFits (eqb c 1) (λ _. inr (inl refl)) (λ _. inr (inr refl)))))
+    (λ _. h (sizeOfCode c) (pick-ind SizeFits (eqb c 0) (λ _. inl refl)
+    (λ _. pick-ind SizeFits (eqb c 1) (λ _. inr (inl refl)) (λ _. inr (inr refl)))))
 
 -- what holds of each row, and where there is none, holds of every opcode's
 pub by-row : (Q : Listed → Type 0)
@@ -270,7 +277,13 @@ module _ (on : Channels) (b : List ℕ) where
       (plain-tells O.GetConfiguration _ _ _ (lit≤ tt) (λ _. tt) (λ h. h) (λ _. register-fits _))
       (plain-tells O.SetConfiguration _ _ _ (lit≤ tt) (λ _. tt) (λ h. h) (λ h. (register-fits _, omega (arith, h 3, h 4, h 5, h 6))))
       (plain-tells O.GetStatus _ _ _ (lit≤ tt) (λ _. tt) (λ h. h) (λ _. tt))
-      (record { readable = record { told = lit≤ tt; address = lit≤ tt }; listed = λ _ _. refl; channel = λ _. tt; right = reset-right _ (allFF b); numbers = λ _. tt })
+      (record {
+        readable = record { told = lit≤ tt; address = lit≤ tt };
+        listed = λ _ _. refl;
+        channel = λ _. tt;
+        right = reset-right _ (allFF b);
+        numbers = λ _. tt;
+      })
       (λ n f. plain-tells (O.Short IoRead n) _ _ _ (lit≤ tt) (λ e. e) (λ h. h) (λ h. record { size = f; address = high-fits b h 2 1 }))
       (λ n f. plain-tells (O.Short IoWrite n) _ _ _ (lit≤ tt) (λ e. e) (λ h. h) (λ h. record { size = f; address = high-fits b h 2 1 }))
       (λ n f. plain-tells (O.Short MemoryRead n) _ _ _ (lit≤ tt) (λ e. e) (λ h. h) (λ h. record { size = f; address = high-fits b h 4 1 }))
@@ -309,7 +322,8 @@ module _ (on : Channels) (b : List ℕ) where
   listed-tells (As r) e w some =
       pick-ind NeedTells (not (channelOn on (r .channel))) (λ _. (omega arith, omega arith))
       λ k. pick-ind NeedTells (cycleWrong r b) (λ _. (omega arith, omega arith))
-      λ y. pick-ind NeedTells (ltb (length b) (r .told)) (λ l. let h = ltb-true (length b) (r .told) l in (omega arith, omega (arith, w .readable .told)))
+      λ y. pick-ind NeedTells (ltb (length b) (r .told))
+      (λ l. let h = ltb-true (length b) (r .told) l in (omega arith, omega (arith, w .readable .told)))
       λ t. data-tells r (r .carries) refl
       (λ x n. record { some = some; row = e; channel = not-false (channelOn on (r .channel)) k; cycle = y; told = ltb-false (length b) (r .told) t; needs = n })
 

@@ -96,6 +96,7 @@ within m n v h l = let e : m - n + n ≡ m = omega arith in omega (arith, subst 
 
 -- ---- the decoder, of a need
 
-pub admit-by : (on : Channels) (checked : Bool) (b : List ℕ) (d : Decoded) (y x : Need) → y ≡ needIn on b → y ≡ x → d ≡ readOff checked b x → d ≡ admit on checked b
+pub admit-by : (on : Channels) (checked : Bool) (b : List ℕ) (d : Decoded) (y x : Need) → y ≡ needIn on b → y ≡ x
+    → d ≡ readOff checked b x → d ≡ admit on checked b
 unfolding admit
 admit-by on checked b d y x e f g = g ∙ ap (readOff checked b) (sym f ∙ e)

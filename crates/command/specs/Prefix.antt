@@ -1,18 +1,18 @@
 -- What the first bytes of a command need, as more of them come: a whole and a refusal stay, and few bytes decide (01, Commands). So the bytes
 -- can be fed one by one.
-use Prim.Native.Nat.{ℕ, suc, _+_, _-_, _<_, _≤_}
+use Prim.Native.Nat.{ℕ, _+_, _-_, _<_, _≤_}
 use mathlib.Core.Bool.{Bool, true, false, not, _&&_, true≢false, and-false}
 use mathlib.Core.List.{List, [], _∷_, _++_}
 use mathlib.Core.Logic.{_⊎_, inl, inr}
 use mathlib.Core.Path.{_≡_, refl, sym, ap, subst, _∙_}
 use native.Mathlib.Omega.{arith}
 use borrow.Author.Tests.{lt-ltb, le-ltb, ltb-true, ltb-false, le-leb, eq-eqb, ne-eqb, not-false}
-use lib.Dec.{eqb, ltb, leb, lit≤, eqb·suc-zero}
+use lib.Dec.{eqb, ltb, lit≤}
 use lib.ListN.{length, getD, take, length-append, length-take, List·getD-append}
 use lib.Seq.{getD-take}
 use Rattle.base.specs.Pick.{pick, pick-ind, taken, passed, and-left, and-right, and-true}
 use Rattle.command.specs.Rows.{plain, rowOf}
-use Rattle.command.specs.Needs.{channelOn, cycleListed, lengthOf, groupCount, allFF, needData, needRow, needListed, needIn}
+use Rattle.command.specs.Needs.{channelOn, cycleListed, allFF, needData, needRow, needListed, needIn}
 use Rattle.command.specs.Decode.{checkedAs, readOff, admit}
 use Rattle.command.specs.Facts.{IsBytes, SizeFits, length-fits, by-row, cycleWrong, Passes, need-is, passes-tells, ListedTells, row-tells}
 use Rattle.command.specs.declared.Opcode.{Opcode}
@@ -51,11 +51,13 @@ pub record Prefix (on : Channels) : Type 0 where
   pub wholeStays : (b c : List ℕ) (r : Row) (n : ℕ) → needIn on b ≡ Whole r n → needIn on (b ++ c) ≡ Whole r n
   pub neverStays : (b c : List ℕ) (n : ℕ) → needIn on b ≡ Never n → needIn on (b ++ c) ≡ Never n
   -- with fewer than were asked for, the rest is asked for, or the cycle type has come and is not listed
-  pub moreLeft : (b c : List ℕ) (k : ℕ) → needIn on b ≡ More k → length c < k → (needIn on (b ++ c) ≡ More (k - length c)) ⊎ (needIn on (b ++ c) ≡ Never 15)
+  pub moreLeft : (b c : List ℕ) (k : ℕ) → needIn on b ≡ More k → length c < k
+      → (needIn on (b ++ c) ≡ More (k - length c)) ⊎ (needIn on (b ++ c) ≡ Never 15)
   pub moreFew : (b : List ℕ) (k : ℕ) → needIn on b ≡ More k → (1 ≤ k) × (k ≤ 3)
   pub wholeFits : (b : List ℕ) (r : Row) (n : ℕ) → IsBytes b → needIn on b ≡ Whole r n → (2 ≤ n) × (n ≤ 4109)
   pub wholeInFour : (b : List ℕ) (r : Row) (n : ℕ) → needIn on b ≡ Whole r n → needIn on (take 4 b) ≡ Whole r n
-  pub over : (checked : Bool) (b : List ℕ) → IsBytes b → 4109 < length b → admit on checked b ≡ overlong on (rowOf (getD b 0 0)) (getD b 1 0) (allFF b)
+  pub over : (checked : Bool) (b : List ℕ) → IsBytes b → 4109 < length b
+      → admit on checked b ≡ overlong on (rowOf (getD b 0 0)) (getD b 1 0) (allFF b)
 
 -- ---- which need
 
@@ -116,7 +118,8 @@ module _ (b d : List ℕ) where
   reset-whole r x n true y e = absurd (true≢false (sym (ap isWhole e)))
   reset-whole r x n false y e = absurd (true≢false (sym (ap isWhole e)))
 
-  reset-never : (r : Row) (n : ℕ) (t u : Bool) → (t ≡ false → u ≡ false) → pick t (Open r) (Never 13) ≡ Never n → pick u (Open r) (Never 13) ≡ Never n
+  reset-never : (r : Row) (n : ℕ) (t u : Bool) → (t ≡ false → u ≡ false)
+      → pick t (Open r) (Never 13) ≡ Never n → pick u (Open r) (Never 13) ≡ Never n
   reset-never r n true u h e = absurd (true≢false (ap isOpen e))
   reset-never r n false u h e = ap (λ (v : Bool). pick v (Open r) (Never 13)) (h refl) ∙ e
 
@@ -184,9 +187,11 @@ module _ (on : Channels) where
         let q = row-reads (p .row) in
         let z = q .1 h .cycle ∙ passes-tells on b p .listed (p .told) (p .cycle) in
         need-row b d r (omega (arith, q .0)) (h 0 (q .0)) (p .row)
-        ∙ sym (passed _ _ (ap not (p .channel)) (passed _ _ (ap (λ (t : Bool). not t && ltb 1 (length d)) z) (passed _ _ (le-ltb (length d) (r .told) l) (sym e))))
+        ∙ sym (passed _ _ (ap not (p .channel)) (passed _ _ (ap (λ (t : Bool). not t && ltb 1 (length d)) z)
+        (passed _ _ (le-ltb (length d) (r .told) l) (sym e))))
 
-    whole-alike : (n : ℕ) → needIn on b ≡ Whole r n → (r .told ≤ length b → Alike (r .told) b d) → (r .told ≤ length b → r .told ≤ length d) → needIn on d ≡ Whole r n
+    whole-alike : (n : ℕ) → needIn on b ≡ Whole r n → (r .told ≤ length b → Alike (r .told) b d)
+        → (r .told ≤ length b → r .told ≤ length d) → needIn on d ≡ Whole r n
     whole-alike n e h l =
         let p = need-is on b (Whole r n) e in
         through p (h (p .told)) (l (p .told)) (row-reads (p .row) .1 (h (p .told)) .whole r n (p .needs))
@@ -206,7 +211,8 @@ module _ (on : Channels) where
     wrong-stays r e =
         let l : 1 < length b = ltb-true 1 (length b) (and-right (not (cycleListed (r .cycle) (getD b 1 0))) _ e) in
         and-true
-        (ap (λ (t : ℕ). not (cycleListed (r .cycle) t)) (append-alike 2 l 1 (omega arith)) ∙ and-left (not (cycleListed (r .cycle) (getD b 1 0))) (ltb 1 (length b)) e)
+        (ap (λ (t : ℕ). not (cycleListed (r .cycle) t)) (append-alike 2 l 1 (omega arith))
+        ∙ and-left (not (cycleListed (r .cycle) (getD b 1 0))) (ltb 1 (length b)) e)
         (lt-ltb 1 (length (b ++ c)) (omega (arith, longer)))
 
     longer-listed : (l : Listed) → 1 ≤ length b → rowOf (getD b 0 0) ≡ l → needIn on (b ++ c) ≡ needListed on (b ++ c) l
@@ -226,7 +232,9 @@ module _ (on : Channels) where
         through b (b ++ c) r p a (omega (arith, longer)) (row-reads b (b ++ c) r f .1 a .never (more-FF b c) n e)
 
     never-stays : (n : ℕ) → needIn on b ≡ Never n → needIn on (b ++ c) ≡ Never n
-    never-stays n e = by-length b (λ z. absurd (true≢false (ap isMore (sym (need-none b z) ∙ e)))) (λ h. listed-never n (rowOf (getD b 0 0)) h refl (sym (need-some b h) ∙ e))
+    never-stays n e =
+        by-length b (λ z. absurd (true≢false (ap isMore (sym (need-none b z) ∙ e))))
+        (λ h. listed-never n (rowOf (getD b 0 0)) h refl (sym (need-some b h) ∙ e))
 
     data-more : (r : Row) (d : Data) (k : ℕ) → needData r b d ≡ More k → ⊥
     data-more r (Fixed n) k = not-more refl
@@ -251,7 +259,8 @@ module _ (on : Channels) where
         λ _. pick-ind Q (ltb (length b) (r .told))
         (λ _ e. let same : r .told - length b ≡ k = ap kOf e in
         go (cycleWrong r (b ++ c)) refl
-        (λ y. g ∙ sym (passed _ _ o (passed _ _ y (taken _ _ (lt-ltb (length (b ++ c)) (r .told) (omega (arith, length-append b c))) (ap More (omega (arith, length-append b c)))))))
+        (λ y. g ∙ sym (passed _ _ o (passed _ _ y
+        (taken _ _ (lt-ltb (length (b ++ c)) (r .told) (omega (arith, length-append b c))) (ap More (omega (arith, length-append b c)))))))
         (λ y. g ∙ sym (passed _ _ o (taken _ _ y refl))))
         (λ _ e. absurd (data-more r (r .carries) k e))
       where
@@ -262,7 +271,9 @@ module _ (on : Channels) where
 
     more-left : (k : ℕ) → needIn on b ≡ More k → length c < k → Left k
     more-left k e h =
-        by-length b (λ z. let one : 1 ≡ k = ap kOf (sym (need-none b z) ∙ e) in inl (need-none (b ++ c) (omega (arith, length-append b c)) ∙ ap More (omega arith)))
+        by-length b
+        (λ z. let one : 1 ≡ k = ap kOf (sym (need-none b z) ∙ e) in
+        inl (need-none (b ++ c) (omega (arith, length-append b c)) ∙ ap More (omega arith)))
         (λ s. listed-more k (rowOf (getD b 0 0)) s refl h (sym (need-some b s) ∙ e))
 
   whole-four : (b : List ℕ) (r : Row) (n : ℕ) → needIn on b ≡ Whole r n → needIn on (take 4 b) ≡ Whole r n
@@ -287,7 +298,8 @@ module _ (on : Channels) (checked : Bool) (b : List ℕ) (bytes : IsBytes b) whe
   Ends (As r) = RowEnds r
   Ends Unlisted = Unit {0}
 
-  whole-ends : (r : Row) (n : ℕ) → Whole r n ≡ needData r b (r .carries) → Refused 12 ≡ endless (r .carries) (allFF b) → 2 ≤ n → n ≤ 4109 → RowEnds r
+  whole-ends : (r : Row) (n : ℕ) → Whole r n ≡ needData r b (r .carries) → Refused 12 ≡ endless (r .carries) (allFF b)
+      → 2 ≤ n → n ≤ 4109 → RowEnds r
   whole-ends r n e f l m =
       record {
         fits = subst Fits e (l, m);
@@ -348,16 +360,21 @@ module _ (on : Channels) (checked : Bool) (b : List ℕ) (bytes : IsBytes b) whe
       go true = g
       go false = h
 
-  listed-over : (l : Listed) → ListedTells on b l → Ends l → 4109 < length b → readOff checked b (needListed on b l) ≡ overlong on l (getD b 1 0) (allFF b)
+  listed-over : (l : Listed) → ListedTells on b l → Ends l → 4109 < length b
+      → readOff checked b (needListed on b l) ≡ overlong on l (getD b 1 0) (allFF b)
   listed-over Unlisted w q h = refl
   listed-over (As r) w q h =
-      along (readOff checked b) (not (channelOn on (r .channel))) _ refl refl
-      (along (readOff checked b) (cycleWrong r b) _ (there (not (cycleListed (r .cycle) (getD b 1 0))) (ltb 1 (length b)) (lt-ltb 1 (length b) (omega arith))) refl
-      (ap (λ (t : Bool). readOff checked b (pick t (More (r .told - length b)) (needData r b (r .carries)))) (le-ltb (length b) (r .told) (omega (arith, w .readable .told))) ∙ q .over h))
+      let f = readOff checked b in
+      let all : ltb (length b) (r .told) ≡ false = le-ltb (length b) (r .told) (omega (arith, w .readable .told)) in
+      along f (not (channelOn on (r .channel))) _ refl refl
+      (along f (cycleWrong r b) _ (there (not (cycleListed (r .cycle) (getD b 1 0))) (ltb 1 (length b)) (lt-ltb 1 (length b) (omega arith))) refl
+      (ap (λ (t : Bool). f (pick t (More (r .told - length b)) (needData r b (r .carries)))) all ∙ q .over h))
 
   too-many : 4109 < length b → admit on checked b ≡ overlong on (rowOf (getD b 0 0)) (getD b 1 0) (allFF b)
   unfolding admit
-  too-many h = ap (readOff checked b) (need-some on b (omega arith)) ∙ listed-over (rowOf (getD b 0 0)) (row-tells on b (getD b 0 0)) (row-ends (getD b 0 0)) h
+  too-many h =
+      ap (readOff checked b) (need-some on b (omega arith))
+      ∙ listed-over (rowOf (getD b 0 0)) (row-tells on b (getD b 0 0)) (row-ends (getD b 0 0)) h
 
 pub prefix : (on : Channels) → Prefix on
 prefix on =

@@ -12,7 +12,6 @@ use Rattle.command.specs.declared.Channel.the-variants.{Peripheral, Wire
 use Rattle.command.specs.declared.Cycle.the-variants.{Absent, Types}
 use Rattle.command.specs.declared.Data.{Data}
 use Rattle.command.specs.declared.Data.the-variants.{Fixed, Length, Pairs, Ones}
-use Rattle.command.specs.declared.Row.{Row}
 use Rattle.command.specs.declared.Listed.{Listed}
 use Rattle.command.specs.declared.Listed.the-variants.{As, Unlisted}
 

@@ -1,4 +1,4 @@
-use mathlib.Core.Path.{refl, sym, ap, subst, _∙_}
+use mathlib.Core.Path.{sym, ap, subst, _∙_}
 use Prim.Native.Nat.{ℕ, _≤_}
 use Rattle.command.specs.Decode.{highFirst}
 use Rattle.command.specs.Facts.{address-few}

@@ -1,8 +1,6 @@
 use mathlib.Core.Bool.{Bool, not, _&&_}
 use mathlib.Core.Path.{_≡_, refl, sym, ap, _∙_}
 use borrow.Author.Tests.{lt-ltb, le-ltb}
-use lib.Dec.{ltb}
-use lib.ListN.{length}
 use Rattle.base.specs.Pick.{taken, passed}
 use borrow.Author.Needs.{needs}
 use Rattle.command.proofs.need_row.Statement.{statement}

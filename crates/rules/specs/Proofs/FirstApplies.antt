@@ -154,7 +154,8 @@ module _ (c : Config) (r : List ℕ) where
       let header : Bool → ℕ = λ u. pick u 12 (pick (not (eqb len (4 + cycleWidth t + putLength b + 1))) 12 (crcFails 0x00)) in
       by-channel peripheral
       (by-cycle listed 4 _ (omega arith)
-      (λ _ l. same-test 12 (ltb len 4) (ltb len 4) refl λ _. by-length (crcFails 0x00) (ap (λ (k : ℕ). 4 + k + putLength b + 1) (width-as 3 t (one-of (Wide 3) t 1 3 refl refl l))))
+      (λ _ l. same-test 12 (ltb len 4) (ltb len 4) refl
+      λ _. by-length (crcFails 0x00) (ap (λ (k : ℕ). 4 + k + putLength b + 1) (width-as 3 t (one-of (Wide 3) t 1 3 refl refl l))))
       ∙ ap (λ (u : Bool). pick (ltb len 2) 12 (pick u 15 (header (ltb len 4)))) (sym (or-false (not listed)))
       ∙ ap (λ (u : Bool). pick (ltb len 2) 12 (pick (not listed || false) 15 (header u))) (sym (or-false (ltb len 4))))
 
@@ -186,7 +187,8 @@ module _ (c : Config) (r : List ℕ) where
 
   at-opcode : (op : ℕ) → AtOpcode op
   at-opcode =
-      by-opcode AtOpcode put-pc (by-channel peripheral (told refl)) put-np put-vwire (by-channel wires (told refl)) (by-none (told refl)) (by-none (told refl)) (by-none (told refl)) reset
+      by-opcode AtOpcode put-pc (by-channel peripheral (told refl)) put-np put-vwire (by-channel wires (told refl))
+      (by-none (told refl)) (by-none (told refl)) (by-none (told refl)) reset
       (by-channel peripheral (told refl)) (by-channel peripheral (told refl)) (by-channel peripheral (told refl))
       (by-channel peripheral (told refl)) (by-channel peripheral (told refl)) (by-channel peripheral (told refl))
       (by-channel peripheral (told refl)) (by-channel peripheral (told refl)) (by-channel peripheral (told refl))

@@ -1,9 +1,9 @@
 -- The decoder held against Fields, opcode by opcode.
-use Prim.Native.Nat.{ℕ, _+_, _-_, _*_, _/_, _%_, _≤_}
+use Prim.Native.Nat.{ℕ, _+_, _-_, _/_, _≤_}
 use mathlib.Core.Bool.{Bool, true, false, _||_, true≢false}
 use mathlib.Core.List.{List, [], _∷_}
 use mathlib.Core.Path.{_≡_, refl, sym, ap, subst, _∙_}
-use native.Mathlib.Nat.{add-zero, mul-comm}
+use native.Mathlib.Nat.{mul-comm}
 use native.Mathlib.Omega.{arith}
 use lib.Dec.{eqb, ltb}
 use lib.ListN.{length, getD, take, drop, length-take, List·getD-eq-default}
@@ -27,7 +27,7 @@ use Rattle.rules.specs.Rules.Peripheral as P
 use Rattle.rules.specs.Rules.Peripheral.{requestOf, bytesOf}
 use Rattle.rules.specs.Rules.Wires as W
 use Rattle.rules.specs.Rules.Exchange.{channelsOf}
-use Rattle.rules.specs.Statements.Fields.{byte, isPosted, isNonPosted, highFirst, lowFirst, cycleWidth, accessAddress, accessLength, accessTag, dataFrom, requestKind, ioBytes, groups, registerAt}
+use Rattle.rules.specs.Statements.Fields.{byte, isPosted, isNonPosted, highFirst, lowFirst, cycleWidth, accessAddress, accessLength, accessTag, dataFrom, requestKind, ioBytes, groups}
 use Rattle.rules.specs.Statements.Reads.{Peripheral, posts, asks, Wires, puts, ReadAs, Reads}
 use Rattle.rules.specs.Statements.Reads as S
 use Rattle.rules.specs.Proofs.Fields.{by-opcode, one}

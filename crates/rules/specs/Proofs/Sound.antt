@@ -16,7 +16,7 @@ use Rattle.rules.specs.Rules.Reset.{Reset}
 use Rattle.rules.specs.Rules.Channel.{Channel, peripheral, wires, Part, Command, Board, Change, nextOf, part, put, each, on, actOf, edge, reset}
 use Rattle.rules.specs.Rules.Lift as L
 use Rattle.rules.specs.Rules.Lift.{lift}
-use Rattle.rules.specs.Rules.Exchange.{channelsOf, reconfigured, configReset, wasReset, reset008h, exchange}
+use Rattle.rules.specs.Rules.Exchange.{reconfigured, configReset, wasReset, reset008h, exchange}
 use Rattle.rules.specs.Rules.Step as S
 use Rattle.rules.specs.Rules.Step.{World, Call, Outcome, exchanged, settled}
 use Rattle.rules.specs.Statements.Plans as N
