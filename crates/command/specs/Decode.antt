@@ -7,6 +7,7 @@ use lib.ListN.{length, getD, take}
 use Rattle.base.specs.Pick.{pick}
 use Rattle.base.specs.Bytes.{joined4}
 use Rattle.crc.specs.Crc.{crc}
+use Rattle.command.specs.Numbers.{lengthWrong, opcodeUnknown, crcRefused}
 use Rattle.command.specs.Needs.{wideCycle, addressBytes, lengthOf, groupCount, needIn}
 use Rattle.command.specs.declared.Opcode.{Opcode}
 use Rattle.command.specs.declared.Opcode.the-variants as O
@@ -78,13 +79,13 @@ abbrev pub crcWrong : Bool → Bool → List ℕ → Bool
 crcWrong checked has b = checked && (has && not (crcGood b))
 
 abbrev pub checkedAs : Bool → List ℕ → Row → Decoded
-checkedAs checked b r = pick (crcWrong checked (r .crc) b) (Refused 16) (Known (commandOf r b))
+checkedAs checked b r = pick (crcWrong checked (r .crc) b) (Refused crcRefused) (Known (commandOf r b))
 
 -- "exact length (12)"; "RESET: two or more bytes", else 13
 abbrev pub readOff : Bool → List ℕ → Need → Decoded
-readOff checked b (Whole r n) = pick (not (eqb (length b) n)) (Refused 12) (checkedAs checked b r)
-readOff checked b (More k) = Refused 12
-readOff checked b (Open r) = pick (not (leb 2 (length b))) (Refused 13) (checkedAs checked b r)
+readOff checked b (Whole r n) = pick (not (eqb (length b) n)) (Refused lengthWrong) (checkedAs checked b r)
+readOff checked b (More k) = Refused lengthWrong
+readOff checked b (Open r) = pick (not (leb 2 (length b))) (Refused opcodeUnknown) (checkedAs checked b r)
 readOff checked b (Never n) = Refused n
 
 unfoldable pub admit : Channels → Bool → List ℕ → Decoded

@@ -1,3 +1,4 @@
+pub mod Numbers
 pub mod Rows
 pub mod Needs
 pub mod Decode

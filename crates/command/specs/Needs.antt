@@ -7,6 +7,7 @@ use lib.Dec.{eqb, ltb}
 use lib.ListN.{length, getD}
 use Rattle.base.specs.Pick.{pick}
 use Rattle.base.specs.Bytes.{bit, high2}
+use Rattle.command.specs.Numbers.{opcodeUnknown, channelDisabled, cycleUnlisted}
 use Rattle.command.specs.Rows.{rowOf}
 use Rattle.command.specs.declared.Channels.{Channels}
 use Rattle.command.specs.declared.Channel.{Channel}
@@ -63,19 +64,19 @@ abbrev pub needData : Row → List ℕ → Data → Need
 needData r b (Fixed n) = Whole r (wholeWith r b n)
 needData r b Length = Whole r (wholeWith r b (lengthOf (getD b 2 0) (getD b 3 0)))
 needData r b Pairs = Whole r (wholeWith r b (groupCount (getD b 1 0) * 2))
-needData r b Ones = pick (allFF b) (Open r) (Never 13)
+needData r b Ones = pick (allFF b) (Open r) (Never opcodeUnknown)
 
 -- "14, a missing header byte needed next (12) or 15, exact length (12)"
 abbrev pub needRow : Channels → List ℕ → Row → Need
 needRow on b r =
-    pick (not (channelOn on (r .channel))) (Never 14)
-    (pick (not (cycleListed (r .cycle) (getD b 1 0)) && ltb 1 (length b)) (Never 15)
+    pick (not (channelOn on (r .channel))) (Never channelDisabled)
+    (pick (not (cycleListed (r .cycle) (getD b 1 0)) && ltb 1 (length b)) (Never cycleUnlisted)
     (pick (ltb (length b) (r .told)) (More (r .told - length b))
     (needData r b (r .carries))))
 
 -- "unknown opcode" is 13
 abbrev pub needListed : Channels → List ℕ → Listed → Need
-needListed on b Unlisted = Never 13
+needListed on b Unlisted = Never opcodeUnknown
 needListed on b (As r) = needRow on b r
 
 unfoldable pub needIn : Channels → List ℕ → Need

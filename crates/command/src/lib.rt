@@ -7,6 +7,17 @@ ghost use Rattle.command.specs.Needs.{channelOn, cycleListed, wideCycle,
 ghost use Rattle.command.specs.Decode.{highFirst, addressIn, headOf, registerAddress, registerData, commandOf, crcGood, crcWrong, checkedAs, admit};
 ghost use Rattle.command.specs.Facts.{Readable};
 
+// The numbers of the decoder's refusals.
+const LENGTH_WRONG: u8 = 12;
+
+const OPCODE_UNKNOWN: u8 = 13;
+
+const CHANNEL_DISABLED: u8 = 14;
+
+const CYCLE_UNLISTED: u8 = 15;
+
+const CRC_REFUSED: u8 = 16;
+
 pub enum Access {
     IoRead,
     IoWrite,
@@ -334,7 +345,7 @@ fn need_data(r: Row, b: &[u8]) -> Need
             if all_ff(b) {
                 return Need::Open(r);
             }
-            Need::Never(13)
+            Need::Never(OPCODE_UNKNOWN)
         }
     }
 }
@@ -344,10 +355,10 @@ fn need_row(on: Channels, b: &[u8], r: Row) -> Need
 {
     let channel = r.channel;
     if !channel_on(on, channel) {
-        return Need::Never(14);
+        return Need::Never(CHANNEL_DISABLED);
     }
     if !cycle_listed(r, b) & (1 < b.len()) {
-        return Need::Never(15);
+        return Need::Never(CYCLE_UNLISTED);
     }
     if b.len() < (r.told as usize) {
         return Need::More((r.told as u32) - (b.len() as u32));
@@ -365,7 +376,7 @@ pub fn need_in(on: Channels, b: &[u8]) -> Need
     let listed = row_of(b[0]);
     match listed {
         Listed::As(r) => need_row(on, b, r),
-        Listed::Unlisted => Need::Never(13),
+        Listed::Unlisted => Need::Never(OPCODE_UNKNOWN),
     }
 }
 
@@ -472,7 +483,7 @@ fn checked_as(checked: bool, b: &[u8], r: Row) -> Decoded
     ensures { λ d. ⌜ d ≡ checkedAs checked (now (b .entry)) r ⌝ }
 {
     if crc_wrong(checked, r.crc, b) {
-        return Decoded::Refused(16);
+        return Decoded::Refused(CRC_REFUSED);
     }
     Decoded::Known(command_of(r, b))
 }
@@ -485,14 +496,14 @@ pub fn admit(on: Channels, checked: bool, b: &[u8]) -> Decoded
     match need {
         Need::Whole(r, n) => {
             if b.len() != (n as usize) {
-                return Decoded::Refused(12);
+                return Decoded::Refused(LENGTH_WRONG);
             }
             checked_as(checked, b, r)
         }
-        Need::More(_) => Decoded::Refused(12),
+        Need::More(_) => Decoded::Refused(LENGTH_WRONG),
         Need::Open(r) => {
             if b.len() < 2 {
-                return Decoded::Refused(13);
+                return Decoded::Refused(OPCODE_UNKNOWN);
             }
             checked_as(checked, b, r)
         }
