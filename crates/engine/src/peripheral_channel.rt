@@ -327,7 +327,7 @@ pub(crate) fn taken(p: Peripheral) -> PeripheralChange
 
 // The edge from on to off drops the queues.
 pub(crate) fn edge(was: bool, is: bool, p: Peripheral) -> Peripheral
-    ensures { λ r. ⌜ r ≡ P.edge was is p ⌝ }
+    ensures { λ r. ⌜ r ≡ P.enableEdge was is p ⌝ }
 {
     if was & !is {
         return p.dropped();

@@ -86,7 +86,7 @@ pub(crate) fn setting(c: Config, w: Wires, index: u32, bit: u32, value: u32) -> 
 }
 
 pub(crate) fn edge(was: bool, is: bool, w: Wires) -> Wires
-    ensures { λ r. ⌜ r ≡ W.edge was is w ⌝ }
+    ensures { λ r. ⌜ r ≡ W.enableEdge was is w ⌝ }
 {
     if was & !is {
         return w.disabled();

@@ -18,12 +18,12 @@ use Rattle.command.specs.declared.Command as C₀
 use Rattle.state.specs.Status.{status}
 use Rattle.state.specs.declared.State.{State}
 use Rattle.rules.specs.Rules.Out.{responseByte}
-use Rattle.rules.specs.Rules.Channel.{Channel, peripheral, wires, Part, Command, Act, Board, Change, change, nextOf, outOf, actOf, acting, settle, reportOf, valueOf, given, bits, ownKept, part, put, each, on, edge, same}
+use Rattle.rules.specs.Rules.Channel.{Channel, peripheral, wires, Part, Command, Act, Board, Change, change, nextOf, outOf, actOf, acting, settle, reportOf, valueOf, given, bits, ownKept, part, put, each, on, enableEdge, same}
 use Rattle.rules.specs.Rules.Channel as N
 use Rattle.rules.specs.Rules.Lift.{lift, withStatus, show}
 use Rattle.rules.specs.Rules.Exchange.{reconfigured, configReset}
 use Rattle.rules.specs.Rules.Reply.{closed, replyBytes, bodyBytes, keptBytes}
-use Rattle.rules.specs.Rules.Step.{World, Call, Outcome, exchange, board, reset, short, lend, step, run, exchanged, settled, shortStores, shortFor, writeLength, readLength, replyLength}
+use Rattle.rules.specs.Rules.Step.{World, Call, Outcome, exchange, board, reset, short, lend, step, run, performed, served, shortStores, shortFor, writeLength, readLength, replyLength}
 use Rattle.rules.specs.Statements.Plans.{Settled, Admits}
 use Rattle.rules.specs.Statements.Channels.{Acts, Settles}
 use Rattle.rules.specs.Statements.Channels as L
@@ -184,9 +184,9 @@ module _ (x : Channel) (w v : World) (h : Alike x w v) where
   exchanged-together : (b : List ℕ) (n : ℕ) (y : Say) (kept : Kept) (s t s′ t′ : State) → StatesAlike x s t → StatesAlike x s′ t′
       → bodyOf y (w .read) ≡ bodyOf y (v .read)
       → SameLack (over (keptBytes kept b) (w .write)) (w .read) (over (keptBytes kept b) (v .write)) (v .read)
-      → Together x (exchanged w b (record { number = n; reply = withStatus y (status s); next = s′; kept = kept }))
-      (exchanged v b (record { number = n; reply = withStatus y (status t); next = t′; kept = kept }))
-  unfolding exchanged seen
+      → Together x (performed w b (record { number = n; reply = withStatus y (status s); next = s′; kept = kept }))
+      (performed v b (record { number = n; reply = withStatus y (status t); next = t′; kept = kept }))
+  unfolding performed seen
   exchanged-together b n y kept s t s′ t′ g g′ e l =
       let reply : List ℕ = replyBut x (replyBytes (withStatus y (status s)) (w .read)) in
       let value : ℕ = length (replyBytes (withStatus y (status t)) (v .read)) in
@@ -199,24 +199,24 @@ module _ (x : Channel) (w v : World) (h : Alike x w v) where
 
   -- above all channels nothing is kept and no store is read
   above-together : (b : List ℕ) (n : ℕ) (y : Say) (s′ t′ : State) → StatesAlike x s′ t′ → bodyOf y (w .read) ≡ bodyOf y (v .read)
-      → Together x (exchanged w b (record { number = n; reply = withStatus y (status (w .state)); next = s′; kept = K.Nothing }))
-      (exchanged v b (record { number = n; reply = withStatus y (status (v .state)); next = t′; kept = K.Nothing }))
+      → Together x (performed w b (record { number = n; reply = withStatus y (status (w .state)); next = s′; kept = K.Nothing }))
+      (performed v b (record { number = n; reply = withStatus y (status (v .state)); next = t′; kept = K.Nothing }))
   unfolding over
   above-together b n y s′ t′ g e = exchanged-together b n y K.Nothing (w .state) (v .state) s′ t′ (h .state) g e (h .room)
 
   module _ (k : Channel) (other : same x k ≡ false) where
     out-together : (b : List ℕ) (q : Part k) (n : ℕ) (y : Say) (kept : Kept) → bodyOf y (w .read) ≡ bodyOf y (v .read) → ownKept k kept ≡ true
-        → Together x (exchanged w b (lift k (w .state) (change k q (record { number = n; say = y; kept = kept }))))
-        (exchanged v b (lift k (v .state) (change k q (record { number = n; say = y; kept = kept }))))
+        → Together x (performed w b (lift k (w .state) (change k q (record { number = n; say = y; kept = kept }))))
+        (performed v b (lift k (v .state) (change k q (record { number = n; say = y; kept = kept }))))
     out-together b q n y kept e o =
         let out : Out = record { number = n; say = y; kept = kept } in
         let g = put-alike x k q (w .state) (v .state) (h .state) in
-        subst (λ (p : Plan). Together x (exchanged w b p) (exchanged v b (lift k (v .state) (change k q out)))) (sym (lift-change k (w .state) q out))
-        (subst (λ (p : Plan). Together x (exchanged w b (planned (put k q (w .state)) out)) (exchanged v b p)) (sym (lift-change k (v .state) q out))
+        subst (λ (p : Plan). Together x (performed w b p) (performed v b (lift k (v .state) (change k q out)))) (sym (lift-change k (w .state) q out))
+        (subst (λ (p : Plan). Together x (performed w b (planned (put k q (w .state)) out)) (performed v b p)) (sym (lift-change k (v .state) q out))
         (exchanged-together b n y kept _ _ _ _ g g e (owns k .lackWritten kept b (w .write) (w .read) (v .write) (v .read) o (h .stores k other) (h .room))))
 
     acts-together : (b : List ℕ) {p : Part k} {a : Act k} {c : Change k} → Acts k p a c
-        → Together x (exchanged w b (lift k (w .state) c)) (exchanged v b (lift k (v .state) c))
+        → Together x (performed w b (lift k (w .state) c)) (performed v b (lift k (v .state) c))
     acts-together b {p = p} L.Acts.refused = out-together b p 1 _ K.Nothing refl (owns k .nothing)
     acts-together b (L.Acts.accepted q body kept o n) =
         out-together b q 0 (Y.Said _ body) kept (owns k .bytes body (w .write) (w .read) (v .write) (v .read) o (h .stores k other)) n
@@ -234,13 +234,13 @@ module _ (x : Channel) (w v : World) (h : Alike x w v) where
         ∙ ap (λ (p : Part k). settle k (v .state .config) p o) (h .state .parts k other)
 
     settled-together : (o : Board k) (q : Part k) (out : Out) → ownKept k (out .kept) ≡ true
-        → Together x (settled k w o (lift k (w .state) (change k q out))) (settled k v o (lift k (v .state) (change k q out)))
-    unfolding settled seen
+        → Together x (served k w o (lift k (w .state) (change k q out))) (served k v o (lift k (v .state) (change k q out)))
+    unfolding served seen
     settled-together o q out n =
-        subst (λ (p : Plan). Together x (settled k w o p) (settled k v o (lift k (v .state) (change k q out)))) (sym (lift-change k (w .state) q out))
-        (subst (λ (p : Plan). Together x (settled k w o (planned (put k q (w .state)) out)) (settled k v o p)) (sym (lift-change k (v .state) q out)) both-settled)
+        subst (λ (p : Plan). Together x (served k w o p) (served k v o (lift k (v .state) (change k q out)))) (sym (lift-change k (w .state) q out))
+        (subst (λ (p : Plan). Together x (served k w o (planned (put k q (w .state)) out)) (served k v o p)) (sym (lift-change k (v .state) q out)) both-settled)
       where
-        both-settled : Together x (settled k w o (planned (put k q (w .state)) out)) (settled k v o (planned (put k q (v .state)) out))
+        both-settled : Together x (served k w o (planned (put k q (w .state)) out)) (served k v o (planned (put k q (v .state)) out))
         both-settled =
             record {
               shows = ap (λ (p : Part k). record { number = out .number; value = valueOf k p o; report = reportOf k p o; reply = [] }) (h .state .parts k other);
@@ -252,7 +252,7 @@ module _ (x : Channel) (w v : World) (h : Alike x w v) where
             }
 
     settles-together : (o : Board k) {p : Part k} {c : Change k} → Settles k p o c
-        → Together x (settled k w o (lift k (w .state) c)) (settled k v o (lift k (v .state) c))
+        → Together x (served k w o (lift k (w .state) c)) (served k v o (lift k (v .state) c))
     settles-together o {p = p} (L.Settles.refused n a b e f) = settled-together o p _ (owns k .nothing)
     settles-together o (L.Settles.accepted q kept n) = settled-together o q _ n
 
@@ -260,21 +260,21 @@ module _ (x : Channel) (w v : World) (h : Alike x w v) where
       → StatesAlike x (reconfigured (w .state) (writeAt (w .state .config) a n)) (reconfigured (v .state) (writeAt (v .state .config) a n))
   reconfigured-alike a n =
       each-alike x _ _ _ _ (w .state) (v .state) (ap (λ (c : Config). writeAt c a n) (h .state .config))
-      (λ k p. ap (λ (c : Config). edge k (on k c) (on k (writeAt c a n)) p) (h .state .config)) (h .state)
+      (λ k p. ap (λ (c : Config). enableEdge k (on k c) (on k (writeAt c a n)) p) (h .state .config)) (h .state)
 
   other-call : {c : Call} {o q : Outcome} → Both w v c o q → isCallOf x c ≡ false → Together x o q
   unfolding seen
   other-call (T.idle n) e = record { shows = refl; next = h }
   other-call (T.status {b = b}) e = above-together b 0 (Y.Said Accept B.Nothing) (w .state) (v .state) (h .state) refl
   other-call (T.register {b = b} a) e =
-      subst (λ (c : Config). Together x (T.registered b a w) (exchanged v b (show (B.Word (readAt c a)) (v .state)))) (h .state .config)
+      subst (λ (c : Config). Together x (T.registered b a w) (performed v b (show (B.Word (readAt c a)) (v .state)))) (h .state .config)
       (above-together b 0 (Y.Said Accept (B.Word (readAt (w .state .config) a))) (w .state) (v .state) (h .state) refl)
   other-call (T.acted {b = b} k o r a) e =
       let n = sym (own-command x k (w .state) b o a) ∙ e in
-      subst (λ (c : Change k). Together x (T.actedOn k o b w) (exchanged v b (lift k (v .state) c))) (acting-alike k n o b)
+      subst (λ (c : Change k). Together x (T.actedOn k o b w) (performed v b (lift k (v .state) c))) (acting-alike k n o b)
       (acts-together k n b (L₁.acts k _ _ _ _ (Q.did k _ _ _)))
   other-call (T.settles k o r) e =
-      subst (λ (c : Change k). Together x (T.boarded k o w) (settled k v o (lift k (v .state) c))) (settle-alike k e o)
+      subst (λ (c : Change k). Together x (T.boarded k o w) (served k v o (lift k (v .state) c))) (settle-alike k e o)
       (settles-together k e o (L₁.board-settles k (w .state) o))
   other-call (T.forbidden {b = b}) e = above-together b 2 (Y.Said NonFatal B.Nothing) (w .state) (v .state) (h .state) refl
   other-call (T.configured {b = b} a n r) e = above-together b 0 (Y.Said Accept B.Nothing) _ _ (reconfigured-alike a n) refl
@@ -311,8 +311,8 @@ module _ (b write read : List ℕ) where
 
 module _ (k : Channel) (w : World) where
   acts-own : (b r : List ℕ) {p : Part k} {a : Act k} {c : Change k} → Acts k p a c → shortStores r w ≡ false
-      → Alike k (exchanged w b (lift k (w .state) c) .next) w
-  unfolding exchanged lift
+      → Alike k (performed w b (lift k (w .state) c) .next) w
+  unfolding performed lift
   acts-own b r {c = c} d s =
       record {
         state = put-own k (nextOf k c) (w .state);
@@ -328,8 +328,8 @@ module _ (k : Channel) (w : World) where
       kept-own (L.Acts.accepted q body kept o n) = ap (λ (out : Out). ownKept k (out .kept)) (out-change k q _) ∙ n
 
   settled-own : (o : Board k) (x : Change k) → Settled k (w .state .config) (part k (w .state)) o x → shortFor k o w ≡ false
-      → Alike k (settled k w o (lift k (w .state) x) .next) w
-  unfolding settled lift
+      → Alike k (served k w o (lift k (w .state) x) .next) w
+  unfolding served lift
   settled-own o x d s =
       record {
         state = put-own k (nextOf k x) (w .state);
@@ -346,7 +346,7 @@ module _ (x : Channel) (w : World) where
   no-command b o op a e f g = true≢false (sym g ∙ begins x (w .state) b o a ∙ ap (isOf x) e ∙ f)
 
   own-call : {c : Call} {o q : Outcome} → Both w w c o q → isCallOf x c ≡ true → Alike x (o .next) w
-  unfolding exchanged over
+  unfolding performed over
   own-call (T.idle n) e = self x w
   own-call T.status e = self x w
   own-call (T.register a) e = self x w

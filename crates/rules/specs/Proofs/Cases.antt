@@ -13,7 +13,7 @@ use Rattle.rules.specs.Rules.Lift.{silent}
 use Rattle.rules.specs.Rules.Exchange as E
 use Rattle.rules.specs.Rules.Reply.{replyBytes}
 use Rattle.rules.specs.Rules.Step as S
-use Rattle.rules.specs.Rules.Step.{World, exchange, board, reset, short, lend, only, withState, shortStores, shortFor, exchanged, Call, Outcome}
+use Rattle.rules.specs.Rules.Step.{World, exchange, board, reset, short, lend, only, withState, shortStores, shortFor, performed, Call, Outcome}
 use Rattle.rules.specs.Statements.Both as T
 use Rattle.rules.specs.Statements.Both.{Both, BothCases}
 use Rattle.rules.specs.Statements.Plans as N
@@ -27,11 +27,11 @@ too-short : Silent 10
 too-short = record { least = omega arith; most = omega arith }
 
 -- the decoder's refusals leave no more than their number
-silent-only : (w : World) (b : List ℕ) (n : ℕ) → only n w ≡ exchanged w b (silent n (w .state))
-unfolding exchanged replyBytes over
+silent-only : (w : World) (b : List ℕ) (n : ℕ) → only n w ≡ performed w b (silent n (w .state))
+unfolding performed replyBytes over
 silent-only w b n = refl
 
-exchange-case : (w : World) (b r : List ℕ) {p : Plan} → Planned (w .state) b p → Case w (exchange b r) (exchanged w b p)
+exchange-case : (w : World) (b r : List ℕ) {p : Plan} → Planned (w .state) b p → Case w (exchange b r) (performed w b p)
 exchange-case w b r (N.turned n q) = subst (Case w (exchange b r)) (silent-only w b n) (idle n (record { least = omega (arith, q .least); most = q .most }))
 exchange-case w b r (N.shows q) = shown q
 exchange-case w b r (N.acts k o x e d) = acted k o x e d
@@ -48,7 +48,7 @@ cases w (short state c) = idle 10 too-short
 cases w (lend write read) = lent
 
 -- an exchange's plan is carried out where the stores are long enough
-pub exchange-step : (w : World) (b r : List ℕ) → S.step w (exchange b r) ≡ pick (shortStores r w) (only 10 w) (exchanged w b (E.exchange (w .state) b))
+pub exchange-step : (w : World) (b r : List ℕ) → S.step w (exchange b r) ≡ pick (shortStores r w) (only 10 w) (performed w b (E.exchange (w .state) b))
 unfolding S.step
 exchange-step w b r = refl
 
@@ -58,11 +58,11 @@ pub reset-is : (w : World) (r : Reset) → S.step w (reset r) ≡ only 0 (withSt
 unfolding S.step
 reset-is w r = refl
 
-pub exchange-long : (w : World) (b r : List ℕ) → shortStores r w ≡ false → S.step w (exchange b r) ≡ exchanged w b (E.exchange (w .state) b)
+pub exchange-long : (w : World) (b r : List ℕ) → shortStores r w ≡ false → S.step w (exchange b r) ≡ performed w b (E.exchange (w .state) b)
 unfolding S.step
 exchange-long w b r l = rw l
 
-pub board-long : (k : Channel) (w : World) (o : Board k) → shortFor k o w ≡ false → S.step w (board k o) ≡ S.settled k w o (L.settled k (w .state) o)
+pub board-long : (k : Channel) (w : World) (o : Board k) → shortFor k o w ≡ false → S.step w (board k o) ≡ S.served k w o (L.settled k (w .state) o)
 unfolding S.step
 board-long k w o l = rw l
 

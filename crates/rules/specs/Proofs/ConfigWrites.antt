@@ -19,7 +19,7 @@ use Rattle.rules.specs.Rules.Peripheral as P
 use Rattle.rules.specs.Rules.Wires as W
 use Rattle.rules.specs.Rules.Channel.{Channel, peripheral, wires, Part, Board, part}
 use Rattle.rules.specs.Rules.Reply.{replyBytes, closed}
-use Rattle.rules.specs.Rules.Step.{World, Call, reset, exchange, board, short, lend, Outcome, step, exchanged}
+use Rattle.rules.specs.Rules.Step.{World, Call, reset, exchange, board, short, lend, Outcome, step, performed}
 use Rattle.rules.specs.Statements.Plans as N
 use Rattle.rules.specs.Statements.Cases.{Case, idle, shown, acted, settles, forbidden, configured, cleared, wiped, lent}
 use Rattle.rules.specs.Statements.Fields.{byte, registerAt, registerValue}
@@ -172,7 +172,7 @@ abbrev Shown : World → List ℕ → Outcome → Type 0
 Shown w b o = byte b 0 ≡ 0x21 → o .number ≡ 0 → o .reply ≡ replyOf 0x08 (registerBytes (valueAt (w .state .config) (registerAt b))) (status (w .state))
 
 read-case : (w : World) {c : Call} {o : Outcome} → Case w c o → Shown w (commandBytes c) o
-unfolding exchanged replyBytes closed
+unfolding performed replyBytes closed
 read-case w (idle n q) h z = absurd (omega (arith, q .least))
 read-case w (shown {b} (N.status e)) h z = absurd (omega (arith, R.reads (w .state) b C.GetStatus e))
 read-case w (shown {b} (N.register a e)) h z =

@@ -14,11 +14,11 @@ use Rattle.registers.specs.declared.Config.{Config}
 use Rattle.command.specs.declared.Command.the-variants as C
 use Rattle.state.specs.declared.State.{State}
 use Rattle.rules.specs.Rules.Reset.{Reset, start, espiReset, platformReset}
-use Rattle.rules.specs.Rules.Channel.{Channel, peripheral, wires, Part, Command, Board, Change, nextOf, outOf, actOf, given, edge, part, put, on, channelNumber, same}
+use Rattle.rules.specs.Rules.Channel.{Channel, peripheral, wires, Part, Command, Board, Change, nextOf, outOf, actOf, given, enableEdge, part, put, on, channelNumber, same}
 use Rattle.rules.specs.Rules.Lift.{lift}
 use Rattle.rules.specs.Rules.Exchange.{reconfigured, wasReset}
 use Rattle.rules.specs.Rules.Reply.{keptBytes}
-use Rattle.rules.specs.Rules.Step.{World, Call, Outcome, step, withState, exchanged, settled}
+use Rattle.rules.specs.Rules.Step.{World, Call, Outcome, step, withState, performed, served}
 use Rattle.rules.specs.Statements.Cases.{Did, Settled, commandOf, Admits, status, register, Case, idle, shown, acted, settles, forbidden, configured, cleared, wiped, lent}
 use Rattle.rules.specs.Statements.Fields.{byte}
 use Rattle.rules.specs.Statements.Sizes.{isOf, isEnabled}
@@ -46,7 +46,7 @@ board-row : (k : Channel) (c : Config) (p : Part k) (o : Board k) (x : Change k)
 board-row peripheral c p o x d = P.board-row d
 board-row wires c p o x d = W.board-row d
 
-edge-row : (k : Channel) (was is : Bool) (p : Part k) → edge k was is p ≡ switched k was is p
+edge-row : (k : Channel) (was is : Bool) (p : Part k) → enableEdge k was is p ≡ switched k was is p
 edge-row peripheral = P.edge-row
 edge-row wires = W.edge-row
 
@@ -72,7 +72,7 @@ on-written k c a v =
 
 -- what a new configuration makes of the parts
 abbrev edges : (old new : Config) (k : Channel) → Part k → Part k
-edges old new k = edge k (on k old) (on k new)
+edges old new k = enableEdge k (on k old) (on k new)
 
 edge-written : (k : Channel) (c : Config) (a v : ℕ) (p : Part k) → edges c (writeAt c a v) k p ≡ writtenPart c a v k p
 edge-written k c a v p =
@@ -106,16 +106,16 @@ module _ (w : World) where
 
   command-case : (k : Channel) (b : List ℕ) (o : Command k) (x : Change k) → Admits s b (commandOf k o)
       → Becomes k (commandPart k (s .config) (part k s) b) (commandWrite k b) b x
-      → exchanged w b (lift k s x) .number ≡ 0 → exchanged w b (lift k s x) .next ≡ exchangeEffect w (byte b 0) b
-  unfolding exchanged lift
+      → performed w b (lift k s x) .number ≡ 0 → performed w b (lift k s x) .next ≡ exchangeEffect w (byte b 0) b
+  unfolding performed lift
   command-case k b o x e row z =
       ap (λ (p : Part k). record { state = put k p s; write = over (keptBytes (outOf k x .kept) b) (w .write); read = w .read }) (row z .0)
       ∙ ap (λ (l : List ℕ). record { state = put k (commandPart k (s .config) (part k s) b) s; write = l; read = w .read }) (row z .1 (w .write))
       ∙ sym (row-of k w (byte b 0) b (command-own k s b o e))
 
   board-case : (k : Channel) (o : Board k) (x : Change k) → Becomes k (boardPart k (s .config) (part k s) o) (boardRead k o) (given k o) x
-      → settled k w o (lift k s x) .number ≡ 0 → settled k w o (lift k s x) .next ≡ boardEffect k w o
-  unfolding settled lift
+      → served k w o (lift k s x) .number ≡ 0 → served k w o (lift k s x) .next ≡ boardEffect k w o
+  unfolding served lift
   board-case k o x row z =
       ap (λ (p : Part k). record { state = put k p s; write = w .write; read = over (keptBytes (outOf k x .kept) (given k o)) (w .read) }) (row z .0)
       ∙ ap (λ (l : List ℕ). record { state = put k (boardPart k (s .config) (part k s) o) s; write = w .write; read = l }) (row z .1 (w .read))
@@ -125,7 +125,7 @@ module _ (w : World) where
   at b e = ap (λ (op : ℕ). exchangeEffect w op b) (sym e)
 
   becomes : {c : Call} {o : Outcome} → Case w c o → o .number ≡ 0 → o .next ≡ effect w c
-  unfolding exchanged
+  unfolding performed
   becomes (idle n q) z = absurd (omega (arith, q .least))
   becomes (shown {b} (status e)) z = plainly s ∙ at b (reads s b C.GetStatus e)
   becomes (shown {b} (register a e)) z = plainly s ∙ at b (reads s b (C.GetConfiguration a) e .opcode)
@@ -191,7 +191,7 @@ module _ (w : World) (k : Channel) where
   not-ours b e f h = true≢false (sym h ∙ ap (isOf k) e ∙ f)
 
   framed : {c : Call} {o : Outcome} → Case w c o → trafficOf k c ≡ true → Frames k w (o .next)
-  unfolding exchanged settled lift
+  unfolding performed served lift
   framed (idle n q) h = stays _ refl
   framed (shown q) h = stays _ refl
   framed (acted {b} j o x e d) h = frame j (nextOf j x) _ (one-channel k j (byte b 0) h (command-own j (w .state) b o e)) refl

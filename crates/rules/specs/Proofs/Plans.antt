@@ -22,7 +22,7 @@ use Rattle.rules.specs.Proofs.Wires as W
 use mathlib.Core.Bool.{Bool, true, false}
 use Rattle.base.specs.Bytes.{over}
 use Rattle.rules.specs.Rules.Reply.{replyBytes}
-use Rattle.rules.specs.Rules.Step.{World, exchange, shortStores, exchanged}
+use Rattle.rules.specs.Rules.Step.{World, exchange, shortStores, performed}
 use Rattle.rules.specs.declared.Plan.{Plan}
 use Rattle.rules.specs.Statements.Both as T
 use Rattle.rules.specs.Statements.Both.{Both}
@@ -69,7 +69,7 @@ plan-admitted wires s b o e = rw e
 
 module _ (w v : World) (b r : List ℕ) (room : shortStores r w ≡ false) where
   abbrev Twice : Plan → Plan → Type 0
-  Twice p q = Both w v (exchange b r) (exchanged w b p) (exchanged v b q)
+  Twice p q = Both w v (exchange b r) (performed w b p) (performed v b q)
 
   set-both : (a n : ℕ) → Admits (w .state) b (C.SetConfiguration a n) → Twice (E.setConfiguration (w .state) a n) (E.setConfiguration (v .state) a n)
   unfolding E.setConfiguration
@@ -92,7 +92,7 @@ module _ (w v : World) (b r : List ℕ) (room : shortStores r w ≡ false) where
   admitted c = admit (channelsOf c) (crcChecked (c .r008)) b
 
   decoded-both : (d : Decoded) → admitted (w .state .config) ≡ d → Twice (byDecoded (w .state) b d) (byDecoded (v .state) b d)
-  unfolding exchanged replyBytes over
+  unfolding performed replyBytes over
   decoded-both (Refused n) e = T.idle n
   decoded-both (Known o) e = known-both o e
 

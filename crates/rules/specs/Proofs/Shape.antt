@@ -15,7 +15,7 @@ use Rattle.state.specs.Facts.{sound-request}
 use Rattle.rules.specs.Rules.Channel.{Channel, peripheral, wires, Command, Change, part, actOf}
 use Rattle.rules.specs.Rules.Lift.{lift}
 use Rattle.rules.specs.Rules.Reply.{replyBytes, closed}
-use Rattle.rules.specs.Rules.Step.{World, Call, Outcome, step, exchanged, settled, shortStores, replyLength, writeLength, readLength}
+use Rattle.rules.specs.Rules.Step.{World, Call, Outcome, step, performed, served, shortStores, replyLength, writeLength, readLength}
 use Rattle.rules.specs.Statements.Fields.{byte}
 use Rattle.rules.specs.Statements.Plans as N
 use Rattle.rules.specs.Statements.Plans.{Did, Planned}
@@ -54,7 +54,7 @@ module _ (s : State) (reads : List ℕ) (enough : readLength ≤ length reads) w
   planned-shape {b} np (N.clears e) = at s (byte b 0) 0xFF (D.reads s b _ e) (record { reset = λ _. refl; replied = λ n. absurd (n refl) })
 
 pub replies-have-shape : RepliesHaveShape
-unfolding step exchanged
+unfolding step performed
 replies-have-shape w h b reply =
     pick-ind (ExchangeShape w b) (shortStores reply w) (λ _. record { shape = refl; value = refl })
     λ e. record {
@@ -71,7 +71,7 @@ replies-have-shape w h b reply =
         third false false z e = e
 
 replies-alone : {w : World} {c : Call} {o : Outcome} → Case w c o → isExchange c ≡ false → o .reply ≡ []
-unfolding settled
+unfolding served
 replies-alone (C.idle n h) e = refl
 replies-alone (C.shown h) e = absurd (true≢false e)
 replies-alone (C.acted k o x a d) e = absurd (true≢false e)

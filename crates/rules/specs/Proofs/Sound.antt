@@ -13,12 +13,12 @@ use Rattle.state.specs.Facts.{fresh-sound}
 use Rattle.state.specs.declared.State.{State}
 use Rattle.state.specs.Sound.{Sound}
 use Rattle.rules.specs.Rules.Reset.{Reset}
-use Rattle.rules.specs.Rules.Channel.{Channel, peripheral, wires, Part, Command, Board, Change, nextOf, part, put, each, on, actOf, edge, reset}
+use Rattle.rules.specs.Rules.Channel.{Channel, peripheral, wires, Part, Command, Board, Change, nextOf, part, put, each, on, actOf, enableEdge, reset}
 use Rattle.rules.specs.Rules.Lift as L
 use Rattle.rules.specs.Rules.Lift.{lift}
 use Rattle.rules.specs.Rules.Exchange.{reconfigured, configReset, wasReset, reset008h, exchange}
 use Rattle.rules.specs.Rules.Step as S
-use Rattle.rules.specs.Rules.Step.{World, Call, Outcome, exchanged, settled}
+use Rattle.rules.specs.Rules.Step.{World, Call, Outcome, performed, served}
 use Rattle.rules.specs.Statements.Plans as N
 use Rattle.rules.specs.Statements.Plans.{Did, Settled, Admits, Planned}
 use Rattle.rules.specs.Statements.Cases as C
@@ -46,7 +46,7 @@ settled-ok : (k : Channel) (s : State) (o : Board k) (x : Change k) → Parts s 
 settled-ok peripheral s o x h d = P.settled-ok (h .each peripheral) d
 settled-ok wires s o x h d = W.settled-ok (h .each wires) d
 
-edge-ok : (k : Channel) (was is : Bool) (p : Part k) → PartOk k was p → PartOk k is (edge k was is p)
+edge-ok : (k : Channel) (was is : Bool) (p : Part k) → PartOk k was p → PartOk k is (enableEdge k was is p)
 edge-ok peripheral = P.edge-ok
 edge-ok wires = W.edge-ok
 
@@ -59,7 +59,7 @@ reset-ok wires r c p h = W.reset-ok r c p h
 module _ {s : State} (h : Parts s) where
   configured-sound : (a v : ℕ) → forbiddenAt a v ≡ false → v < 2 ^ 32 → Sound (reconfigured s (writeAt (s .config) a v))
   configured-sound a v e l =
-      with-each (λ k. edge k (on k (s .config)) (on k (writeAt (s .config) a v))) (writeAt (s .config) a v)
+      with-each (λ k. enableEdge k (on k (s .config)) (on k (writeAt (s .config) a v))) (writeAt (s .config) a v)
       (record { right = reachable-write (s .config) a v (h .config .right) e; fit = fits-write (s .config) a v (h .config .fit) l })
       (λ k. edge-ok k (on k (s .config)) (on k (writeAt (s .config) a v)) (part k s) (h .each k))
 
@@ -102,7 +102,7 @@ pub reset-sound : {s : State} → Sound s → (r : Reset) → Sound (wasReset r 
 reset-sound h r = reset-parts (parts h) r
 
 sound-case : {w : World} {c : Call} {o : Outcome} → Sound (w .state) → S.handedOver c ≡ true → Case w c o → Sound (o .next .state)
-unfolding exchanged settled
+unfolding performed served
 sound-case {w} h b (C.idle n q) = h
 sound-case {w} h b (C.shown q) = h
 sound-case {w} h b (C.acted {b = l} k o x e d) = planned-sound h (bytes-below l b) (N.acts k o x e d)

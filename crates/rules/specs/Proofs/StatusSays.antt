@@ -16,7 +16,7 @@ use Rattle.rules.specs.Rules.Channel.{Channel, peripheral, wires, nextOf
 use Rattle.rules.specs.Rules.Lift.{lift, withStatus}
 use Rattle.rules.specs.Rules.Exchange as E
 use Rattle.rules.specs.Rules.Reply.{replyBytes}
-use Rattle.rules.specs.Rules.Step.{World, exchanged, shortStores, only, Outcome, replyLength, writeLength, readLength}
+use Rattle.rules.specs.Rules.Step.{World, performed, shortStores, only, Outcome, replyLength, writeLength, readLength}
 use Rattle.rules.specs.Statements.Fields.{byte}
 use Rattle.rules.specs.Statements.Plans as N
 use Rattle.rules.specs.Statements.Plans.{Planned}
@@ -56,10 +56,10 @@ module _ (w : World) (lent : List ℕ) (sound : Sound (w .state)) (long : LongEn
 
   -- the number is that of the first row
   by-rows : ByRows w lent
-  unfolding exchanged
+  unfolding performed
   by-rows b =
       ap (λ (o : Outcome). o .number) (exchange-step w b lent)
-      ∙ ap (λ (t : Bool). pick t (only 10 w) (exchanged w b (E.exchange s b)) .number) enough ∙ command-number s (sound .isSound) b
+      ∙ ap (λ (t : Bool). pick t (only 10 w) (performed w b (E.exchange s b)) .number) enough ∙ command-number s (sound .isSound) b
 
   of-channel : (k : Channel) → BitsOf w lent k
   of-channel peripheral = P.status-bits w lent sound by-rows
@@ -93,7 +93,7 @@ module _ (s : State) (b store : List ℕ) where
   plan-shows (N.clears e) some = absurd (some refl)
 
 shows-status : (w : World) (reply : List ℕ) → ShowsStatus w reply
-unfolding exchanged
+unfolding performed
 shows-status w reply b =
     let Of : Outcome → Type 0 = λ o. o .reply ≢ [] → statusIn (o .reply) ≡ statusShown (byte b 0) (w .state) (o .next .state) in
     subst Of (sym (exchange-step w b reply))

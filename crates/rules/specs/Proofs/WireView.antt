@@ -24,7 +24,7 @@ use Rattle.rules.specs.Rules.Channel.{Channel, peripheral, wires, Comman
 use Rattle.rules.specs.Rules.Lift.{lift, show, acceptThen}
 use Rattle.rules.specs.Rules.Exchange.{reconfigured, wasReset}
 use Rattle.rules.specs.Rules.Reply.{closed, replyBytes}
-use Rattle.rules.specs.Rules.Step.{World, Call, reset, exchange, board, lend, Outcome, only, withState, exchanged, settled}
+use Rattle.rules.specs.Rules.Step.{World, Call, reset, exchange, board, lend, Outcome, only, withState, performed, served}
 use Rattle.rules.specs.Statements.Wires as W
 use Rattle.rules.specs.Statements.Plans.{Did, Settled, Admits, commandOf, Shows, status as getsStatus, register}
 use Rattle.rules.specs.Statements.Cases as C
@@ -95,12 +95,12 @@ board-other peripheral n o = refl
 board-other wires n o = absurd (true≢false n)
 
 module _ (w : World) where
-  lift-wires : (k : Channel) → same wires k ≡ false → (b : List ℕ) (x : Change k) → wiresOf (exchanged w b (lift k (w .state) x) .next) ≡ wiresOf w
-  unfolding exchanged lift
+  lift-wires : (k : Channel) → same wires k ≡ false → (b : List ℕ) (x : Change k) → wiresOf (performed w b (lift k (w .state) x) .next) ≡ wiresOf w
+  unfolding performed lift
   lift-wires k n b x = part-stays k wires (nextOf k x) (w .state) (same-turned wires k n)
 
-  settled-wires : (k : Channel) → same wires k ≡ false → (o : Board k) (x : Change k) → wiresOf (settled k w o (lift k (w .state) x) .next) ≡ wiresOf w
-  unfolding settled lift
+  settled-wires : (k : Channel) → same wires k ≡ false → (o : Board k) (x : Change k) → wiresOf (served k w o (lift k (w .state) x) .next) ≡ wiresOf w
+  unfolding served lift
   settled-wires k n o x = part-stays k wires (nextOf k x) (w .state) (same-turned wires k n)
 
   abbrev Seen : Call → Outcome → Type 0
@@ -136,17 +136,17 @@ module _ (w : World) where
     is = on wires (writeAt (w .state .config) a v)
 
     abbrev Set : Outcome
-    Set = exchanged w b (acceptThen (w .state) (reconfigured (w .state) (writeAt (w .state .config) a v)))
+    Set = performed w b (acceptThen (w .state) (reconfigured (w .state) (writeAt (w .state .config) a v)))
 
     set-event : wireEventOf (w .state) (exchange b r) Set ≡ pick (was && not is) ends (pick (not was && is) enables idle)
-    unfolding wireEventOf exchanged
+    unfolding wireEventOf performed
     set-event =
         ap₂ (λ (t : Bool) (e : WireEvent). pick t ends e) (disabling wires (w .state) b a v h)
         (ap (λ (op : ℕ). pick (eqb op 0x04) puts (pick (eqb op 0x05) gets (pick (switchesOn (w .state) b) enables idle))) (h .opcode)
         ∙ ap (λ (t : Bool). pick t enables idle) (enabling b a v h))
 
     set-wires : wiresOf (Set .next) ≡ pick (was && not is) (G.disabled (wiresOf w)) (pick (not was && is) (G.enabled (wiresOf w)) (wiresOf w))
-    unfolding exchanged
+    unfolding performed
     set-wires = refl
 
     set-seen : Seen (exchange b r) Set
@@ -164,16 +164,16 @@ module _ (w : World) where
   wiped-seen espiReset = wiped refl
   wiped-seen platformReset = platformWiped refl
 
-  shown-seen : (b r : List ℕ) {body : Body} → Shows (w .state) b body → Seen (exchange b r) (exchanged w b (show body (w .state)))
-  unfolding exchanged
+  shown-seen : (b r : List ℕ) {body : Body} → Shows (w .state) b body → Seen (exchange b r) (performed w b (show body (w .state)))
+  unfolding performed
   shown-seen b r (getsStatus e) = quiet-seen b r _ 0x25 (reads (w .state) b _ e) refl refl refl
   shown-seen b r (register a e) = quiet-seen b r _ 0x21 (reads (w .state) b _ e .opcode) refl refl refl
 
   -- ---- channel 1
 
   acted-seen : (b r : List ℕ) {a : W₀.Act} {x : WiresChange} → W.Did (w .state .config) (wiresOf w) a x → R.Wires b a
-      → Seen (exchange b r) (exchanged w b (lift wires (w .state) x))
-  unfolding exchanged lift replyBytes
+      → Seen (exchange b r) (performed w b (lift wires (w .state) x))
+  unfolding performed lift replyBytes
   acted-seen b r (W.overCount e) h = as-is (refused-wire (w .state) (exchange b r) _ refl) (still refl)
   acted-seen b r (W.put e) (R.Wires.puts h) = as-is (command-event b r 0x04 puts h refl refl _ refl) (put b r refl refl)
   acted-seen b r (W.nonePending e) h = as-is (refused-wire (w .state) (exchange b r) _ refl) (still refl)
@@ -184,8 +184,8 @@ module _ (w : World) where
       (sent k ks e (ap (afterSent v) (sym e)) (ap (λ (l : List ℕ). closed (0x08 ∷ packetBytes (packetOf v l)) t) (sym e)))
 
   settled-seen : {o : W₀.Board} {x : WiresChange} → W.Settled (w .state .config) (wiresOf w) o x
-      → Seen (board wires o) (settled wires w o (lift wires (w .state) x))
-  unfolding settled lift wireEventOf
+      → Seen (board wires o) (served wires w o (lift wires (w .state) x))
+  unfolding served lift wireEventOf
   settled-seen (W.notBoards e) = still refl
   settled-seen (W.set {index = i} {bit = bit} {value = value} e) = set i bit value refl e refl
   settled-seen (W.noWire e) = still refl
@@ -194,28 +194,28 @@ module _ (w : World) where
   -- ---- every channel
 
   any-acted : (b r : List ℕ) (k : Channel) (o : Command k) (x : Change k) → Admits (w .state) b (commandOf k o)
-      → Did k (w .state .config) (part k (w .state)) (actOf k (w .state .config) o b) x → Seen (exchange b r) (exchanged w b (lift k (w .state) x))
+      → Did k (w .state .config) (part k (w .state)) (actOf k (w .state .config) o b) x → Seen (exchange b r) (performed w b (lift k (w .state) x))
   any-acted b r =
       own-or-other wires
       (λ (k : Channel). (o : Command k) (x : Change k) → Admits (w .state) b (commandOf k o)
-      → Did k (w .state .config) (part k (w .state)) (actOf k (w .state .config) o b) x → Seen (exchange b r) (exchanged w b (lift k (w .state) x)))
+      → Did k (w .state .config) (part k (w .state)) (actOf k (w .state .config) o b) x → Seen (exchange b r) (performed w b (lift k (w .state) x)))
       (λ o x e d. acted-seen b r d (reads (w .state) b _ e)) others
     where
       others : (k : Channel) → same wires k ≡ false → (o : Command k) (x : Change k) → Admits (w .state) b (commandOf k o)
-          → Did k (w .state .config) (part k (w .state)) (actOf k (w .state .config) o b) x → Seen (exchange b r) (exchanged w b (lift k (w .state) x))
+          → Did k (w .state .config) (part k (w .state)) (actOf k (w .state .config) o b) x → Seen (exchange b r) (performed w b (lift k (w .state) x))
       others k n o x e d =
           let c = command-own k (w .state) b o e in
           as-is (quiet-exchange (w .state) b r (never-set k (byte b 0) c) _ (own-opcode wires k (byte b 0) c ∙ n)) (still (lift-wires k n b x))
 
   any-settled : (k : Channel) (o : Board k) (x : Change k) → Settled k (w .state .config) (part k (w .state)) o x
-      → Seen (board k o) (settled k w o (lift k (w .state) x))
+      → Seen (board k o) (served k w o (lift k (w .state) x))
   any-settled =
-      own-or-other wires (λ (k : Channel). (o : Board k) (x : Change k) → Settled k (w .state .config) (part k (w .state)) o x → Seen (board k o) (settled k w o (lift k (w .state) x)))
+      own-or-other wires (λ (k : Channel). (o : Board k) (x : Change k) → Settled k (w .state .config) (part k (w .state)) o x → Seen (board k o) (served k w o (lift k (w .state) x)))
       (λ o x d. settled-seen d)
       (λ k n o x d. as-is (quiet-wire (w .state) (board k o) _ refl (board-other k n o)) (still (settled-wires k n o x)))
 
   seen-case : {c : Call} {o : Outcome} → Case w c o → Seen c o
-  unfolding exchanged
+  unfolding performed
   seen-case {c} (C.idle n q) = silent-seen c n (q .least)
   seen-case (C.shown {b = b} {r = r} q) = shown-seen b r q
   seen-case (C.acted {b = b} {r = r} k o x e d) = any-acted b r k o x e d

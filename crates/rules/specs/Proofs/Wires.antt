@@ -23,7 +23,7 @@ use Rattle.rules.specs.Rules.Wires as W
 use Rattle.rules.specs.Rules.Wires.{Act, puts, gets, Board, setWire, readWire}
 use Rattle.rules.specs.Statements.Wires.{Did, overCount, put, nonePending, sentOff, Settled, notBoards, set, noWire, read}
 
-send-did : (c : Config) (w : Wires) (ks : List ℕ) → sent w (operatingCount (c .r020)) ≡ ks → Did c w gets (W.sending w ks)
+send-did : (c : Config) (w : Wires) (ks : List ℕ) → sent w (operatingCount (c .r020)) ≡ ks → Did c w gets (W.sentOut w ks)
 send-did c w [] e = nonePending e
 send-did c w (k ∷ ks) e = sentOff e
 

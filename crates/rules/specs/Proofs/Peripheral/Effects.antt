@@ -90,7 +90,7 @@ board-row (L.took e) z = (refl, λ l. refl)
 
 -- ---- an edge of the enable bit
 
-pub edge-row : (was is : Bool) (p : Peripheral) → P.edge was is p ≡ switched was is p
+pub edge-row : (was is : Bool) (p : Peripheral) → P.enableEdge was is p ≡ switched was is p
 edge-row true true p = refl
 edge-row true false p = refl
 edge-row false true p = refl

@@ -230,7 +230,7 @@ settled-ok h (took e) = emptied-ok h
 
 -- ---- edges and resets: "drop held write, request and completions"
 
-pub edge-ok : (was is : Bool) (p : Peripheral) → PeripheralOk was p → PeripheralOk is (P₀.edge was is p)
+pub edge-ok : (was is : Bool) (p : Peripheral) → PeripheralOk was p → PeripheralOk is (P₀.enableEdge was is p)
 edge-ok true true p h = h
 edge-ok true false p h = idle-ok false (h .serial)
 edge-ok false true p h = record { off = refl; request = h .request; write = h .write; serial = h .serial }

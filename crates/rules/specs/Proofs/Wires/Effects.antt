@@ -42,7 +42,7 @@ board-row (L.read e) z = (refl, over-none)
 
 -- ---- an edge of the enable bit
 
-pub edge-row : (was is : Bool) (v : Wires) → W.edge was is v ≡ switched was is v
+pub edge-row : (was is : Bool) (v : Wires) → W.enableEdge was is v ≡ switched was is v
 edge-row true true v = refl
 edge-row true false v = refl
 edge-row false true v = rw (set-getD (v .level) 2 0, set-getD (v .level) 3 0, set-getD (v .level) 4 0)
