@@ -1,6 +1,7 @@
 -- Channel 0's law: the one file that unfolds its decisions.
 pub mod Apart
 pub mod Effects
+pub mod SoundMeans
 pub mod Fits
 pub mod Lawful
 pub mod Shape

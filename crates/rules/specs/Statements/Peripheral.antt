@@ -1,6 +1,7 @@
 -- All that channel 0 does, each with the tests that led to it (01, Replies and refusals; Requests, answers, pieces). The statements read
 -- this law and unfold no decision.
 pub mod Effects
+pub mod SoundMeans
 pub mod Rows
 pub mod Status
 use Prim.Native.Nat.{ℕ}
