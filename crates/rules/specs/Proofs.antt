@@ -44,3 +44,5 @@ pub mod Sizes
 pub mod Status
 pub mod StatusSays
 pub mod PostedWrites
+pub mod WholeRows
+pub mod WholeCalls

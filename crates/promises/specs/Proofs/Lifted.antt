@@ -34,7 +34,8 @@ use Rattle.rules.specs.Proofs.Wires.{read-is}
 use Rattle.state.specs.Facts.{fresh-sound}
 use Rattle.rules.specs.Proofs.Sound.{exchange-sound, board-sound, reset-sound}
 use Rattle.rules.specs.Proofs.Refusals.{SettledAs, exchange-turned, board-settled}
-use Rattle.rules.specs.Proofs.WholeRefusals.{number-word, planned-small}
+use Rattle.rules.specs.Proofs.WholeCalls.{number-word}
+use Rattle.rules.specs.Proofs.WholeRefusals.{planned-small}
 use Rattle.rules.specs.declared.Kept.{Kept}
 use Rattle.rules.specs.declared.Kept.the-variants as K
 use Rattle.rules.specs.declared.Plan.{Plan}

@@ -2,6 +2,8 @@
 pub mod Apart
 pub mod Effects
 pub mod SoundMeans
+pub mod WholeFirstApplies
+pub mod WholeRefusals
 pub mod Fits
 pub mod Lawful
 pub mod Shape
