@@ -1,3 +1,6 @@
+use denote.Ref.{now}
+use lib.ListN.{length}
+use Rattle.espi.specs.Boundary.{sent-by, kept-wider}
 use borrow.Author.Needs.{needs}
 use Rattle.espi.proofs.commit.Statement.{statement}
 use Rattle.espi.proofs.commit.Tie as tie
@@ -12,7 +15,7 @@ put-reply-requires c κs = search needs
 
 -- src/lib.rt:89:5
 keep-requires : tie.Need-keep-requires
-keep-requires c κs = ?
+keep-requires c κs = let a = c .before .before .before .before .before .before .before .before .before .args in let p = c .before .before .before .before .before .before .before .before .before .pre in kept-wider (a .p .kept) (length (now (a .command))) 256 (length (now (a .write-store))) (p .1) (p .4)
 
 -- src/lib.rt:90:6
 cast-result : tie.Need-cast-result
@@ -36,7 +39,7 @@ same-length-2 c = search needs
 
 -- src/lib.rt:76:1
 returns : tie.Need-returns
-returns c = ?
+returns c = let a = c .before .before .before .before .before .before .before .before .before .before .before .before .before .args in sent-by (a .p) (now (a .command)) (now (a .reply)) _ (now (a .write-store)) _ (now (a .read-store)) _ (c .before .before .before .before .before .before .before .put-reply .ensures .0) (c .before .before .before .before .before .before .before .put-reply .ensures .1) (c .before .before .before .keep .ensures)
 
 pub commit-spec : {M : Type 1} → statement M
 commit-spec =

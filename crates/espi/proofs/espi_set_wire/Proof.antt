@@ -1,3 +1,15 @@
+use Rattle.base.specs.Pick.{taken, passed}
+use borrow.Author.Tests.{lt-ltb, le-ltb}
+use mathlib.Core.Path.{refl}
+use denote.Ref.{now}
+use native.Mathlib.Omega.{arith}
+use Rattle.espi.specs.Boundary.{ok-is, loaded-packs, settled-by}
+use Rattle.rules.specs.Rules.Wires as W
+use Rattle.rules.specs.Rules.Channel.{wires}
+use Rattle.rules.specs.Rules.Lift.{lift}
+use Rattle.rules.specs.Rules.Calls.{setWireCall}
+use Rattle.state.specs.declared.State.{State}
+use native.Mathlib.Omega.{arith}
 use borrow.Author.Needs.{needs}
 use Rattle.espi.proofs.espi_set_wire.Statement.{statement}
 use Rattle.espi.proofs.espi_set_wire.Tie as tie
@@ -8,7 +20,8 @@ use Rattle.state.proofs.load.Reads as load-reads
 
 -- src/lib.rt:209:9
 returns : tie.Need-returns
-returns c = ?
+unfolding setWireCall W.settle
+returns c = taken _ _ (lt-ltb _ _ (c .if1 .taken)) refl
 
 -- src/lib.rt:211:9
 load-requires : tie.Need-load-requires
@@ -20,11 +33,12 @@ same-length c = search needs
 
 -- src/lib.rt:213:9
 returns-2 : tie.Need-returns-2
-returns-2 c = ?
+unfolding setWireCall W.settle
+returns-2 c = passed _ _ (le-ltb _ _ (c .before .before .before .before .if1 .left)) (taken _ _ (ok-is _ (c .before .before .load .result) (c .before .before .load .ensures) (c .if2 .taken)) refl)
 
 -- src/lib.rt:216:9
 set-wire-requires : tie.Need-set-wire-requires
-set-wire-requires c κs = ?
+set-wire-requires c κs = loaded-packs (now (c .before .before .before .before .before .before .before .before .args .state)) (c .before .before .before .before .load .result) (c .before .before .before .before .load .ensures) (omega arith) (c .before .before .if2 .left)
 
 -- src/lib.rt:217:5
 cast-result : tie.Need-cast-result
@@ -36,7 +50,8 @@ same-length-2 c = search needs
 
 -- src/lib.rt:204:1
 returns-3 : tie.Need-returns-3
-returns-3 c = ?
+unfolding setWireCall W.settle
+returns-3 c = let a = c .before .before .before .before .before .before .before .before .before .before .before .before .args in passed _ _ (le-ltb _ _ (c .before .before .before .before .before .before .before .before .before .before .if1 .left)) (passed _ _ (ok-is _ (c .before .before .before .before .before .before .before .before .load .result) (c .before .before .before .before .before .before .before .before .load .ensures) (c .before .before .before .before .before .before .if2 .left)) (settled-by (now (a .state)) (c .before .before .before .before .before .before .before .before .load .result) (c .before .before .before .before .before .before .before .before .load .ensures) (λ (s : State). lift wires s (W.setting (s .config) (s .wires) (a .index) (a .bit) (a .value))) (c .before .before .before .set-wire .result) _ (c .before .before .before .set-wire .ensures)))
 
 pub espi-set-wire-spec : {M : Type 1} → statement M
 espi-set-wire-spec =
