@@ -176,7 +176,7 @@ owns wires = W₁.owns
 -- ---- another channel's call, in two worlds alike but for x
 
 record Together (x : Channel) (o q : Outcome) : Type 0 where
-  shows : seen x o ≡ seen x q
+  alike : seen x o ≡ seen x q
   next : Alike x (o .next) (q .next)
 
 module _ (x : Channel) (w v : World) (h : Alike x w v) where
@@ -191,7 +191,7 @@ module _ (x : Channel) (w v : World) (h : Alike x w v) where
       let reply : List ℕ = replyBut x (replyBytes (withStatus y (status s)) (w .read)) in
       let value : ℕ = length (replyBytes (withStatus y (status t)) (v .read)) in
       record {
-        shows =
+        alike =
             ap (λ (z : ℕ). record { number = n; value = z; report = []; reply = reply }) (said-length x s t g (w .read) (v .read) y e)
             ∙ ap (λ (z : List ℕ). record { number = n; value = value; report = []; reply = z }) (said-but x s t g (w .read) (v .read) y e);
         next = record { state = g′; stores = λ z f. owns z .written (keptBytes kept b) (w .write) (w .read) (v .write) (v .read) (h .stores z f); room = l };
@@ -243,7 +243,7 @@ module _ (x : Channel) (w v : World) (h : Alike x w v) where
         both-settled : Together x (served k w o (planned (put k q (w .state)) out)) (served k v o (planned (put k q (v .state)) out))
         both-settled =
             record {
-              shows = ap (λ (p : Part k). record { number = out .number; value = valueOf k p o; report = reportOf k p o; reply = [] }) (h .state .parts k other);
+              alike = ap (λ (p : Part k). record { number = out .number; value = valueOf k p o; report = reportOf k p o; reply = [] }) (h .state .parts k other);
               next = record {
                 state = put-alike x k q (w .state) (v .state) (h .state);
                 stores = λ y f. owns y .answered (keptBytes (out .kept) (given k o)) (w .write) (w .read) (v .write) (v .read) (h .stores y f);
@@ -264,7 +264,7 @@ module _ (x : Channel) (w v : World) (h : Alike x w v) where
 
   other-call : {c : Call} {o q : Outcome} → Both w v c o q → isCallOf x c ≡ false → Together x o q
   unfolding seen
-  other-call (T.idle n) e = record { shows = refl; next = h }
+  other-call (T.idle n) e = record { alike = refl; next = h }
   other-call (T.status {b = b}) e = above-together b 0 (Y.Said Accept B.Nothing) (w .state) (v .state) (h .state) refl
   other-call (T.register {b = b} a) e =
       subst (λ (c : Config). Together x (T.registered b a w) (performed v b (show (B.Word (readAt c a)) (v .state)))) (h .state .config)
@@ -284,14 +284,14 @@ module _ (x : Channel) (w v : World) (h : Alike x w v) where
       (ap (λ (c : Config). record { r008 = fresh008; r010 = c .r010; r020 = c .r020 }) (h .state .config)) (λ k p. refl) (h .state)) refl
   other-call (T.wiped {r = r}) e =
       record {
-        shows = refl;
+        alike = refl;
         next = record {
           state = each-alike x (λ k. N.reset k r) (λ k. N.reset k r) _ _ (w .state) (v .state) (ap (configReset r) (h .state .config)) (λ k p. refl) (h .state);
           stores = h .stores;
           room = h .room;
         };
       }
-  other-call T.lent e = record { shows = refl; next = record { state = h .state; stores = λ y f. refl; room = λ r. refl } }
+  other-call T.lent e = record { alike = refl; next = record { state = h .state; stores = λ y f. refl; room = λ r. refl } }
 
 -- ---- a call of x's own: it leaves the other parts, the others' stores, and of its own stores whether they are long enough
 
@@ -411,7 +411,7 @@ sifted x (c ∷ cs) w v h = go (isCallOf x c) refl (sifted x cs)
         (record {
           calls =
               seeing-other x w c cs e
-              ∙ ap (λ (z : Seen). z ∷ seeing x (step w c .next) cs) (o .shows)
+              ∙ ap (λ (z : Seen). z ∷ seeing x (step w c .next) cs) (o .alike)
               ∙ ap (λ (z : List Seen). seen x (step v c) ∷ z) (r .calls)
               ∙ sym (seeing-other x v c (others x cs) e);
           after = r .after;

@@ -145,7 +145,7 @@ four-bytes (op ∷ r) h =
 
 looks-number : {p : Peripheral} {report : List ℕ} {x : PeripheralChange} (q : Request) → p .request ≡ Waiting q → P.Settled p (look report) x
     → x .out .number ≡ 0
-looks-number q h (P.looked e) = refl
+looks-number q h (P.lookDone e) = refl
 looks-number q h (P.noLook e) = absurd (true≢false (sym (ap P.unanswered h) ∙ e))
 
 looked-at : (q : Request) (w : World) (report : List ℕ) → held w ≡ Waiting q → lookLength ≤ length report

@@ -33,7 +33,7 @@ use Rattle.peripheral.specs.Sound.{within}
 use Rattle.rules.specs.Rules.Out.{number}
 use Rattle.rules.specs.Rules.Peripheral as P
 use Rattle.rules.specs.Rules.Peripheral.{Act, posts, asks, gets, Board, look, answer, takeWrite, sizeFor, succeeded, bytesFor}
-use Rattle.rules.specs.Statements.Peripheral.{Did, writeHeld, writeLarge, posted, requestHeld, requestLarge, asked, noneReady, handedOver, unanswered, Settled, looked, noLook, noSuch, miscounted, succeeds, fails, noTake, took}
+use Rattle.rules.specs.Statements.Peripheral.{Did, writeHeld, writeLarge, posted, requestHeld, requestLarge, asked, noneReady, handedOver, unanswered, Settled, lookDone, noLook, noSuch, miscounted, succeeds, fails, noTake, took}
 use Rattle.rules.specs.declared.PeripheralChange.{PeripheralChange}
 
 post-did : (c : Config) (p : Peripheral) (A L from : ℕ) → Did c p (posts A L from) (P.post c p A L from)
@@ -69,7 +69,7 @@ did c p gets = get-did c p
 
 look-settled : (p : Peripheral) (report : List ℕ) (n : Np) → p .request ≡ n → Settled p (look report) (P.change p (number (P.lookNumber n)))
 look-settled p report Free e = noLook (ap unanswered e)
-look-settled p report (Waiting q) e = looked e
+look-settled p report (Waiting q) e = lookDone e
 look-settled p report (Ready q sent) e = noLook (ap unanswered e)
 look-settled p report (Failed q) e = noLook (ap unanswered e)
 

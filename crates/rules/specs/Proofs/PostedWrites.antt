@@ -79,7 +79,7 @@ module _ (w : World) where
   settled-write : {o : P₀.Board} {x : PeripheralChange} → P.Settled (w .state .peripheral) o x
       → WriteMove w (board peripheral o) (served peripheral w o (lift peripheral (w .state) x))
   unfolding served lift
-  settled-write (P.looked e) = stays refl refl
+  settled-write (P.lookDone e) = stays refl refl
   settled-write (P.noLook e) = stays refl refl
   settled-write (P.noSuch e) = stays refl refl
   settled-write (P.miscounted e f g) = stays refl refl

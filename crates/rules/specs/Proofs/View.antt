@@ -134,7 +134,7 @@ module _ (w : World) where
 
   settled-seen : {o : P₀.Board} {x : PeripheralChange} → P.Settled (w .state .peripheral) o x → By o x
   unfolding served lift over eventOf
-  settled-seen (P.looked e) = stays refl refl refl quiet
+  settled-seen (P.lookDone e) = stays refl refl refl quiet
   settled-seen {o} (P.noLook e) = number-seen o 23 refl
   settled-seen {o} (P.noSuch e) = number-seen o 20 refl
   settled-seen {o} (P.miscounted e f g) = number-seen o 21 refl

@@ -11,11 +11,12 @@ use Rattle.rules.specs.declared.Say.{Say}
 use Rattle.rules.specs.declared.Say.the-variants as Y
 use Rattle.rules.specs.declared.Out.{Out}
 use Rattle.rules.specs.declared.Plan.{Plan}
+use Rattle.rules.specs.Rules.Step.{writeLength, readLength}
 
--- within a reply's 256 data bytes, and within a read store of 4,096
+-- within a reply's 256 data bytes, and within the read store
 pub record PieceFits (c : Completion) : Type 0 where
   pub most : c .length ≤ 256
-  pub end : c .from + c .length ≤ 4096
+  pub end : c .from + c .length ≤ readLength
 
 abbrev pub BodyFits : Body → Type 0
 BodyFits B.Nothing = Unit {0}
@@ -42,8 +43,8 @@ SayFits Y.Silent = Unit {0}
 SayFits (Y.Said response body) = BodyFits body
 
 abbrev pub OutFits : ℕ → Out → Type 0
-OutFits m out = SayFits (out .say) × KeptFits (out .kept) m 256
+OutFits m out = SayFits (out .say) × KeptFits (out .kept) m writeLength
 
 pub record PlanFits (m : ℕ) (p : Plan) : Type 0 where
   pub reply : ReplyFits (p .reply)
-  pub kept : KeptFits (p .kept) m 256
+  pub kept : KeptFits (p .kept) m writeLength

@@ -29,7 +29,7 @@ short-alike w v (P₀.takeWrite report) e = ap (λ (l : List (List ℕ)). ltb (l
 room : {p : Peripheral} {o : P₀.Board} {c : PeripheralChange} (w : World) → P.Settled p o c → shortPeripheral o w ≡ false
     → ltb (length (over (keptBytes (c .out .kept) (P₀.given o)) (w .read))) readLength ≡ ltb (length (w .read)) readLength
 unfolding over
-room w (P.looked e) s = refl
+room w (P.lookDone e) s = refl
 room w (P.noLook e) s = refl
 room w (P.noSuch e) s = refl
 room w (P.miscounted e f g) s = refl

@@ -79,7 +79,7 @@ answered-as p {q} failed t e f = ap (requestNow p) (sym (ap (answeredWith failed
 
 pub board-row : {p : Peripheral} {o : P.Board} {x : PeripheralChange} → L.Settled p o x → Becomes peripheral (boardPart p o) (boardRead o) (P.given o) x
 unfolding over
-board-row (L.looked e) z = (refl, λ l. refl)
+board-row (L.lookDone e) z = (refl, λ l. refl)
 board-row (L.noLook e) z = absurd (omega arith)
 board-row (L.noSuch e) z = absurd (omega arith)
 board-row (L.miscounted e f g) z = absurd (omega arith)

@@ -70,7 +70,7 @@ answer-most R.IoWrite q l = omega arith
 
 pub settled-fits : {p : Peripheral} {o : P₀.Board} {x : PeripheralChange} → soundRequest (p .request) ≡ true
     → P.Settled p o x → KeptFits (x .out .kept) (length (P₀.given o)) 4096
-settled-fits h (P.looked e) = tt
+settled-fits h (P.lookDone e) = tt
 settled-fits h (P.noLook e) = tt
 settled-fits h (P.noSuch e) = tt
 settled-fits h (P.miscounted e f g) = tt
