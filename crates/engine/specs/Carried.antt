@@ -7,8 +7,6 @@ use lib.Dec.{eqb}
 use lib.ListN.{length, take}
 use Rattle.base.specs.Pick.{pick}
 use Rattle.base.specs.Bytes as B
-use Rattle.registers.specs.Registers.{fresh008}
-use Rattle.registers.specs.declared.Config.{Config}
 use Rattle.wires.specs.Groups.{enabled, disabled}
 use Rattle.wires.specs.Layout.{wiresBytes}
 use Rattle.command.specs.declared.Decoded.{Decoded}
@@ -63,10 +61,6 @@ edgeStored wires was is w l = pick (was && not is) (putPart wires (disabled w) l
 -- a refused call's next state is the one before
 abbrev pub Stays : State → Plan → Type 0
 Stays s p = eqb (p .number) 0 ≡ false → p .next ≡ s
-
--- RESET: "register 008h and nothing else"
-abbrev pub cleared : Config → Config
-cleared c = record { r008 = fresh008; r010 = c .r010; r020 = c .r020 }
 
 -- ---- a silent plan
 

@@ -11,16 +11,10 @@ use rules::Reply;
 use rules::Response;
 use state::State;
 ghost use mathlib.Core.Path.{_≡_};
-ghost use Prim.Native.Nat.{_≤_};
-ghost use lib.ListN.{length};
-ghost use Rattle.base.specs.Bytes.{put};
-ghost use Rattle.registers.specs.Layout.{configBytes};
-ghost use Rattle.registers.specs.Registers.{fresh008};
-ghost use Rattle.state.specs.Layout.{stateLength};
 ghost use Rattle.rules.specs.Rules.Calls.{kept};
-ghost use Rattle.rules.specs.Rules.Lift.{nonFatal, acceptThen};
-ghost use Rattle.rules.specs.Rules.Exchange.{channelsOf, reconfigured, setConfiguration};
-ghost use Rattle.engine.specs.Carried.{Packs, carried, carriedBy, outgoing, cleared};
+ghost use Rattle.rules.specs.Rules.Lift.{nonFatal};
+ghost use Rattle.rules.specs.Rules.Exchange.{channelsOf, reconfigured, setConfiguration, reset008h};
+ghost use Rattle.engine.specs.Carried.{Packs, carried, carriedBy, outgoing};
 
 // Which channels are on.
 pub(crate) fn channels(c: Config) -> Channels
@@ -65,14 +59,16 @@ pub(crate) fn set(s: State, address: u32, val: u32, state: &mut [u8]) -> Outgoin
     }
     let c = s.config;
     reconfigure(s, c.write(address, val), state);
+    // The reply shows the status before the write.
     crate::shown(Body::Nothing, s)
 }
 
 // RESET: register 008h and nothing else.
-pub(crate) fn reset_008(c: Config, state: &mut [u8])
-    requires { ⌜ stateLength ≤ length (now state) ⌝ }
-    ensures { λ _. ⌜ now (state .exit) ≡ put 0 (configBytes (cleared c)) (now (state .entry)) ⌝ }
+pub(crate) fn reset_008(s: State, state: &mut [u8])
+    requires { ⌜ Packs s (now state) ⌝ }
+    ensures { λ _. ⌜ now (state .exit) ≡ kept (reset008h s) (now (state .entry)) ⌝ }
 {
+    let c = s.config;
     let r010 = c.r010;
     let r020 = c.r020;
     let next = Config {

@@ -1,4 +1,4 @@
-// Every command and board call on a loaded state: the channel decides over its own part by value, and a lift stores that part where it stands in the state's bytes.
+// Every command and board call on the bytes of a loaded state: the channel decides over its own part by value, and a lift stores that part at its place.
 mod configuration;
 mod out;
 mod peripheral_channel;
@@ -121,7 +121,7 @@ fn decided(s: State, o: Command, b: &[u8], state: &mut [u8]) -> Outgoing
         Command::SetConfiguration(a, v) => configuration::set(s, a, v, state),
         Command::GetStatus => shown(Body::Nothing, s),
         Command::Reset => {
-            configuration::reset_008(c, state);
+            configuration::reset_008(s, state);
             silently(0)
         }
     }

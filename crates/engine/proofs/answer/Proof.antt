@@ -9,25 +9,17 @@ use Rattle.engine.specs.Laws.Stored.{settle-stays}
 use borrow.Author.Needs.{needs}
 use Rattle.engine.proofs.answer.Statement.{statement}
 use Rattle.engine.proofs.answer.Tie as tie
-use Rattle.engine.proofs.answer.Reads as reads
-use Rattle.engine.proofs.answer.Lts as lts
-use Rattle.engine.proofs.lift_peripheral.Reads as lift-peripheral-reads
-use Rattle.engine.proofs.peripheral_channel.answer_to.Reads as answer-to-reads
 
--- src/lib.rt:197:9
 answer-to-requires : tie.Need-answer-to-requires
 answer-to-requires c κs = search needs
 
--- src/lib.rt:195:5
 lift-peripheral-requires : tie.Need-lift-peripheral-requires
 unfolding P.settle
 lift-peripheral-requires c κs = let a = c .before .before .before .before .args in (c .before .before .before .before .pre, settle-stays peripheral (a .s) (P.answer (a .serial) (a .success) (now (a .bytes))) _ (c .before .answer-to .ensures))
 
--- src/lib.rt:191:1
 same-length : tie.Need-same-length
 same-length c = search needs
 
--- src/lib.rt:191:1
 returns : tie.Need-returns
 returns c = let a = c .before .before .before .before .before .before .before .args in c .before .before .lift-peripheral .ensures ∙ ap (λ (x : PeripheralChange). carriedBy (lift peripheral (a .s) x) (now (a .state))) (c .before .before .before .before .answer-to .ensures)
 

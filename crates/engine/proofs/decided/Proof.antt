@@ -1,7 +1,6 @@
 use Prim.Native.Nat.{ℕ}
 use mathlib.Core.Path.{ap, sym, subst, _∙_}
 use denote.Ref.{now}
-use Rattle.registers.specs.Registers.{readAt}
 use Rattle.command.specs.Facts.{CommandFits}
 use Rattle.command.specs.declared.Command.{Command}
 use Rattle.state.specs.Facts.{sound-config, sound-request, sound-wires}
@@ -13,135 +12,98 @@ use Rattle.rules.specs.Rules.Exchange.{decide}
 use Rattle.rules.specs.declared.Body.the-variants as B
 use Rattle.rules.specs.declared.PeripheralChange.{PeripheralChange}
 use Rattle.rules.specs.declared.WiresChange.{WiresChange}
-use Rattle.engine.specs.Carried.{carriedBy, outgoing}
+use Rattle.engine.specs.Carried.{carriedBy}
 use Rattle.engine.specs.Laws.Exchange.{shown-decided, reset-decided}
 use Rattle.engine.specs.Laws.Stored.{acting-stays}
 use borrow.Author.Needs.{needs}
 use Rattle.engine.proofs.decided.Statement.{statement}
 use Rattle.engine.proofs.decided.Tie as tie
-use Rattle.engine.proofs.decided.Reads as reads
-use Rattle.engine.proofs.decided.Lts as lts
-use Rattle.engine.proofs.configuration.reset_008.Reads as reset-008-reads
-use Rattle.engine.proofs.configuration.set.Reads as set-reads
-use Rattle.engine.proofs.lift_peripheral.Reads as lift-peripheral-reads
-use Rattle.engine.proofs.lift_wires.Reads as lift-wires-reads
-use Rattle.engine.proofs.peripheral_channel.decide.Reads as peripheral-channel-decide-reads
-use Rattle.engine.proofs.shown.Reads as shown-reads
-use Rattle.engine.proofs.silently.Reads as silently-reads
-use Rattle.engine.proofs.wires_channel.decide.Reads as wires-channel-decide-reads
-use Rattle.registers.proofs.Config.read.Reads as read-reads
 
--- src/lib.rt:113:29
 enum-known-o : tie.Need-enum-known-o
 enum-known-o c = search needs
 
--- src/lib.rt:115:13
 decide-requires : tie.Need-decide-requires
 decide-requires c κs = let a = c .before .before .before .before .before .before .args in let p = c .before .before .before .before .before .before .pre in (sound-config (a .s) (p .0 .good), sound-request (a .s) (p .0 .good), subst (λ (z : Command). CommandFits z (now (a .b))) (c .before .o .given .1) (p .1))
 
--- src/lib.rt:113:35
 lift-peripheral-requires : tie.Need-lift-peripheral-requires
 unfolding P.decide W.decide
 lift-peripheral-requires c κs = let a = c .before .before .before .before .before .before .before .before .args in (c .before .before .before .before .before .before .before .before .pre .0, acting-stays peripheral (a .s) (P.actOf (a .s .config) (c .before .before .before .o .given .0 .0) (now (a .b))) _ (c .before .decide .ensures))
 
--- src/lib.rt:118:24
 enum-known-o-2 : tie.Need-enum-known-o-2
 enum-known-o-2 c = search needs
 
--- src/lib.rt:118:44
 decide-requires-2 : tie.Need-decide-requires-2
 decide-requires-2 c κs = let a = c .before .before .before .before .before .before .args in let p = c .before .before .before .before .before .before .pre in (sound-config (a .s) (p .0 .good), sound-wires (a .s) (p .0 .good), subst (λ (z : Command). CommandFits z (now (a .b))) (c .before .o2 .given .1) (p .1))
 
--- src/lib.rt:118:30
 lift-wires-requires : tie.Need-lift-wires-requires
 unfolding P.decide W.decide
 lift-wires-requires c κs = let a = c .before .before .before .before .before .before .before .before .args in (c .before .before .before .before .before .before .before .before .pre .0, acting-stays wires (a .s) (W.actOf (c .before .before .before .o2 .given .0 .0) (now (a .b))) _ (c .before .decide2 .ensures))
 
--- src/lib.rt:119:35
 enum-known-o-3 : tie.Need-enum-known-o-3
 enum-known-o-3 c = search needs
 
--- src/lib.rt:119:58
 read-requires : tie.Need-read-requires
 read-requires c κs = search needs
 
--- src/lib.rt:119:41
 shown-requires : tie.Need-shown-requires
 shown-requires c κs = search needs
 
--- src/lib.rt:120:35
 enum-known-o-4 : tie.Need-enum-known-o-4
 enum-known-o-4 c = search needs
 
--- src/lib.rt:120:44
 set-requires : tie.Need-set-requires
 set-requires c κs = search needs
 
--- src/lib.rt:121:37
 enum-told : tie.Need-enum-told
 enum-told c = search needs
 
--- src/lib.rt:121:31
 shown-requires-2 : tie.Need-shown-requires-2
 shown-requires-2 c κs = search needs
 
--- src/lib.rt:123:41
 enum-told-2 : tie.Need-enum-told-2
 enum-told-2 c = search needs
 
--- src/lib.rt:123:13
 reset-008-requires : tie.Need-reset-008-requires
 reset-008-requires c κs = search needs
 
--- src/lib.rt:124:13
 silently-requires : tie.Need-silently-requires
 silently-requires c κs = search needs
 
--- src/lib.rt:107:1
 same-length : tie.Need-same-length
 same-length c = search needs
 
--- src/lib.rt:107:1
 returns : tie.Need-returns
 unfolding decide P.decide W.decide
 returns c = let a = c .before .before .before .before .before .before .before .before .before .before .before .args in c .before .before .lift-peripheral .ensures ∙ ap (λ (x : PeripheralChange). carriedBy (lift peripheral (a .s) x) (now (a .state))) (c .before .before .before .before .decide .ensures) ∙ ap (λ (z : Command). carriedBy (decide (a .s) z (now (a .b))) (now (a .state))) (sym (c .before .before .before .before .before .before .o .given .1))
 
--- src/lib.rt:107:1
 same-length-2 : tie.Need-same-length-2
 same-length-2 c = search needs
 
--- src/lib.rt:107:1
 returns-2 : tie.Need-returns-2
 unfolding decide P.decide W.decide
 returns-2 c = let a = c .before .before .before .before .before .before .before .before .before .before .before .args in c .before .before .lift-wires .ensures ∙ ap (λ (x : WiresChange). carriedBy (lift wires (a .s) x) (now (a .state))) (c .before .before .before .before .decide2 .ensures) ∙ ap (λ (z : Command). carriedBy (decide (a .s) z (now (a .b))) (now (a .state))) (sym (c .before .before .before .before .before .before .o2 .given .1))
 
--- src/lib.rt:107:1
 returns-3 : tie.Need-returns-3
 unfolding decide P.decide W.decide
 returns-3 c = let a = c .before .before .before .before .before .before .before .before .args in shown-decided (a .s) (now (a .b)) (now (a .state)) (a .o) _ _ (c .before .before .before .before .before .before .before .before .pre .0) (ap (λ (z : Command). decide (a .s) z (now (a .b))) (c .before .before .before .o3 .given .1) ∙ ap (λ (z : ℕ). show (B.Word z) (a .s)) (sym (c .before .read .ensures))) (c .shown .ensures)
 
--- src/lib.rt:107:1
 same-length-3 : tie.Need-same-length-3
 same-length-3 c = search needs
 
--- src/lib.rt:107:1
 returns-4 : tie.Need-returns-4
 unfolding decide P.decide W.decide
 returns-4 c = let a = c .before .before .before .before .before .before .before .before .before .before .args in c .before .before .set .ensures ∙ ap (λ (z : Command). carriedBy (decide (a .s) z (now (a .b))) (now (a .state))) (sym (c .before .before .before .before .before .o4 .given .1))
 
--- src/lib.rt:107:1
 returns-5 : tie.Need-returns-5
 unfolding decide P.decide W.decide
 returns-5 c = let a = c .before .before .before .before .before .before .args in shown-decided (a .s) (now (a .b)) (now (a .state)) (a .o) _ _ (c .before .before .before .before .before .before .pre .0) (ap (λ (z : Command). decide (a .s) z (now (a .b))) (c .before .enum-told .given .1)) (c .shown2 .ensures)
 
--- src/lib.rt:107:1
 same-length-4 : tie.Need-same-length-4
 same-length-4 c = search needs
 
--- src/lib.rt:107:1
 returns-6 : tie.Need-returns-6
 unfolding decide P.decide W.decide
-returns-6 c = let a = c .before .before .before .before .before .before .before .before .before .before .args in reset-decided (a .s) (now (a .b)) (now (a .state)) (a .o) _ _ (c .before .before .before .before .before .before .before .before .before .before .pre .0) (c .before .before .before .before .before .enum-told2 .given .1) (c .before .before .before .reset-008 .ensures) (c .silently .ensures)
+returns-6 c = let a = c .before .before .before .before .before .before .before .before .before .before .args in reset-decided (a .s) (now (a .b)) (now (a .state)) (a .o) _ _ (c .before .before .before .before .before .enum-told2 .given .1) (c .before .before .before .reset-008 .ensures) (c .silently .ensures)
 
 pub decided-spec : {M : Type 1} → statement M
 decided-spec =

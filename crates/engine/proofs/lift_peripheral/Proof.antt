@@ -5,24 +5,16 @@ use Rattle.engine.specs.Laws.Stored.{lift-carried}
 use borrow.Author.Needs.{needs}
 use Rattle.engine.proofs.lift_peripheral.Statement.{statement}
 use Rattle.engine.proofs.lift_peripheral.Tie as tie
-use Rattle.engine.proofs.lift_peripheral.Reads as reads
-use Rattle.engine.proofs.lift_peripheral.Lts as lts
-use Rattle.engine.proofs.peripheral_channel.store.Reads as store-reads
-use Rattle.engine.proofs.reply_with.Reads as reply-with-reads
 
--- src/lib.rt:61:5
 store-requires : tie.Need-store-requires
 store-requires c κs = search needs
 
--- src/lib.rt:64:16
 reply-with-requires : tie.Need-reply-with-requires
 reply-with-requires c κs = search needs
 
--- src/lib.rt:53:1
 same-length : tie.Need-same-length
 same-length c = search needs
 
--- src/lib.rt:53:1
 returns : tie.Need-returns
 unfolding status
 returns c = let a = c .before .before .before .before .before .before .before .before .args in lift-carried peripheral (a .s) (a .x) (now (a .state)) (c .before .before .before .before .before .before .before .before .pre .0) (c .before .before .before .before .before .before .before .before .pre .1) _ _ (c .before .before .before .store .ensures) (c .reply-with .ensures)

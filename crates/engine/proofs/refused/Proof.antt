@@ -3,31 +3,22 @@ use Rattle.engine.specs.Carried.{refusedBy}
 use borrow.Author.Needs.{needs}
 use Rattle.engine.proofs.refused.Statement.{statement}
 use Rattle.engine.proofs.refused.Tie as tie
-use Rattle.engine.proofs.refused.Reads as reads
-use Rattle.engine.proofs.refused.Lts as lts
-use Rattle.engine.proofs.silently.Reads as silently-reads
 
--- src/lib.rt:136:30
 enum-told : tie.Need-enum-told
 enum-told c = search needs
 
--- src/lib.rt:136:30
 silently-requires : tie.Need-silently-requires
 silently-requires c κs = search needs
 
--- src/lib.rt:137:26
 enum-known-d : tie.Need-enum-known-d
 enum-known-d c = search needs
 
--- src/lib.rt:137:32
 silently-requires-2 : tie.Need-silently-requires-2
 silently-requires-2 c κs = search needs
 
--- src/lib.rt:132:1
 returns : tie.Need-returns
 returns c = c .silently .ensures ∙ ap refusedBy (sym (c .before .enum-told .given .1))
 
--- src/lib.rt:132:1
 returns-2 : tie.Need-returns-2
 returns-2 c = c .silently2 .ensures ∙ ap refusedBy (sym (c .before .before .d .given .1))
 

@@ -9,25 +9,17 @@ use Rattle.engine.specs.Laws.Stored.{settle-stays}
 use borrow.Author.Needs.{needs}
 use Rattle.engine.proofs.set_wire.Statement.{statement}
 use Rattle.engine.proofs.set_wire.Tie as tie
-use Rattle.engine.proofs.set_wire.Reads as reads
-use Rattle.engine.proofs.set_wire.Lts as lts
-use Rattle.engine.proofs.lift_wires.Reads as lift-wires-reads
-use Rattle.engine.proofs.wires_channel.setting.Reads as setting-reads
 
--- src/lib.rt:216:9
 setting-requires : tie.Need-setting-requires
 setting-requires c κs = search needs
 
--- src/lib.rt:214:5
 lift-wires-requires : tie.Need-lift-wires-requires
 unfolding W.settle
 lift-wires-requires c κs = let a = c .before .before .before .args in (c .before .before .before .pre, settle-stays wires (a .s) (W.setWire (a .index) (a .bit) (a .value)) _ (c .before .setting .ensures))
 
--- src/lib.rt:210:1
 same-length : tie.Need-same-length
 same-length c = search needs
 
--- src/lib.rt:210:1
 returns : tie.Need-returns
 returns c = let a = c .before .before .before .before .before .before .args in c .before .before .lift-wires .ensures ∙ ap (λ (x : WiresChange). carriedBy (lift wires (a .s) x) (now (a .state))) (c .before .before .before .before .setting .ensures)
 

@@ -2,11 +2,9 @@
 use Prim.Native.Nat.{ℕ}
 use mathlib.Core.Bool.{Bool, true, false}
 use mathlib.Core.List.{List}
-use mathlib.Core.Path.{_≡_, refl, sym, ap, subst, _∙_}
+use mathlib.Core.Path.{_≡_, refl, sym, ap, _∙_}
 use Rattle.base.specs.Pick.{taken, passed}
-use Rattle.base.specs.Bytes.{put}
-use Rattle.registers.specs.Registers.{crcChecked, readAt, forbiddenAt, writeAt}
-use Rattle.registers.specs.Layout.{configBytes}
+use Rattle.registers.specs.Registers.{crcChecked, forbiddenAt, writeAt}
 use Rattle.registers.specs.declared.Config.{Config}
 use Rattle.command.specs.Decode.{admit}
 use Rattle.command.specs.Facts.{CommandFits, IsBytes, admit-fits}
@@ -18,14 +16,14 @@ use Rattle.command.specs.declared.Decoded.the-variants.{Known, Refused}
 use Rattle.state.specs.declared.State.{State}
 use Rattle.rules.specs.Rules.Calls.{kept}
 use Rattle.rules.specs.Rules.Lift.{silent, show, nonFatal, acceptThen}
-use Rattle.rules.specs.Rules.Exchange.{reconfigured, setConfiguration, channelsOf, byDecoded, decide, exchange}
+use Rattle.rules.specs.Rules.Exchange.{reconfigured, setConfiguration, reset008h, channelsOf, byDecoded, decide, exchange}
 use Rattle.rules.specs.declared.Body.{Body}
 use Rattle.rules.specs.declared.Body.the-variants as B
 use Rattle.rules.specs.declared.Plan.{Plan}
-use Rattle.engine.specs.Carried.{Packs, Carried, carried, carriedBy, outgoing, cleared, quiet, refusedBy}
+use Rattle.engine.specs.Carried.{Packs, Carried, carried, carriedBy, outgoing, quiet, refusedBy}
 use Rattle.engine.specs.declared.Outgoing.{Outgoing}
 use Rattle.engine.specs.Laws.Tests.{tested}
-use Rattle.engine.specs.Laws.Stored.{unchanged, stays-carried, config-stored}
+use Rattle.engine.specs.Laws.Stored.{stays-carried}
 
 -- ---- configuration
 
@@ -53,9 +51,9 @@ module _ (s : State) (b l : List ℕ) (o : Command) where
   pub shown-decided : (body : Body) (r : Outgoing) → Packs s l → decide s o b ≡ show body s → r ≡ outgoing (show body s) → carried r l ≡ carriedBy (decide s o b) l
   shown-decided body r h e k = stays-carried s l (show body s) r h refl k ∙ ap (λ (p : Plan). carriedBy p l) (sym e)
 
-  pub reset-decided : (l′ : List ℕ) (r : Outgoing) → Packs s l → o ≡ C.Reset → l′ ≡ put 0 (configBytes (cleared (s .config))) l → r ≡ quiet 0 → carried r l′ ≡ carriedBy (decide s o b) l
+  pub reset-decided : (l′ : List ℕ) (r : Outgoing) → o ≡ C.Reset → l′ ≡ kept (reset008h s) l → r ≡ quiet 0 → carried r l′ ≡ carriedBy (decide s o b) l
   unfolding decide
-  reset-decided l′ r h e el k = rw (k, el ∙ config-stored s l l (unchanged s l h) (cleared (s .config))) (ap (λ (z : Command). carriedBy (decide s z b) l) (sym e))
+  reset-decided l′ r e el k = rw (k, el) (ap (λ (z : Command). carriedBy (decide s z b) l) (sym e))
 
 -- ---- the exchange
 

@@ -23,7 +23,7 @@ use Rattle.rules.specs.Rules.Out.{fatal, number}
 use Rattle.rules.specs.Rules.Channel.{Channel, peripheral, wires, Part, Act, Board, Change, nextOf, outOf, part, put, on, acting, settle, enableEdge}
 use Rattle.rules.specs.Rules.Lift.{lift, withStatus}
 use Rattle.rules.specs.Rules.Calls.{kept}
-use Rattle.rules.specs.Rules.Exchange.{channelsOf, reconfigured}
+use Rattle.rules.specs.Rules.Exchange.{channelsOf, reconfigured, reset008h}
 use Rattle.rules.specs.Statements.Channels as L
 use Rattle.rules.specs.Statements.Channels.{Acts, Settles}
 use Rattle.rules.specs.Proofs.Lift.{lift-change, lift-stays, put-same}
@@ -53,7 +53,7 @@ module _ (k : Channel) (s : State) where
 
 -- ---- bytes that stay
 
-pub unchanged : (s : State) (l : List ℕ) → Packs s l → l ≡ kept s l
+unchanged : (s : State) (l : List ℕ) → Packs s l → l ≡ kept s l
 unchanged s l h = sym (over-take l stateLength (h .long)) ∙ ap (λ (z : List ℕ). over z l) (h .bytes)
 
 pub stays-carried : (s : State) (l : List ℕ) (p : Plan) (r : Outgoing) → Packs s l → p .next ≡ s → r ≡ outgoing p → carried r l ≡ carriedBy p l
@@ -69,7 +69,7 @@ module _ (s : State) (l₀ l : List ℕ) (e : l ≡ kept s l₀) where
   again : (t : State) → kept t l ≡ kept t l₀
   again t = ap (kept t) e ∙ over-over (packed s) (packed t) l₀ (le-of-eq (packed-length s ∙ sym (packed-length t)))
 
-  pub config-stored : (c : Config) → B.put 0 (configBytes c) l ≡ kept (record { config = c; peripheral = s .peripheral; wires = s .wires }) l₀
+  config-stored : (c : Config) → B.put 0 (configBytes c) l ≡ kept (record { config = c; peripheral = s .peripheral; wires = s .wires }) l₀
   config-stored c = stored-config s l found c ∙ again _
 
   part-stored : (k : Channel) (q : Part k) → putPart k q l ≡ kept (put k q s) l₀
@@ -77,7 +77,7 @@ module _ (s : State) (l₀ l : List ℕ) (e : l ≡ kept s l₀) where
   part-stored wires q = stored-wires s l found q ∙ again _
 
   -- the part that a test picks: the one that stands there is not stored
-  pub picked-stored : (k : Channel) (t : Bool) (q : Part k) → pick t (putPart k q l) l ≡ kept (put k (pick t q (part k s)) s) l₀
+  picked-stored : (k : Channel) (t : Bool) (q : Part k) → pick t (putPart k q l) l ≡ kept (put k (pick t q (part k s)) s) l₀
   picked-stored k true q = part-stored k q
   picked-stored k false q = e ∙ ap (λ (z : State). kept z l₀) (sym (put-same k s))
 
@@ -108,6 +108,10 @@ edge-stored wires s l₀ l was is e = go (was && not is)
         ≡ kept (put wires (pick t (disabled (s .wires)) (pick (not was && is) (enabled (s .wires)) (s .wires))) s) l₀
     go true = part-stored s l₀ l e wires (disabled (s .wires))
     go false = picked-stored s l₀ l e wires (not was && is) (enabled (s .wires))
+
+-- RESET
+pub cleared-by : (s : State) (l l′ : List ℕ) → Packs s l → l′ ≡ B.put 0 (configBytes (reset008h s .config)) l → l′ ≡ kept (reset008h s) l
+cleared-by s l l′ h e = e ∙ config-stored s l l (unchanged s l h) (reset008h s .config)
 
 pub reconfigured-by : (s : State) (c : Config) (was is : Channels) (l l₁ l₂ l₃ : List ℕ)
     → Packs s l

@@ -10,60 +10,43 @@ use Rattle.rules.specs.Rules.Peripheral.{answerTo, succeeded, settle}
 use Rattle.rules.specs.Rules.Channel.{peripheral}
 use Rattle.rules.specs.Rules.Lift.{lift}
 use Rattle.state.specs.declared.State.{State}
-use native.Mathlib.Omega.{arith}
 use borrow.Author.Needs.{needs}
 use Rattle.espi.proofs.espi_answer.Statement.{statement}
 use Rattle.espi.proofs.espi_answer.Tie as tie
-use Rattle.espi.proofs.espi_answer.Reads as reads
-use Rattle.espi.proofs.espi_answer.Lts as lts
-use Rattle.engine.proofs.answer.Reads as answer-reads
-use Rattle.reply.proofs.keep.Reads as keep-reads
-use Rattle.state.proofs.load.Reads as load-reads
 
--- src/lib.rt:163:9
 returns : tie.Need-returns
 unfolding answerCall settle
 returns c = taken _ _ (lt-ltb _ _ (c .if1 .taken)) refl
 
--- src/lib.rt:166:9
 returns-2 : tie.Need-returns-2
 unfolding answerCall settle
 returns-2 c = passed _ _ (le-ltb _ _ (c .before .if1 .left)) (taken _ _ (lt-ltb _ _ (c .if2 .taken)) refl)
 
--- src/lib.rt:168:9
 load-requires : tie.Need-load-requires
 load-requires c κs = search needs
 
--- src/lib.rt:170:9
 same-length : tie.Need-same-length
 same-length c = search needs
 
--- src/lib.rt:170:9
 returns-3 : tie.Need-returns-3
 unfolding answerCall settle
 returns-3 c = passed _ _ (le-ltb _ _ (c .before .before .before .before .before .if1 .left)) (passed _ _ (le-ltb _ _ (c .before .before .before .before .if2 .left)) (taken _ _ (ok-is _ (c .before .before .load .result) (c .before .before .load .ensures) (c .if3 .taken)) refl))
 
--- src/lib.rt:173:9
 answer-requires : tie.Need-answer-requires
 answer-requires c κs = loaded-packs (now (c .before .before .before .before .before .before .before .before .before .before .before .args .state)) (c .before .before .before .before .load .result) (c .before .before .before .before .load .ensures) (omega arith) (c .before .before .if3 .left)
 
--- src/lib.rt:175:5
 keep-requires : tie.Need-keep-requires
 keep-requires c κs = let a = c .before .before .before .before .before .before .before .before .before .before .before .before .before .before .before .args in kept-wider (c .before .before .before .answer .result .kept) (length (now (a .bytes))) 4096 (length (now (a .read-store))) (omega arith) (answer-fits (c .before .before .before .before .before .before .before .before .load .result .state) (a .serial) (a .success) (now (a .state)) _ (now (a .bytes)) (c .before .before .before .answer .result) (loaded-sound (now (a .state)) (c .before .before .before .before .before .before .before .before .load .result) (c .before .before .before .before .before .before .before .before .load .ensures) (c .before .before .before .before .before .before .if3 .left)) (c .before .before .before .answer .ensures))
 
--- src/lib.rt:176:5
 cast-result : tie.Need-cast-result
 cast-result c = search needs
 
--- src/lib.rt:152:1
 same-length-2 : tie.Need-same-length-2
 same-length-2 c = search needs
 
--- src/lib.rt:152:1
 same-length-3 : tie.Need-same-length-3
 same-length-3 c = search needs
 
--- src/lib.rt:152:1
 returns-4 : tie.Need-returns-4
 unfolding answerCall settle
 returns-4 c = let a = c .before .before .before .before .before .before .before .before .before .before .before .before .before .before .before .before .before .before .before .args in passed _ _ (le-ltb _ _ (c .before .before .before .before .before .before .before .before .before .before .before .before .before .before .before .if1 .left)) (passed _ _ (le-ltb _ _ (c .before .before .before .before .before .before .before .before .before .before .before .before .before .before .if2 .left)) (passed _ _ (ok-is _ (c .before .before .before .before .before .before .before .before .before .before .before .before .load .result) (c .before .before .before .before .before .before .before .before .before .before .before .before .load .ensures) (c .before .before .before .before .before .before .before .before .before .before .if3 .left)) (kept-by (now (a .state)) (c .before .before .before .before .before .before .before .before .before .before .before .before .load .result) (c .before .before .before .before .before .before .before .before .before .before .before .before .load .ensures) (λ (s : State). lift peripheral s (answerTo (s .peripheral) (a .serial) (succeeded (a .success)) (length (now (a .bytes))))) (c .before .before .before .before .before .before .before .answer .result) _ (now (a .bytes)) (now (a .read-store)) _ (c .before .before .before .before .before .before .before .answer .ensures) (c .before .before .before .keep .ensures))))

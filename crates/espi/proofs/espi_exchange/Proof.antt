@@ -5,70 +5,51 @@ use denote.Ref.{now}
 use native.Mathlib.Omega.{arith}
 use Rattle.espi.specs.Boundary.{ok-is, loaded-sound, loaded-packs, exchanged-by, exchange-fits}
 use Rattle.rules.specs.Rules.Calls.{exchangeCall}
-use native.Mathlib.Omega.{arith}
 use borrow.Author.Needs.{needs}
 use Rattle.espi.proofs.espi_exchange.Statement.{statement}
 use Rattle.espi.proofs.espi_exchange.Tie as tie
-use Rattle.espi.proofs.espi_exchange.Reads as reads
-use Rattle.espi.proofs.espi_exchange.Lts as lts
-use Rattle.engine.proofs.exchange.Reads as exchange-reads
-use Rattle.espi.proofs.commit.Reads as commit-reads
-use Rattle.state.proofs.load.Reads as load-reads
 
--- src/lib.rt:104:9
 returns : tie.Need-returns
 unfolding exchangeCall
 returns c = taken _ _ (lt-ltb _ _ (c .if1 .taken)) refl
 
--- src/lib.rt:107:9
 returns-2 : tie.Need-returns-2
 unfolding exchangeCall
 returns-2 c = passed _ _ (le-ltb _ _ (c .before .if1 .left)) (taken _ _ (lt-ltb _ _ (c .if2 .taken)) refl)
 
--- src/lib.rt:110:9
 returns-3 : tie.Need-returns-3
 unfolding exchangeCall
 returns-3 c = passed _ _ (le-ltb _ _ (c .before .before .if1 .left)) (passed _ _ (le-ltb _ _ (c .before .if2 .left)) (taken _ _ (lt-ltb _ _ (c .if3 .taken)) refl))
 
--- src/lib.rt:113:9
 returns-4 : tie.Need-returns-4
 unfolding exchangeCall
 returns-4 c = passed _ _ (le-ltb _ _ (c .before .before .before .if1 .left)) (passed _ _ (le-ltb _ _ (c .before .before .if2 .left)) (passed _ _ (le-ltb _ _ (c .before .if3 .left)) (taken _ _ (lt-ltb _ _ (c .if4 .taken)) refl)))
 
--- src/lib.rt:115:9
 load-requires : tie.Need-load-requires
 load-requires c κs = search needs
 
--- src/lib.rt:117:9
 same-length : tie.Need-same-length
 same-length c = search needs
 
--- src/lib.rt:117:9
 returns-5 : tie.Need-returns-5
 unfolding exchangeCall
 returns-5 c = passed _ _ (le-ltb _ _ (c .before .before .before .before .before .before .before .if1 .left)) (passed _ _ (le-ltb _ _ (c .before .before .before .before .before .before .if2 .left)) (passed _ _ (le-ltb _ _ (c .before .before .before .before .before .if3 .left)) (passed _ _ (le-ltb _ _ (c .before .before .before .before .if4 .left)) (taken _ _ (ok-is _ (c .before .before .load .result) (c .before .before .load .ensures) (c .if5 .taken)) refl))))
 
--- src/lib.rt:120:9
 exchange-requires : tie.Need-exchange-requires
 exchange-requires c κs = loaded-packs (now (c .before .before .before .before .before .before .before .before .before .before .before .before .before .before .before .args .state)) (c .before .before .before .before .load .result) (c .before .before .before .before .load .ensures) (omega arith) (c .before .before .if5 .left)
 
--- src/lib.rt:121:5
 commit-requires : tie.Need-commit-requires
 commit-requires c κs = let a = c .before .before .before .before .before .before .before .before .before .before .before .before .before .before .before .before .before .before .before .before .args in let f = exchange-fits (c .before .before .before .before .before .before .before .before .before .load .result .state) (now (a .state)) _ (now (a .command)) _ (loaded-sound (now (a .state)) (c .before .before .before .before .before .before .before .before .before .load .result) (c .before .before .before .before .before .before .before .before .before .load .ensures) (c .before .before .before .before .before .before .before .if5 .left)) (c .before .before .before .before .exchange .ensures) in (omega arith, omega arith, omega arith, f .0, f .1)
 
--- src/lib.rt:93:1
 same-length-2 : tie.Need-same-length-2
 same-length-2 c = search needs
 
--- src/lib.rt:93:1
 same-length-3 : tie.Need-same-length-3
 same-length-3 c = search needs
 
--- src/lib.rt:93:1
 same-length-4 : tie.Need-same-length-4
 same-length-4 c = search needs
 
--- src/lib.rt:93:1
 returns-6 : tie.Need-returns-6
 unfolding exchangeCall
 returns-6 c = let a = c .before .before .before .before .before .before .before .before .before .before .before .before .before .before .before .before .before .before .before .before .before .before .before .before .before .args in passed _ _ (le-ltb _ _ (c .before .before .before .before .before .before .before .before .before .before .before .before .before .before .before .before .before .before .before .if1 .left)) (passed _ _ (le-ltb _ _ (c .before .before .before .before .before .before .before .before .before .before .before .before .before .before .before .before .before .before .if2 .left)) (passed _ _ (le-ltb _ _ (c .before .before .before .before .before .before .before .before .before .before .before .before .before .before .before .before .before .if3 .left)) (passed _ _ (le-ltb _ _ (c .before .before .before .before .before .before .before .before .before .before .before .before .before .before .before .before .if4 .left)) (passed _ _ (ok-is _ (c .before .before .before .before .before .before .before .before .before .before .before .before .before .before .load .result) (c .before .before .before .before .before .before .before .before .before .before .before .before .before .before .load .ensures) (c .before .before .before .before .before .before .before .before .before .before .before .before .if5 .left)) (exchanged-by (now (a .state)) (c .before .before .before .before .before .before .before .before .before .before .before .before .before .before .load .result) (c .before .before .before .before .before .before .before .before .before .before .before .before .before .before .load .ensures) (c .before .before .before .before .before .before .before .before .before .exchange .result) _ (now (a .command)) (now (a .reply)) _ (now (a .write-store)) _ (now (a .read-store)) _ (c .before .before .before .before .before .before .before .before .before .exchange .ensures) (c .before .before .before .before .commit .ensures))))))

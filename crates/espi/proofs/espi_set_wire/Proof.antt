@@ -9,46 +9,33 @@ use Rattle.rules.specs.Rules.Channel.{wires}
 use Rattle.rules.specs.Rules.Lift.{lift}
 use Rattle.rules.specs.Rules.Calls.{setWireCall}
 use Rattle.state.specs.declared.State.{State}
-use native.Mathlib.Omega.{arith}
 use borrow.Author.Needs.{needs}
 use Rattle.espi.proofs.espi_set_wire.Statement.{statement}
 use Rattle.espi.proofs.espi_set_wire.Tie as tie
-use Rattle.espi.proofs.espi_set_wire.Reads as reads
-use Rattle.espi.proofs.espi_set_wire.Lts as lts
-use Rattle.engine.proofs.set_wire.Reads as set-wire-reads
-use Rattle.state.proofs.load.Reads as load-reads
 
--- src/lib.rt:209:9
 returns : tie.Need-returns
 unfolding setWireCall W.settle
 returns c = taken _ _ (lt-ltb _ _ (c .if1 .taken)) refl
 
--- src/lib.rt:211:9
 load-requires : tie.Need-load-requires
 load-requires c κs = search needs
 
--- src/lib.rt:213:9
 same-length : tie.Need-same-length
 same-length c = search needs
 
--- src/lib.rt:213:9
 returns-2 : tie.Need-returns-2
 unfolding setWireCall W.settle
 returns-2 c = passed _ _ (le-ltb _ _ (c .before .before .before .before .if1 .left)) (taken _ _ (ok-is _ (c .before .before .load .result) (c .before .before .load .ensures) (c .if2 .taken)) refl)
 
--- src/lib.rt:216:9
 set-wire-requires : tie.Need-set-wire-requires
 set-wire-requires c κs = loaded-packs (now (c .before .before .before .before .before .before .before .before .args .state)) (c .before .before .before .before .load .result) (c .before .before .before .before .load .ensures) (omega arith) (c .before .before .if2 .left)
 
--- src/lib.rt:217:5
 cast-result : tie.Need-cast-result
 cast-result c = search needs
 
--- src/lib.rt:204:1
 same-length-2 : tie.Need-same-length-2
 same-length-2 c = search needs
 
--- src/lib.rt:204:1
 returns-3 : tie.Need-returns-3
 unfolding setWireCall W.settle
 returns-3 c = let a = c .before .before .before .before .before .before .before .before .before .before .before .before .args in passed _ _ (le-ltb _ _ (c .before .before .before .before .before .before .before .before .before .before .if1 .left)) (passed _ _ (ok-is _ (c .before .before .before .before .before .before .before .before .load .result) (c .before .before .before .before .before .before .before .before .load .ensures) (c .before .before .before .before .before .before .if2 .left)) (settled-by (now (a .state)) (c .before .before .before .before .before .before .before .before .load .result) (c .before .before .before .before .before .before .before .before .load .ensures) (λ (s : State). lift wires s (W.setting (s .config) (s .wires) (a .index) (a .bit) (a .value))) (c .before .before .before .set-wire .result) _ (c .before .before .before .set-wire .ensures)))

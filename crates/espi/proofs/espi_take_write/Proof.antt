@@ -9,65 +9,47 @@ use Rattle.rules.specs.Rules.Channel.{peripheral}
 use Rattle.rules.specs.Rules.Lift.{lift}
 use Rattle.rules.specs.Rules.Calls.{takeWriteCall}
 use Rattle.state.specs.declared.State.{State}
-use native.Mathlib.Omega.{arith}
 use borrow.Author.Needs.{needs}
 use Rattle.espi.proofs.espi_take_write.Statement.{statement}
 use Rattle.espi.proofs.espi_take_write.Tie as tie
-use Rattle.espi.proofs.espi_take_write.Reads as reads
-use Rattle.espi.proofs.espi_take_write.Lts as lts
-use Rattle.engine.proofs.take_write.Reads as take-write-reads
-use Rattle.reply.proofs.put_write.Reads as put-write-reads
-use Rattle.state.proofs.load.Reads as load-reads
 
--- src/lib.rt:184:9
 returns : tie.Need-returns
 unfolding takeWriteCall P.settle
 returns c = taken _ _ (lt-ltb _ _ (c .if1 .taken)) refl
 
--- src/lib.rt:187:9
 returns-2 : tie.Need-returns-2
 unfolding takeWriteCall P.settle
 returns-2 c = passed _ _ (le-ltb _ _ (c .before .if1 .left)) (taken _ _ (lt-ltb _ _ (c .if2 .taken)) refl)
 
--- src/lib.rt:190:9
 returns-3 : tie.Need-returns-3
 unfolding takeWriteCall P.settle
 returns-3 c = passed _ _ (le-ltb _ _ (c .before .before .if1 .left)) (passed _ _ (le-ltb _ _ (c .before .if2 .left)) (taken _ _ (lt-ltb _ _ (c .if3 .taken)) refl))
 
--- src/lib.rt:192:9
 load-requires : tie.Need-load-requires
 load-requires c κs = search needs
 
--- src/lib.rt:194:9
 same-length : tie.Need-same-length
 same-length c = search needs
 
--- src/lib.rt:194:9
 returns-4 : tie.Need-returns-4
 unfolding takeWriteCall P.settle
 returns-4 c = passed _ _ (le-ltb _ _ (c .before .before .before .before .before .before .if1 .left)) (passed _ _ (le-ltb _ _ (c .before .before .before .before .before .if2 .left)) (passed _ _ (le-ltb _ _ (c .before .before .before .before .if3 .left)) (taken _ _ (ok-is _ (c .before .before .load .result) (c .before .before .load .ensures) (c .if4 .taken)) refl)))
 
--- src/lib.rt:199:9
 take-write-requires : tie.Need-take-write-requires
 take-write-requires c κs = loaded-packs (now (c .before .before .before .before .before .before .before .before .before .before .before .before .before .args .state)) (c .before .before .before .before .before .load .result) (c .before .before .before .before .before .load .ensures) (omega arith) (c .before .before .before .if4 .left)
 
--- src/lib.rt:200:5
 put-write-requires : tie.Need-put-write-requires
 put-write-requires c κs = search needs
 
--- src/lib.rt:201:5
 cast-result : tie.Need-cast-result
 cast-result c = search needs
 
--- src/lib.rt:179:1
 same-length-2 : tie.Need-same-length-2
 same-length-2 c = search needs
 
--- src/lib.rt:179:1
 same-length-3 : tie.Need-same-length-3
 same-length-3 c = search needs
 
--- src/lib.rt:179:1
 returns-5 : tie.Need-returns-5
 unfolding takeWriteCall P.settle
 returns-5 c = passed _ _ (le-ltb _ _ (c .before .before .before .before .before .before .before .before .before .before .before .before .before .before .before .before .before .if1 .left)) (passed _ _ (le-ltb _ _ (c .before .before .before .before .before .before .before .before .before .before .before .before .before .before .before .before .if2 .left)) (passed _ _ (le-ltb _ _ (c .before .before .before .before .before .before .before .before .before .before .before .before .before .before .before .if3 .left)) (passed _ _ (ok-is _ (c .before .before .before .before .before .before .before .before .before .before .before .before .before .load .result) (c .before .before .before .before .before .before .before .before .before .before .before .before .before .load .ensures) (c .before .before .before .before .before .before .before .before .before .before .before .if4 .left)) (taken-by (now (c .before .before .before .before .before .before .before .before .before .before .before .before .before .before .before .before .before .before .before .before .before .args .state)) (c .before .before .before .before .before .before .before .before .before .before .before .before .before .load .result) (c .before .before .before .before .before .before .before .before .before .before .before .before .before .load .ensures) (λ (s : State). lift peripheral s (P.taken (s .peripheral))) (c .before .before .before .before .before .before .before .take-write .result) _ _ _ (c .before .before .before .before .before .before .before .take-write .ensures) (c .before .before .before .put-write .ensures)))))

@@ -3,38 +3,25 @@ use Rattle.engine.specs.Laws.Stored.{reconfigured-by}
 use borrow.Author.Needs.{needs}
 use Rattle.engine.proofs.configuration.reconfigure.Statement.{statement}
 use Rattle.engine.proofs.configuration.reconfigure.Tie as tie
-use Rattle.engine.proofs.configuration.reconfigure.Reads as reads
-use Rattle.engine.proofs.configuration.reconfigure.Lts as lts
-use Rattle.engine.proofs.configuration.channels.Reads as channels-reads
-use Rattle.engine.proofs.peripheral_channel.store_edge.Reads as peripheral-channel-store-edge-reads
-use Rattle.engine.proofs.wires_channel.store_edge.Reads as wires-channel-store-edge-reads
-use Rattle.registers.proofs.Config.pack.Reads as pack-reads
 
--- src/configuration.rt:42:9
 channels-requires : tie.Need-channels-requires
 channels-requires c κs = search needs
 
--- src/configuration.rt:43:9
 channels-requires-2 : tie.Need-channels-requires-2
 channels-requires-2 c κs = search needs
 
--- src/configuration.rt:44:5
 pack-requires : tie.Need-pack-requires
 pack-requires c κs = search needs
 
--- src/configuration.rt:45:5
 store-edge-requires : tie.Need-store-edge-requires
 store-edge-requires c κs = search needs
 
--- src/configuration.rt:46:5
 store-edge-requires-2 : tie.Need-store-edge-requires-2
 store-edge-requires-2 c κs = search needs
 
--- src/configuration.rt:38:1
 same-length : tie.Need-same-length
 same-length c = search needs
 
--- src/configuration.rt:38:1
 returns : tie.Need-returns
 returns c = let a = c .before .before .before .before .before .before .before .before .before .before .before .before .before .before .before .args in reconfigured-by (a .s) (a .c) _ _ (now (a .state)) _ _ _ (c .before .before .before .before .before .before .before .before .before .before .before .before .before .before .before .pre) (c .before .before .before .before .before .before .before .before .before .before .before .before .before .channels .ensures) (c .before .before .before .before .before .before .before .before .before .before .before .before .channels2 .ensures) (c .before .before .before .before .before .before .before .before .before .before .pack .ensures) (c .before .before .before .before .before .before .store-edge .ensures) (c .before .before .store-edge2 .ensures)
 

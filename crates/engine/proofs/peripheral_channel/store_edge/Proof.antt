@@ -7,28 +7,19 @@ use Rattle.engine.specs.Carried.{putPart}
 use borrow.Author.Needs.{needs}
 use Rattle.engine.proofs.peripheral_channel.store_edge.Statement.{statement}
 use Rattle.engine.proofs.peripheral_channel.store_edge.Tie as tie
-use Rattle.engine.proofs.peripheral_channel.store_edge.Reads as reads
-use Rattle.engine.proofs.peripheral_channel.store_edge.Lts as lts
-use Rattle.peripheral.proofs.Peripheral.dropped.Reads as dropped-reads
-use Rattle.peripheral.proofs.Peripheral.pack.Reads as pack-reads
 
--- src/peripheral_channel.rt:348:13
 dropped-requires : tie.Need-dropped-requires
 dropped-requires c κs = search needs
 
--- src/peripheral_channel.rt:349:9
 pack-requires : tie.Need-pack-requires
 pack-requires c κs = search needs
 
--- src/peripheral_channel.rt:343:1
 same-length : tie.Need-same-length
 same-length c = search needs
 
--- src/peripheral_channel.rt:343:1
 returns : tie.Need-returns
 returns c = taken _ _ (c .before .before .before .before .before .if1 .taken) (c .before .before .pack .ensures ∙ ap (λ (z : Peripheral). putPart peripheral z (now (c .before .before .before .before .before .before .before .args .state))) (c .before .before .before .before .dropped .ensures))
 
--- src/peripheral_channel.rt:343:1
 returns-2 : tie.Need-returns-2
 returns-2 c = passed _ _ (c .if1 .left) refl
 

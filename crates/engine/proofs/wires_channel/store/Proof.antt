@@ -4,23 +4,16 @@ use Rattle.base.specs.Pick.{taken, passed}
 use borrow.Author.Needs.{needs}
 use Rattle.engine.proofs.wires_channel.store.Statement.{statement}
 use Rattle.engine.proofs.wires_channel.store.Tie as tie
-use Rattle.engine.proofs.wires_channel.store.Reads as reads
-use Rattle.engine.proofs.wires_channel.store.Lts as lts
-use Rattle.wires.proofs.Wires.pack.Reads as pack-reads
 
--- src/wires_channel.rt:99:9
 returns : tie.Need-returns
 returns c = passed _ _ (ne-eqb _ _ (c .if1 .taken)) refl
 
--- src/wires_channel.rt:101:5
 pack-requires : tie.Need-pack-requires
 pack-requires c κs = search needs
 
--- src/wires_channel.rt:94:1
 same-length : tie.Need-same-length
 same-length c = search needs
 
--- src/wires_channel.rt:94:1
 returns-2 : tie.Need-returns-2
 returns-2 c = taken _ _ (eq-eqb _ _ (c .before .before .before .before .if1 .left)) (c .before .before .pack .ensures)
 

@@ -7,45 +7,31 @@ use Rattle.engine.specs.Carried.{putPart}
 use borrow.Author.Needs.{needs}
 use Rattle.engine.proofs.wires_channel.store_edge.Statement.{statement}
 use Rattle.engine.proofs.wires_channel.store_edge.Tie as tie
-use Rattle.engine.proofs.wires_channel.store_edge.Reads as reads
-use Rattle.engine.proofs.wires_channel.store_edge.Lts as lts
-use Rattle.wires.proofs.Wires.disabled.Reads as disabled-reads
-use Rattle.wires.proofs.Wires.enabled.Reads as enabled-reads
-use Rattle.wires.proofs.Wires.pack.Reads as pack-reads
 
--- src/wires_channel.rt:109:13
 disabled-requires : tie.Need-disabled-requires
 disabled-requires c κs = search needs
 
--- src/wires_channel.rt:110:9
 pack-requires : tie.Need-pack-requires
 pack-requires c κs = search needs
 
--- src/wires_channel.rt:111:9
 same-length : tie.Need-same-length
 same-length c = search needs
 
--- src/wires_channel.rt:111:9
 returns : tie.Need-returns
 returns c = taken _ _ (c .before .before .before .before .before .if1 .taken) (c .before .before .pack .ensures ∙ ap (λ (z : Wires). putPart wires z (now (c .before .before .before .before .before .before .before .args .state))) (c .before .before .before .before .disabled .ensures))
 
--- src/wires_channel.rt:114:13
 enabled-requires : tie.Need-enabled-requires
 enabled-requires c κs = search needs
 
--- src/wires_channel.rt:115:9
 pack-requires-2 : tie.Need-pack-requires-2
 pack-requires-2 c κs = search needs
 
--- src/wires_channel.rt:104:1
 same-length-2 : tie.Need-same-length-2
 same-length-2 c = search needs
 
--- src/wires_channel.rt:104:1
 returns-2 : tie.Need-returns-2
 returns-2 c = passed _ _ (c .before .before .before .before .before .before .if1 .left) (taken _ _ (c .before .before .before .before .before .if2 .taken) (c .before .before .pack2 .ensures ∙ ap (λ (z : Wires). putPart wires z (now (c .before .before .before .before .before .before .before .before .args .state))) (c .before .before .before .before .enabled .ensures)))
 
--- src/wires_channel.rt:104:1
 returns-3 : tie.Need-returns-3
 returns-3 c = passed _ _ (c .before .if1 .left) (passed _ _ (c .if2 .left) refl)
 
