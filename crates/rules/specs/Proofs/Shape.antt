@@ -57,11 +57,11 @@ pub replies-have-shape : RepliesHaveShape
 unfolding performed
 replies-have-shape w h b reply =
     subst (ExchangeShape w b) (sym (exchange-step w b reply))
-      (pick-ind (ExchangeShape w b) (shortStores reply w) (λ _. record { shape = refl; value = refl })
-        λ e. record {
-          shape = planned-shape (w .state) (w .read) (long e) (sound-request (w .state) (h .isSound)) (plans (w .state) b);
-          value = refl;
-        })
+    (pick-ind (ExchangeShape w b) (shortStores reply w) (λ _. record { shape = refl; value = refl })
+    λ e. record {
+      shape = planned-shape (w .state) (w .read) (long e) (sound-request (w .state) (h .isSound)) (plans (w .state) b);
+      value = refl;
+    })
   where
     long : shortStores reply w ≡ false → readLength ≤ length (w .read)
     long e = ltb-false (length (w .read)) readLength (third (ltb (length reply) replyLength) (ltb (length (w .write)) writeLength) (ltb (length (w .read)) readLength) e)
