@@ -10,12 +10,6 @@ use Rattle.wires.specs.Turn.{after}
 use Rattle.wires.proofs.after_sender.Statement.{statement}
 use Rattle.wires.proofs.after_sender.Tie as tie
 
-add-if1 : tie.Need-add-if1
-add-if1 c = search needs
-
-add-result : tie.Need-add-result
-add-result c = search needs
-
 returns : tie.Need-returns
 unfolding after
 returns c = (let e : suc (c .before .args .k) < senders = omega arith in taken _ _ (lt-ltb _ _ e) (add-one _), omega arith)
@@ -25,4 +19,4 @@ unfolding after
 returns-2 c = (let e : senders ≤ suc (c .before .args .k) = omega arith in passed _ _ (le-ltb _ _ e) refl, omega arith)
 
 pub after-sender-spec : {M : Type 1} → statement M
-after-sender-spec = tie.close (tie.spec add-if1 add-result returns returns-2)
+after-sender-spec = tie.close (tie.spec (λ c. search needs) (λ c. search needs) returns returns-2)

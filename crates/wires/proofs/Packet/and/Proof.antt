@@ -5,18 +5,6 @@ use Rattle.wires.specs.Sending.{packetAnd}
 use Rattle.wires.proofs.Packet.and.Statement.{statement}
 use Rattle.wires.proofs.Packet.and.Tie as tie
 
-enum-told : tie.Need-enum-told
-enum-told c = search needs
-
-enum-known-self : tie.Need-enum-known-self
-enum-known-self c = search needs
-
-enum-known-self-2 : tie.Need-enum-known-self-2
-enum-known-self-2 c = search needs
-
-enum-known-self-3 : tie.Need-enum-known-self-3
-enum-known-self-3 c = search needs
-
 returns : tie.Need-returns
 returns c = cc
 
@@ -33,10 +21,10 @@ pub and-spec : {M : Type 1} → statement M
 and-spec =
     tie.close
     (tie.spec
-    enum-told
-    enum-known-self
-    enum-known-self-2
-    enum-known-self-3
+    (λ c. search needs)
+    (λ c. search needs)
+    (λ c. search needs)
+    (λ c. search needs)
     returns
     returns-2
     returns-3

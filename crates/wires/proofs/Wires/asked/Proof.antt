@@ -9,15 +9,6 @@ use Rattle.wires.specs.Sending.{waits-as}
 use Rattle.wires.proofs.Wires.asked.Statement.{statement}
 use Rattle.wires.proofs.Wires.asked.Tie as tie
 
-add-at : tie.Need-add-at
-add-at c = search needs
-
-cast-at : tie.Need-cast-at
-cast-at c = search needs
-
-element-copy-out-if1 : tie.Need-element-copy-out-if1
-element-copy-out-if1 c = search needs
-
 returns : tie.Need-returns
 returns c =
     let a = c .before .before .args in
@@ -29,15 +20,6 @@ returns-2 c =
     taken _ _ (waits-as (a .t1) (a .k) _ (not-false (getD (a .t1 .pending) (a .k + 2) false) (c .before .before .if1 .left)))
     (passed _ _ (lt-leb _ _ (c .if2 .taken)) refl)
 
-group-requires : tie.Need-group-requires
-group-requires c κs = search needs
-
-and-requires : tie.Need-and-requires
-and-requires c κs = search needs
-
-left-by-requires : tie.Need-left-by-requires
-left-by-requires c κs = search needs
-
 returns-3 : tie.Need-returns-3
 returns-3 c =
     let a = c .before .before .before .before .before .before .before .before .before .args in
@@ -48,12 +30,12 @@ pub asked-spec : {M : Type 1} → statement M
 asked-spec =
     tie.close
     (tie.spec
-    add-at
-    cast-at
-    element-copy-out-if1
+    (λ c. search needs)
+    (λ c. search needs)
+    (λ c. search needs)
     returns
     returns-2
-    group-requires
-    and-requires
-    left-by-requires
+    (λ c κs. search needs)
+    (λ c κs. search needs)
+    (λ c κs. search needs)
     returns-3)

@@ -5,15 +5,6 @@ use Rattle.wires.specs.Groups.{placed, firstPlace, resetGroup}
 use Rattle.wires.proofs.Wires.platform.Statement.{statement}
 use Rattle.wires.proofs.Wires.platform.Tie as tie
 
-reset-group-requires : tie.Need-reset-group-requires
-reset-group-requires c κs = search needs
-
-reset-group-requires-2 : tie.Need-reset-group-requires-2
-reset-group-requires-2 c κs = search needs
-
-placed-requires : tie.Need-placed-requires
-placed-requires c κs = search needs
-
 returns : tie.Need-returns
 returns c =
     c .placed .ensures
@@ -22,4 +13,4 @@ returns c =
 
 pub platform-spec : {M : Type 1} → statement M
 platform-spec =
-    tie.close (tie.spec reset-group-requires reset-group-requires-2 placed-requires returns)
+    tie.close (tie.spec (λ c κs. search needs) (λ c κs. search needs) (λ c κs. search needs) returns)

@@ -8,15 +8,6 @@ use Rattle.wires.specs.Turn.{after}
 use Rattle.wires.proofs.Wires.send.Statement.{statement}
 use Rattle.wires.proofs.Wires.send.Tie as tie
 
-sub-a : tie.Need-sub-a
-sub-a c = search needs
-
-after-sender-requires : tie.Need-after-sender-requires
-after-sender-requires c κs = search needs
-
-after-sender-requires-2 : tie.Need-after-sender-requires-2
-after-sender-requires-2 c κs = search needs
-
 asked-requires : tie.Need-asked-requires
 asked-requires c κs =
     let s = c .before .before .before .pre in
@@ -45,9 +36,9 @@ pub send-spec : {M : Type 1} → statement M
 send-spec =
     tie.close
     (tie.spec
-    sub-a
-    after-sender-requires
-    after-sender-requires-2
+    (λ c. search needs)
+    (λ c κs. search needs)
+    (λ c κs. search needs)
     asked-requires
     asked-requires-2
     asked-requires-3
