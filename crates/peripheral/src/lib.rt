@@ -1,18 +1,20 @@
 // Channel 0: the held write and request, what GET_PC hands over of them. A status bit is computed from its queue, never stored beside it.
 ghost use mathlib.Core.Path.{_≡_};
 ghost use mathlib.Core.Bool.{true, _&&_};
-ghost use Prim.Native.Nat.{_+_, _*_, _^_, _≤_, _<_};
+ghost use mathlib.Core.List.{_++_};
+ghost use Prim.Native.Nat.{_+_, _*_, _%_, _^_, _≤_, _<_};
 ghost use lib.Dec.{eqb, ltb, leb};
 ghost use lib.ListN.{length};
-ghost use Rattle.base.specs.Bytes.{put};
+ghost use Rattle.base.specs.Bytes.{put, low4, number4};
 ghost use Rattle.registers.specs.Registers.{payloadLegal, readLegal};
 ghost use Rattle.peripheral.specs.declared.Kind.the-variants.{MemoryRead, IoRead, IoWrite};
+ghost use Rattle.peripheral.specs.declared.Np.the-variants.{Free, Waiting};
 ghost use Rattle.peripheral.specs.declared.Write.the-variants.{Held};
 ghost use Rattle.peripheral.specs.Queues.{idle, dropped};
 ghost use Rattle.peripheral.specs.Status.{pcFree, npFree, pcAvail, peripheralStatus};
-ghost use Rattle.peripheral.specs.Upward.{bare, pieceOf, successOf, upward, firstOf, afterPiece, afterSuccess, handed};
+ghost use Rattle.peripheral.specs.Upward.{bare, pieceOf, successOf, upward, firstOf, leftOf, afterPiece, afterSuccess};
 ghost use Rattle.peripheral.specs.Sound.{within, shortSize, ioMade, madeAs, requestMade, writeMade, sentRight, soundRequest};
-ghost use Rattle.peripheral.specs.Layout.{writeBytes, kindNumber, numberBytes, requestBytes, npBytes, peripheralBytes, postedIn, writeIn, kindOf, requestIn, npIn, peripheralIn, holdsWrite, blankIn, holdsRequest, holdsPeripheral};
+ghost use Rattle.peripheral.specs.Layout.{handedBytes, writeBytes, kindNumber, numberBytes, requestBytes, npBytes, peripheralBytes, postedIn, writeIn, kindOf, requestIn, npIn, peripheralIn, holdsWrite, blankIn, holdsRequest, holdsPeripheral};
 
 pub enum Kind {
     MemoryRead,
@@ -74,7 +76,7 @@ pub enum Next {
 
 // ---- the status bits
 
-pub fn pc_free(w: Write) -> bool
+fn pc_free(w: Write) -> bool
     ensures { λ r. ⌜ r ≡ pcFree w ⌝ }
 {
     match w {
@@ -83,7 +85,7 @@ pub fn pc_free(w: Write) -> bool
     }
 }
 
-pub fn np_free(n: Np) -> bool
+fn np_free(n: Np) -> bool
     ensures { λ r. ⌜ r ≡ npFree n ⌝ }
 {
     match n {
@@ -126,13 +128,30 @@ fn bare(cycle: u8, q: Request) -> Completion
     }
 }
 
-fn piece_of(q: Request, sent: u32) -> Completion
-    requires { ⌜ (sent < q .length) × (q .length ≤ 4096) × (1 ≤ q .payload) × (q .payload ≤ 4096) ⌝ }
-    ensures { λ r. ⌜ r ≡ pieceOf q sent ⌝ }
+// The bytes of what is held once `gone` bytes have been handed over: the place is free once the last piece is, and not before.
+fn put_left(q: Request, gone: u32, b: &mut [u8])
+    requires { ⌜ 64 ≤ length (now b) ⌝ }
+    ensures { λ _. ⌜ now (b .exit) ≡ put 29 (npBytes (leftOf q gone)) (now (b .entry)) ⌝ }
 {
-    let mark = pieces::next_mark(q.address, q.length, q.payload, sent);
-    let cycle = pieces::mark_type(mark);
+    if gone == q.length {
+        let none = np_bytes(Np::Free);
+        base::put_at(b, 29, &none);
+        return;
+    }
+    let more = request_bytes(2, q, gone);
+    base::put_at(b, 29, &more);
+}
+
+// The next piece, and the request's bytes after it.
+fn hand_piece(q: Request, sent: u32, b: &mut [u8]) -> Completion
+    requires { ⌜ (64 ≤ length (now b)) × (sent < q .length) × (q .length ≤ 4096) × (1 ≤ q .payload) × (q .payload ≤ 4096) ⌝ }
+    ensures { λ r. ⌜ (r ≡ pieceOf q sent) × (now (b .exit) ≡ put 29 (npBytes (afterPiece q sent)) (now (b .entry))) ⌝ }
+{
     let length = pieces::next_size(q.address, q.length, q.payload, sent);
+    let gone = sent + length;
+    let mark = pieces::mark_of(sent == 0, gone == q.length);
+    let cycle = pieces::mark_type(mark);
+    put_left(q, gone, b);
     Completion {
         cycle,
         tag: q.tag,
@@ -141,64 +160,25 @@ fn piece_of(q: Request, sent: u32) -> Completion
     }
 }
 
-fn success_of(q: Request, sent: u32) -> Completion
-    requires { ⌜ (sent < q .length) × (q .length ≤ 4096) × (1 ≤ q .payload) × (q .payload ≤ 4096) ⌝ }
-    ensures { λ r. ⌜ r ≡ successOf (q .kind) q sent ⌝ }
+// A completion without data, after which nothing is held.
+fn hand_bare(cycle: u8, q: Request, b: &mut [u8]) -> Completion
+    requires { ⌜ 64 ≤ length (now b) ⌝ }
+    ensures { λ r. ⌜ (r ≡ bare cycle q) × (now (b .exit) ≡ put 29 (npBytes Free) (now (b .entry))) ⌝ }
+{
+    let none = np_bytes(Np::Free);
+    base::put_at(b, 29, &none);
+    bare(cycle, q)
+}
+
+fn hand_success(q: Request, sent: u32, b: &mut [u8]) -> Completion
+    requires { ⌜ (64 ≤ length (now b)) × (sent < q .length) × (q .length ≤ 4096) × (1 ≤ q .payload) × (q .payload ≤ 4096) ⌝ }
+    ensures { λ r. ⌜ (r ≡ successOf (q .kind) q sent) × (now (b .exit) ≡ put 29 (npBytes (afterSuccess (q .kind) q sent)) (now (b .entry))) ⌝ }
 {
     let k = q.kind;
     match k {
-        Kind::MemoryRead => piece_of(q, sent),
-        Kind::IoRead => piece_of(q, sent),
-        Kind::IoWrite => bare(0x06, q),
-    }
-}
-
-pub fn next_completion(n: Np) -> Next
-    requires { ⌜ soundRequest n ≡ true ⌝ }
-    ensures { λ r. ⌜ r ≡ firstOf (upward n) ⌝ }
-{
-    match n {
-        Np::Free => Next::Nothing,
-        Np::Waiting(_) => Next::Nothing,
-        Np::Ready(q, sent) => Next::One(success_of(q, sent)),
-        Np::Failed(q) => Next::One(bare(0x0E, q)),
-    }
-}
-
-// The place is free once the last piece is handed over, and not before.
-fn after_piece(q: Request, sent: u32) -> Np
-    requires { ⌜ (sent < q .length) × (q .length ≤ 4096) × (1 ≤ q .payload) × (q .payload ≤ 4096) ⌝ }
-    ensures { λ r. ⌜ r ≡ afterPiece q sent ⌝ }
-{
-    let gone = sent + pieces::next_size(q.address, q.length, q.payload, sent);
-    if gone == q.length {
-        return Np::Free;
-    }
-    Np::Ready(q, gone)
-}
-
-fn after_success(q: Request, sent: u32) -> Np
-    requires { ⌜ (sent < q .length) × (q .length ≤ 4096) × (1 ≤ q .payload) × (q .payload ≤ 4096) ⌝ }
-    ensures { λ r. ⌜ r ≡ afterSuccess (q .kind) q sent ⌝ }
-{
-    let k = q.kind;
-    match k {
-        Kind::MemoryRead => after_piece(q, sent),
-        Kind::IoRead => after_piece(q, sent),
-        Kind::IoWrite => Np::Free,
-    }
-}
-
-// What is held once the next completion is handed over.
-pub fn handed(n: Np) -> Np
-    requires { ⌜ soundRequest n ≡ true ⌝ }
-    ensures { λ r. ⌜ r ≡ handed n ⌝ }
-{
-    match n {
-        Np::Free => Np::Free,
-        Np::Waiting(_) => n,
-        Np::Ready(q, sent) => after_success(q, sent),
-        Np::Failed(_) => Np::Free,
+        Kind::MemoryRead => hand_piece(q, sent, b),
+        Kind::IoRead => hand_piece(q, sent, b),
+        Kind::IoWrite => hand_bare(0x06, q, b),
     }
 }
 
@@ -562,6 +542,67 @@ impl Peripheral {
         ensures { λ r. ⌜ r ≡ dropped self ⌝ }
     {
         Peripheral::idle(self.serial)
+    }
+
+    // Whether bytes of the channel hold no write, and no request.
+    pub fn takes_write(b: &[u8]) -> bool
+        requires { ⌜ 64 ≤ length (now b) ⌝ }
+        ensures { λ r. ⌜ r ≡ pcFree (writeIn (now (b .entry))) ⌝ }
+    {
+        b[12] == 0
+    }
+
+    pub fn takes_request(b: &[u8]) -> bool
+        requires { ⌜ 64 ≤ length (now b) ⌝ }
+        ensures { λ r. ⌜ r ≡ npFree (npIn (now (b .entry))) ⌝ }
+    {
+        b[29] == 0
+    }
+
+    // This write held: its bytes at their place, and no others.
+    pub fn hold(w: Posted, b: &mut [u8])
+        requires { ⌜ 64 ≤ length (now b) ⌝ }
+        ensures { λ _. ⌜ now (b .exit) ≡ put 12 (writeBytes (Held w)) (now (b .entry)) ⌝ }
+    {
+        let bytes = posted_bytes(w);
+        base::put_at(b, 12, &bytes);
+    }
+
+    // This request waits under the next serial, which goes up by one modulo 2^32.
+    pub fn wait(q: Request, b: &mut [u8])
+        requires { ⌜ 64 ≤ length (now b) ⌝ }
+        ensures { λ _. ⌜ now (b .exit) ≡ put 29 (npBytes (Waiting q) ++ low4 ((number4 60 (now (b .entry)) + 1) % 2 ^ 32)) (now (b .entry)) ⌝ }
+    {
+        let request = request_bytes(1, q, 0);
+        let serial = base::bytes4(std::num::wrapping_add_u32(base::get4(b, 60), 1));
+        base::put_at(b, 29, &request);
+        base::put_at(b, 60, &serial);
+    }
+
+    // What GET_PC hands over next, and the request's bytes after it; where that is nothing the bytes stay.
+    pub fn hand_over(b: &mut [u8]) -> Next
+        requires { ⌜ (64 ≤ length (now b)) × (soundRequest (npIn (now b)) ≡ true) ⌝ }
+        ensures { λ r. ⌜ (r ≡ firstOf (upward (npIn (now (b .entry))))) × (now (b .exit) ≡ handedBytes (npIn (now (b .entry))) (now (b .entry))) ⌝ }
+    {
+        let n = np_in(b);
+        match n {
+            Np::Free => Next::Nothing,
+            Np::Waiting(_) => Next::Nothing,
+            Np::Ready(q, sent) => Next::One(hand_success(q, sent, b)),
+            Np::Failed(q) => Next::One(hand_bare(0x0E, q, b)),
+        }
+    }
+
+    // The channel's word of the status, of its bytes.
+    pub fn status_in(b: &[u8]) -> u32
+        requires { ⌜ 64 ≤ length (now b) ⌝ }
+        ensures { λ r. ⌜ (r ≡ peripheralStatus (peripheralIn (now (b .entry)))) × (r ≤ 19) ⌝ }
+    {
+        word_of(
+            base::bit_of(b[12] == 0),
+            base::bit_of(b[29] == 0),
+            base::bit_of(1 < b[29]),
+        )
     }
 
     pub fn status(self) -> u32

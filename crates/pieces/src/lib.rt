@@ -26,7 +26,8 @@ pub fn next_size(address: u64, length: u32, payload: u32, sent: u32) -> u32
     room
 }
 
-fn mark_of(first: bool, last: bool) -> Mark
+// Its mark, by whether it is the first and the last.
+pub fn mark_of(first: bool, last: bool) -> Mark
     ensures { λ r. ⌜ r ≡ markOf first last ⌝ }
 {
     if first {
