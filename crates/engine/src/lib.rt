@@ -6,6 +6,8 @@ mod wires_channel;
 
 use command::Command;
 use command::Decoded;
+use command::PeripheralCommand;
+use command::WiresCommand;
 use peripheral::Peripheral;
 use registers::Config;
 use registers::Reg010;
@@ -22,14 +24,14 @@ ghost use mathlib.Core.Path.{_≡_};
 ghost use Prim.Native.Nat.{_+_};
 ghost use lib.ListN.{length};
 ghost use Rattle.wires.specs.Groups.{wiresStatus};
-ghost use Rattle.command.specs.Facts.{CommandFits};
+ghost use Rattle.command.specs.Facts.{CommandFits, PeripheralFits, WiresFits};
 ghost use Rattle.peripheral.specs.Status.{peripheralStatus};
 ghost use Rattle.rules.specs.Rules.Reset.{espiReset, platformReset};
 ghost use Rattle.rules.specs.Rules.Peripheral.{succeeded, answerTo, taken};
 ghost use Rattle.rules.specs.Rules.Wires.{setting};
-ghost use Rattle.rules.specs.Rules.Channel.{peripheral, wires};
+ghost use Rattle.rules.specs.Rules.Channel.{peripheral, wires, actOf};
 ghost use Rattle.rules.specs.Rules.Lift.{withStatus, lift, show};
-ghost use Rattle.rules.specs.Rules.Exchange.{wasReset, decide, exchange};
+ghost use Rattle.rules.specs.Rules.Exchange.{wasReset, acted, decide, exchange};
 ghost use Rattle.engine.specs.Carried.{Packs, Stays, carried, carriedBy, outgoing, quiet, refusedBy};
 
 // A plan without its next state, which stands in the state's bytes.
@@ -83,6 +85,26 @@ fn lift_wires(s: State, x: WiresChange, state: &mut [u8]) -> Outgoing
     }
 }
 
+// ---- a channel's command, decided by the channel and put back
+
+fn act_peripheral(s: State, o: PeripheralCommand, b: &[u8], state: &mut [u8]) -> Outgoing
+    requires { ⌜ Packs s (now state) × PeripheralFits o (now b) ⌝ }
+    ensures { λ r. ⌜ carried r (now (state .exit)) ≡ carriedBy (acted peripheral s (actOf peripheral (s .config) o (now (b .entry)))) (now (state .entry)) ⌝ }
+{
+    lift_peripheral(
+        s,
+        peripheral_channel::decide(s.config, s.peripheral, o, b),
+        state,
+    )
+}
+
+fn act_wires(s: State, o: WiresCommand, b: &[u8], state: &mut [u8]) -> Outgoing
+    requires { ⌜ Packs s (now state) × WiresFits o (now b) ⌝ }
+    ensures { λ r. ⌜ carried r (now (state .exit)) ≡ carriedBy (acted wires s (actOf wires (s .config) o (now (b .entry)))) (now (state .entry)) ⌝ }
+{
+    lift_wires(s, wires_channel::decide(s.config, s.wires, o, b), state)
+}
+
 // ---- above all channels
 
 fn silently(number: u8) -> Outgoing
@@ -111,12 +133,8 @@ fn decided(s: State, o: Command, b: &[u8], state: &mut [u8]) -> Outgoing
 {
     let c = s.config;
     match o {
-        Command::Peripheral(k) => lift_peripheral(
-            s,
-            peripheral_channel::decide(c, s.peripheral, k, b),
-            state,
-        ),
-        Command::Wires(k) => lift_wires(s, wires_channel::decide(c, s.wires, k, b), state),
+        Command::Peripheral(k) => act_peripheral(s, k, b, state),
+        Command::Wires(k) => act_wires(s, k, b, state),
         Command::GetConfiguration(a) => shown(Body::Word(c.read(a)), s),
         Command::SetConfiguration(a, v) => configuration::set(s, a, v, state),
         Command::GetStatus => shown(Body::Nothing, s),
