@@ -1,21 +1,24 @@
 -- One queue's bytes put at their place are the whole channel's, where the others stand already; the status is read off the bytes.
 use Prim.Native.Nat.{ℕ, _+_, _≤_}
-use mathlib.Core.List.{List, [], _++_, append-assoc, append-nil}
+use mathlib.Core.List.{List, [], _∷_, _++_, append-assoc, append-nil}
 use mathlib.Core.Path.{_≡_, refl, sym, ap, _∙_}
 use native.Mathlib.Omega.{arith}
 use lib.ListN.{length, getD, take, drop}
 use lib.Seq.{length-take-le}
+use Rattle.base.specs.Pick.{pick}
 use Rattle.base.specs.Bytes.{low4, number4, put, put-into}
 use Rattle.base.specs.Numbers.{length-join, past}
-use Rattle.peripheral.specs.Upward.{upward}
-use Rattle.peripheral.specs.Status.{pcFree, npFree, pcAvail, peripheralStatus}
-use Rattle.peripheral.specs.Layout.{writeBytes, npBytes, peripheralBytes, postedIn, writeOf, requestIn, npOf, writeIn, peripheralIn}
+use Rattle.peripheral.specs.Upward.{upward, firstOf, handed}
+use Rattle.peripheral.specs.Status.{pcFree, npFree, some, pcAvail, peripheralStatus}
+use Rattle.peripheral.specs.Layout.{writeBytes, npBytes, handedBytes, peripheralBytes, postedIn, writeOf, requestIn, npOf, writeIn, peripheralIn}
 use Rattle.peripheral.specs.Packing.{write-length, np-length, peripheral-length}
 use Rattle.peripheral.specs.declared.Request.{Request}
 use Rattle.peripheral.specs.declared.Np.{Np}
 use Rattle.peripheral.specs.declared.Np.the-variants.{Free, Waiting, Ready, Failed}
 use Rattle.peripheral.specs.declared.Write.{Write}
 use Rattle.peripheral.specs.declared.Write.the-variants.{Empty, Held}
+use Rattle.peripheral.specs.declared.Completion.{Completion}
+use Rattle.peripheral.specs.declared.Next.the-variants.{Nothing, One}
 use Rattle.peripheral.specs.declared.Peripheral.{Peripheral}
 
 -- the channel's bytes stand at their place in l
@@ -118,3 +121,20 @@ unfolding put
 status-stored q l h =
     let t = drop (12 + length (peripheralBytes q)) l in
     ap (λ (z : List ℕ). peripheralStatus (peripheralIn z)) (append-assoc (take 12 l) (peripheralBytes q) t) ∙ status-at (take 12 l) t q (length-take-le 12 l h)
+
+-- ---- what a hand-over leaves, by what is handed over
+
+left-none : (cs : List Completion) (a l : List ℕ) → firstOf cs ≡ Nothing → pick (some cs) a l ≡ l
+left-none [] a l e = refl
+left-none (c ∷ cs) a l e = let z : _≡_ {A = ℕ} 0 1 = cc in absurd (omega arith)
+
+left-one : (cs : List Completion) (c : Completion) (a l : List ℕ) → firstOf cs ≡ One c → pick (some cs) a l ≡ a
+left-one [] c a l e = let z : _≡_ {A = ℕ} 0 1 = cc in absurd (omega arith)
+left-one (x ∷ cs) c a l e = refl
+
+module _ (n : Np) (l : List ℕ) where
+  pub handed-none : firstOf (upward n) ≡ Nothing → handedBytes n l ≡ l
+  handed-none e = left-none (upward n) (put 29 (npBytes (handed n)) l) l e
+
+  pub handed-one : (c : Completion) → firstOf (upward n) ≡ One c → handedBytes n l ≡ put 29 (npBytes (handed n)) l
+  handed-one c e = left-one (upward n) c (put 29 (npBytes (handed n)) l) l e

@@ -309,6 +309,15 @@ impl Wires {
         4 + (base::bit_of(self.any_pending()) as u32) * 64
     }
 
+    // The channel's word of the status, of its bytes.
+    pub fn status_in(b: &[u8]) -> u32
+        requires { ⌜ 77 ≤ length (now b) ⌝ }
+        ensures { λ r. ⌜ (r ≡ wiresStatus (wiresIn (now (b .entry)))) × (r ≤ 68) ⌝ }
+    {
+        let w = Wires::unpack(b);
+        w.status()
+    }
+
     fn differs(self, index: usize) -> bool
         requires { ⌜ (2 ≤ index) × (index ≤ 7) ⌝ }
         ensures { λ r. ⌜ r ≡ differs self index ⌝ }

@@ -1,26 +1,32 @@
-use mathlib.Core.Path.{ap, _∙_}
-use denote.Ref.{now}
-use Rattle.state.specs.Facts.{sound-config, sound-wires}
-use Rattle.rules.specs.Rules.Wires as W
-use Rattle.rules.specs.Rules.Channel.{wires}
-use Rattle.rules.specs.Rules.Lift.{lift}
-use Rattle.rules.specs.declared.WiresChange.{WiresChange}
-use Rattle.engine.specs.Carried.{carriedBy}
-use Rattle.engine.specs.Laws.Stored.{acting-stays}
 use borrow.Author.Needs.{needs}
 use Rattle.engine.proofs.act_wires.Statement.{statement}
 use Rattle.engine.proofs.act_wires.Tie as tie
+use Rattle.engine.proofs.act_wires.Reads as reads
+use Rattle.engine.proofs.act_wires.Lts as lts
+use Rattle.engine.proofs.lift_wires.Reads as lift-wires-reads
+use Rattle.engine.proofs.wires_channel.decide.Reads as decide-reads
+use Rattle.wires.proofs.Wires.unpack.Reads as unpack-reads
 
+-- src/lib.rt:110:41
+unpack-requires : tie.Need-unpack-requires
+unpack-requires c κs = search needs
+
+-- src/lib.rt:110:16
 decide-requires : tie.Need-decide-requires
-decide-requires c κs = let p = c .before .before .pre in let s = c .before .before .args .s in (sound-config s (p .0 .good), sound-wires s (p .0 .good), p .1)
+decide-requires c κs = ?
 
+-- src/lib.rt:110:5
 lift-wires-requires : tie.Need-lift-wires-requires
-unfolding W.decide
-lift-wires-requires c κs = let a = c .before .before .before .before .args in (c .before .before .before .before .pre .0, acting-stays wires (a .s) (W.actOf (a .o) (now (a .b))) _ (c .before .decide .ensures))
+lift-wires-requires c κs = ?
 
+-- src/lib.rt:106:1
+same-length : tie.Need-same-length
+same-length c = search needs
+
+-- src/lib.rt:106:1
 returns : tie.Need-returns
-unfolding W.decide
-returns c = let a = c .before .before .before .before .before .before .before .args in c .before .before .lift-wires .ensures ∙ ap (λ (x : WiresChange). carriedBy (lift wires (a .s) x) (now (a .state))) (c .before .before .before .before .decide .ensures)
+returns c = ?
 
 pub act-wires-spec : {M : Type 1} → statement M
-act-wires-spec = tie.close (tie.spec decide-requires lift-wires-requires (λ c. search needs) returns)
+act-wires-spec =
+    tie.close (tie.spec unpack-requires decide-requires lift-wires-requires same-length returns)

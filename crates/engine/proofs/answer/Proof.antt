@@ -1,21 +1,33 @@
-use mathlib.Core.Path.{ap, _∙_}
-use denote.Ref.{now}
-use Rattle.rules.specs.Rules.Peripheral as P
-use Rattle.rules.specs.Rules.Channel.{peripheral}
-use Rattle.rules.specs.Rules.Lift.{lift}
-use Rattle.rules.specs.declared.PeripheralChange.{PeripheralChange}
-use Rattle.engine.specs.Carried.{carriedBy}
-use Rattle.engine.specs.Laws.Stored.{settle-stays}
 use borrow.Author.Needs.{needs}
 use Rattle.engine.proofs.answer.Statement.{statement}
 use Rattle.engine.proofs.answer.Tie as tie
+use Rattle.engine.proofs.answer.Reads as reads
+use Rattle.engine.proofs.answer.Lts as lts
+use Rattle.engine.proofs.lift_peripheral.Reads as lift-peripheral-reads
+use Rattle.engine.proofs.peripheral_channel.answer_to.Reads as answer-to-reads
+use Rattle.peripheral.proofs.Peripheral.unpack.Reads as unpack-reads
 
+-- src/lib.rt:219:13
+unpack-requires : tie.Need-unpack-requires
+unpack-requires c κs = search needs
+
+-- src/lib.rt:218:9
+answer-to-requires : tie.Need-answer-to-requires
+answer-to-requires c κs = search needs
+
+-- src/lib.rt:217:5
 lift-peripheral-requires : tie.Need-lift-peripheral-requires
-unfolding P.settle
-lift-peripheral-requires c κs = let a = c .before .before .before .before .args in (c .before .before .before .before .pre, settle-stays peripheral (a .s) (P.answer (a .serial) (a .success) (now (a .bytes))) _ (c .before .answer-to .ensures))
+lift-peripheral-requires c κs = ?
 
+-- src/lib.rt:213:1
+same-length : tie.Need-same-length
+same-length c = search needs
+
+-- src/lib.rt:213:1
 returns : tie.Need-returns
-returns c = let a = c .before .before .before .before .before .before .before .args in c .before .before .lift-peripheral .ensures ∙ ap (λ (x : PeripheralChange). carriedBy (lift peripheral (a .s) x) (now (a .state))) (c .before .before .before .before .answer-to .ensures)
+returns c = ?
 
 pub answer-spec : {M : Type 1} → statement M
-answer-spec = tie.close (tie.spec (λ c κs. search needs) lift-peripheral-requires (λ c. search needs) returns)
+answer-spec =
+    tie.close
+    (tie.spec unpack-requires answer-to-requires lift-peripheral-requires same-length returns)

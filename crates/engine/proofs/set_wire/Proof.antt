@@ -1,21 +1,44 @@
-use mathlib.Core.Path.{ap, _∙_}
-use denote.Ref.{now}
-use Rattle.rules.specs.Rules.Wires as W
-use Rattle.rules.specs.Rules.Channel.{wires}
-use Rattle.rules.specs.Rules.Lift.{lift}
-use Rattle.rules.specs.declared.WiresChange.{WiresChange}
-use Rattle.engine.specs.Carried.{carriedBy}
-use Rattle.engine.specs.Laws.Stored.{settle-stays}
 use borrow.Author.Needs.{needs}
 use Rattle.engine.proofs.set_wire.Statement.{statement}
 use Rattle.engine.proofs.set_wire.Tie as tie
+use Rattle.engine.proofs.set_wire.Reads as reads
+use Rattle.engine.proofs.set_wire.Lts as lts
+use Rattle.engine.proofs.lift_wires.Reads as lift-wires-reads
+use Rattle.engine.proofs.wires_channel.setting.Reads as setting-reads
+use Rattle.registers.proofs.Config.unpack.Reads as Config-unpack-reads
+use Rattle.wires.proofs.Wires.unpack.Reads as Wires-unpack-reads
 
+-- src/lib.rt:244:9
+unpack-requires : tie.Need-unpack-requires
+unpack-requires c κs = search needs
+
+-- src/lib.rt:246:35
+unpack-requires-2 : tie.Need-unpack-requires-2
+unpack-requires-2 c κs = search needs
+
+-- src/lib.rt:246:9
+setting-requires : tie.Need-setting-requires
+setting-requires c κs = search needs
+
+-- src/lib.rt:245:5
 lift-wires-requires : tie.Need-lift-wires-requires
-unfolding W.settle
-lift-wires-requires c κs = let a = c .before .before .before .args in (c .before .before .before .pre, settle-stays wires (a .s) (W.setWire (a .index) (a .bit) (a .value)) _ (c .before .setting .ensures))
+lift-wires-requires c κs = ?
 
+-- src/lib.rt:240:1
+same-length : tie.Need-same-length
+same-length c = search needs
+
+-- src/lib.rt:240:1
 returns : tie.Need-returns
-returns c = let a = c .before .before .before .before .before .before .args in c .before .before .lift-wires .ensures ∙ ap (λ (x : WiresChange). carriedBy (lift wires (a .s) x) (now (a .state))) (c .before .before .before .before .setting .ensures)
+returns c = ?
 
 pub set-wire-spec : {M : Type 1} → statement M
-set-wire-spec = tie.close (tie.spec (λ c κs. search needs) lift-wires-requires (λ c. search needs) returns)
+set-wire-spec =
+    tie.close
+    (tie.spec
+    unpack-requires
+    unpack-requires-2
+    setting-requires
+    lift-wires-requires
+    same-length
+    returns)

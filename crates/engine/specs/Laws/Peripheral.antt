@@ -2,14 +2,14 @@
 use Prim.Native.Nat.{ℕ, _+_, _≤_, _<_}
 use mathlib.Core.Bool.{Bool, true, false, not}
 use mathlib.Core.List.{List, [], _∷_}
-use mathlib.Core.Path.{_≡_, refl, sym, ap, _∙_}
+use mathlib.Core.Path.{_≡_, refl, sym, ap, subst, _∙_}
 use mathlib.Core.Logic.{inl, inr}
 use native.Mathlib.Omega.{arith}
 use lib.Dec.{eqb}
 use lib.ListN.{getD, take, drop, length-take, List·getD-eq-default}
 use lib.Seq.{getD-take, getD-drop}
-use Rattle.base.specs.Pick.{taken, passed}
-use Rattle.base.specs.Bytes.{joined4}
+use Rattle.base.specs.Pick.{pick, taken, passed}
+use Rattle.base.specs.Bytes.{joined4, put}
 use Rattle.registers.specs.Registers.{payloadSize, readSize, reachable}
 use Rattle.registers.specs.Laws.{payload-legal, read-legal, reachable-r010}
 use Rattle.registers.specs.declared.Config.{Config}
@@ -26,17 +26,35 @@ use Rattle.peripheral.specs.declared.Next.{Next}
 use Rattle.peripheral.specs.declared.Next.the-variants.{Nothing, One}
 use Rattle.peripheral.specs.Sound.{within}
 use Rattle.peripheral.specs.Facts.{legal-payload, legal-read}
+use Rattle.peripheral.specs.Layout.{peripheralBytes}
+use Rattle.rules.specs.Rules.Channel.{peripheral}
 use Rattle.rules.specs.Rules.Out.{fatal, accept, defer, number}
 use Rattle.rules.specs.Rules.Peripheral.{change, withRequest, holding, post, requestOf, sizeFor, asking, ask, bytesOf, handing, getPc, bytesFor, answered, answeringWaiting}
 use Rattle.rules.specs.declared.Body.the-variants as B
 use Rattle.rules.specs.declared.Kept.the-variants as K
 use Rattle.rules.specs.declared.Out.{Out}
 use Rattle.rules.specs.declared.PeripheralChange.{PeripheralChange}
+use Rattle.engine.specs.Carried.{Changed, changedTo, changedBy}
 use Rattle.engine.specs.Laws.Tests.{denied}
 
 -- the same change of the same part
 pub changed : {p q : Peripheral} {a b : Out} → p ≡ q → a ≡ b → change p a ≡ change q b
 changed {p} {q} {a} {b} e f = ap (λ (z : Peripheral). change z a) e ∙ ap (change q) f
+
+-- ---- a change on the bytes
+
+pub as-change : {x y : PeripheralChange} {l : List ℕ} {z : Changed} → z ≡ changedBy peripheral x l → x ≡ y → z ≡ changedBy peripheral y l
+as-change {x} {y} {l} e f = e ∙ ap (λ (c : PeripheralChange). changedBy peripheral c l) f
+
+-- refused: no byte is stored
+pub refused-there : (l l′ : List ℕ) (p : Peripheral) (o : Out) {x : PeripheralChange} → change p fatal ≡ x → o ≡ fatal → l′ ≡ l → changedTo o l′ ≡ changedBy peripheral x l
+refused-there l l′ p o e k m = as-change (rw (k, m)) e
+
+-- accepted: the whole part is stored, whatever was put to store it
+pub stored-there : (l l′ : List ℕ) (q : Peripheral) (o o′ : Out) {x : PeripheralChange} → eqb (o′ .number) 0 ≡ true → change q o′ ≡ x → o ≡ o′ → l′ ≡ put 12 (peripheralBytes q) l
+    → changedTo o l′ ≡ changedBy peripheral x l
+stored-there l l′ q o o′ n e k m =
+    as-change (ap (λ (z : Out). changedTo z l′) k ∙ ap (changedTo o′) (subst (λ (t : Bool). l′ ≡ pick t (put 12 (peripheralBytes q) l) l) (sym n) m)) e
 
 -- ---- what a reachable configuration gives
 

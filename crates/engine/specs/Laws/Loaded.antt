@@ -1,0 +1,120 @@
+-- The bytes of a sound state: what the channels find in them, and a change of channel 0 carried out on them.
+use Prim.Native.Nat.{ℕ, _+_, _≤_}
+use mathlib.Core.Bool.{Bool, true, false}
+use mathlib.Core.List.{List, _++_, append-assoc}
+use mathlib.Core.Path.{_≡_, refl, sym, ap, subst, _∙_}
+use native.Mathlib.Omega.{arith}
+use lib.Dec.{eqb}
+use lib.ListN.{length, drop, take-append-drop}
+use Rattle.base.specs.Pick.{pick}
+use Rattle.base.specs.Bytes.{put}
+use Rattle.registers.specs.Registers.{reachable, on1}
+use Rattle.registers.specs.Layout.{configBytes, configIn}
+use Rattle.registers.specs.declared.Config.{Config}
+use Rattle.wires.specs.Groups.{soundWires, wiresStatus}
+use Rattle.wires.specs.Layout.{wiresBytes, wiresIn}
+use Rattle.wires.specs.declared.Wires.{Wires}
+use Rattle.peripheral.specs.Sound.{soundRequest}
+use Rattle.peripheral.specs.Status.{peripheralStatus}
+use Rattle.peripheral.specs.Layout.{peripheralBytes, npIn, peripheralIn}
+use Rattle.peripheral.specs.Stored.{Stands, status-stored}
+use Rattle.peripheral.specs.declared.Peripheral.{Peripheral}
+use Rattle.state.specs.Status.{status}
+use Rattle.state.specs.Layout.{stateLength, packed, unpacked}
+use Rattle.state.specs.Facts.{sound-config, sound-request, sound-wires}
+use Rattle.state.specs.declared.State.{State}
+use Rattle.rules.specs.Rules.Channel as C
+use Rattle.rules.specs.Rules.Channel.{peripheral, wires}
+use Rattle.rules.specs.Rules.Lift.{lift, show, withStatus}
+use Rattle.rules.specs.declared.Body.{Body}
+use Rattle.rules.specs.declared.Out.{Out}
+use Rattle.rules.specs.declared.Reply.{Reply}
+use Rattle.rules.specs.declared.PeripheralChange.{PeripheralChange}
+use Rattle.engine.specs.Carried.{Loadable, Stays, Changed, changedTo, changedBy, carried, carriedBy, outgoing, showing}
+use Rattle.engine.specs.Laws.Stored.{lift-carried}
+use Rattle.engine.specs.declared.Outgoing.{Outgoing}
+
+-- ---- the parts where they stand
+
+pub config-in : (l : List ℕ) → configIn l ≡ unpacked l .config
+unfolding unpacked
+config-in l = refl
+
+pub peripheral-in : (l : List ℕ) → peripheralIn l ≡ unpacked l .peripheral
+unfolding unpacked
+peripheral-in l = refl
+
+pub wires-in : (l : List ℕ) → wiresIn l ≡ unpacked l .wires
+unfolding unpacked
+wires-in l = refl
+
+module _ (l : List ℕ) (h : Loadable l) where
+  stands : Stands (peripheralIn l) l
+  unfolding unpacked packed
+  stands =
+      let p = peripheralBytes (peripheralIn l) in
+      let w = wiresBytes (wiresIn l) in
+      let r = drop stateLength l in
+      record {
+        front = configBytes (configIn l);
+        behind = w ++ r;
+        at = refl;
+        is = sym (take-append-drop stateLength l) ∙ ap (λ (m : List ℕ). m ++ r) (h .bytes) ∙ append-assoc (configBytes (configIn l)) (p ++ w) r
+            ∙ ap (λ (m : List ℕ). configBytes (configIn l) ++ m) (append-assoc p w r);
+      }
+
+  -- what channel 0's commands ask for
+  pub peripheral-there : (c : Config) → c ≡ unpacked l .config
+      → (64 ≤ length l) × Stands (peripheralIn l) l × (reachable c ≡ true) × (soundRequest (npIn l) ≡ true)
+  unfolding unpacked
+  peripheral-there c e =
+      (omega (arith, h .long), stands, ap reachable e ∙ sound-config (unpacked l) (h .good), sound-request (unpacked l) (h .good))
+
+  -- and channel 1's
+  pub wires-there : (c : Config) (w : Wires) → c ≡ unpacked l .config → w ≡ wiresIn l → (reachable c ≡ true) × (soundWires (on1 (c .r020)) w ≡ true)
+  unfolding unpacked
+  wires-there c w e f =
+      (
+        ap reachable e ∙ sound-config (unpacked l) (h .good),
+        ap (λ (z : Config). soundWires (on1 (z .r020)) w) e ∙ ap (soundWires (on1 (configIn l .r020))) f ∙ sound-wires (unpacked l) (h .good),
+      )
+
+-- ---- the status word, a part of it read off the bytes
+
+module _ (l : List ℕ) (a b : ℕ) where
+  pub word-peripheral : (p : Peripheral) → a ≡ peripheralStatus p → b ≡ wiresStatus (wiresIn l) → a + b ≡ status (C.put peripheral p (unpacked l))
+  unfolding status unpacked
+  word-peripheral p e f = rw (e, f)
+
+  pub word-wires : (w : Wires) → a ≡ peripheralStatus (peripheralIn l) → b ≡ wiresStatus w → a + b ≡ status (C.put wires w (unpacked l))
+  unfolding status unpacked
+  word-wires w e f = rw (e, f)
+
+pub shown-is : (s : State) (body : Body) (word : ℕ) (r : Outgoing) → r ≡ showing body word → word ≡ status s → r ≡ outgoing (show body s)
+shown-is s body word r k e = k ∙ ap (showing body) e
+
+-- ---- a change of channel 0 that stores its queue itself
+
+module _ (l : List ℕ) (x : PeripheralChange) (h : Loadable l) (f : Stays (unpacked l) (lift peripheral (unpacked l) x)) where
+  -- the bytes after it say the status of its next part
+  said : (l′ : List ℕ) → l′ ≡ changedBy peripheral x l .state → peripheralStatus (peripheralIn l′) ≡ peripheralStatus (x .next)
+  unfolding lift unpacked
+  said l′ e = ap (λ (z : List ℕ). peripheralStatus (peripheralIn z)) e ∙ go (eqb (x .out .number) 0) refl
+    where
+      go : (t : Bool) → eqb (x .out .number) 0 ≡ t → peripheralStatus (peripheralIn (pick t (put 12 (peripheralBytes (x .next)) l) l)) ≡ peripheralStatus (x .next)
+      go true k = status-stored (x .next) l (omega (arith, h .long))
+      go false k = ap (λ (s : State). peripheralStatus (s .peripheral)) (sym (f k))
+
+  pub acted-carried : (l′ : List ℕ) (o : Out) (a b : ℕ) (r : Reply)
+      → changedTo o l′ ≡ changedBy peripheral x l
+      → a ≡ peripheralStatus (peripheralIn l′)
+      → b ≡ wiresStatus (wiresIn l)
+      → r ≡ withStatus (o .say) (a + b)
+      → carried (record { number = o .number; reply = r; kept = o .kept }) l′ ≡ carriedBy (lift peripheral (unpacked l) x) l
+  acted-carried l′ o a b r e ea eb er =
+      let eo : o ≡ x .out = ap (λ (z : Changed). z .goes) e in
+      let el : l′ ≡ changedBy peripheral x l .state = ap (λ (z : Changed). z .state) e in
+      let word = word-peripheral l a b (x .next) (ea ∙ said l′ el) eb in
+      let k = er ∙ ap (λ (z : Out). withStatus (z .say) (a + b)) eo ∙ ap (withStatus (x .out .say)) word in
+      ap (λ (z : Out). carried (record { number = z .number; reply = r; kept = z .kept }) l′) eo
+      ∙ lift-carried peripheral (unpacked l) x l h f l′ r el k
