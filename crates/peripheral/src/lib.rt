@@ -144,7 +144,7 @@ fn put_left(q: Request, gone: u32, b: &mut [u8])
 
 // The next piece, and the request's bytes after it.
 fn hand_piece(q: Request, sent: u32, b: &mut [u8]) -> Completion
-    requires { ⌜ (64 ≤ length (now b)) × (sent < q .length) × (q .length ≤ 4096) × (1 ≤ q .payload) × (q .payload ≤ 4096) ⌝ }
+    requires { ⌜ (64 ≤ length (now b)) × (sent < q .length) × (q .length ≤ 4096) × (1 ≤ q .payload) × (4096 % q .payload ≡ 0) ⌝ }
     ensures { λ r. ⌜ (r ≡ pieceOf q sent) × (now (b .exit) ≡ put 29 (npBytes (afterPiece q sent)) (now (b .entry))) ⌝ }
 {
     let length = pieces::next_size(q.address, q.length, q.payload, sent);
@@ -171,7 +171,7 @@ fn hand_bare(cycle: u8, q: Request, b: &mut [u8]) -> Completion
 }
 
 fn hand_success(q: Request, sent: u32, b: &mut [u8]) -> Completion
-    requires { ⌜ (64 ≤ length (now b)) × (sent < q .length) × (q .length ≤ 4096) × (1 ≤ q .payload) × (q .payload ≤ 4096) ⌝ }
+    requires { ⌜ (64 ≤ length (now b)) × (sent < q .length) × (q .length ≤ 4096) × (1 ≤ q .payload) × (4096 % q .payload ≡ 0) ⌝ }
     ensures { λ r. ⌜ (r ≡ successOf (q .kind) q sent) × (now (b .exit) ≡ put 29 (npBytes (afterSuccess (q .kind) q sent)) (now (b .entry))) ⌝ }
 {
     let k = q.kind;

@@ -10,7 +10,7 @@ use borrow.Author.Tests.{eqb-true, eqb-false, ltb-false, not-true}
 use Rattle.base.specs.Pick.{and-right}
 use Rattle.registers.specs.declared.Reg010.{Reg010}
 use Rattle.registers.specs.declared.Reg020.{Reg020}
-use Rattle.registers.specs.Registers.{bits, forbidden010, forbidden020, sizeOf, payloadLegal, readLegal, payloadSize, readSize, operatingCount, fixed010, fixed020, readyIsEnable, reachable010, reachable020}
+use Rattle.registers.specs.Registers.{bits, forbidden010, forbidden020, sizeOf, payloadLegal, readLegal, payloadSize, readSize, operatingCount, write010, write020, fresh010, fresh020, reachable010, reachable020}
 
 -- what a test of equality finds
 pub at-equal : (Q : ℕ → Type 0) (p k : ℕ) → Q k → eqb p k ≡ true → Q p
@@ -51,7 +51,7 @@ coded : (n : ℕ) → eqb n 0 ≡ false → 1 ≤ n
 coded n e = let h = eqb-false n 0 e in omega (arith, h)
 
 allowed010 : (v : ℕ) → reachable010 v ≡ true → forbidden010 v ≡ false
-allowed010 v h = not-true (forbidden010 v) (and-right (fixed010 v && readyIsEnable v) (not (forbidden010 v)) h)
+allowed010 v h = not-true (forbidden010 v) (and-right (eqb (write010 fresh010 v .value) v) (not (forbidden010 v)) h)
 
 pub payload-legal : (r : Reg010) → reachable010 (r .value) ≡ true → payloadLegal (payloadSize r) ≡ true
 payload-legal r h =
@@ -69,7 +69,7 @@ read-legal r h =
 pub count-range : (r : Reg020) → reachable020 (r .value) ≡ true → (1 ≤ operatingCount r) × (operatingCount r ≤ 8)
 count-range r h =
     let v = r .value in
-    let f = ltb-false 7 (bits 21 16 v) (not-true (forbidden020 v) (and-right (fixed020 v && readyIsEnable v) (not (forbidden020 v)) h)) in
+    let f = ltb-false 7 (bits 21 16 v) (not-true (forbidden020 v) (and-right (eqb (write020 fresh020 v .value) v) (not (forbidden020 v)) h)) in
     (omega arith, omega (arith, f))
 
 -- a size that is legal is one of those listed
