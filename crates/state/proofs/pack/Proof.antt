@@ -1,4 +1,5 @@
-use Rattle.state.specs.Coded.{packed-by}
+use Rattle.state.specs.Channel.{peripheral, wires}
+use Rattle.state.specs.Coded.{packed-start, packed-then, packed-done}
 use borrow.Author.Needs.{needs}
 use Rattle.state.proofs.pack.Statement.{statement}
 use Rattle.state.proofs.pack.Tie as tie
@@ -9,7 +10,9 @@ returns c =
     let p₂ = p₃ .before .before .before .before in
     let p₁ = p₂ .before .before .before .before in
     let a = p₁ .before .before .before .before .before .before .args in
-    packed-by (a .s) (a .dst .now) _ _ _ (p₁ .pack .ensures) (p₂ .pack2 .ensures) (p₃ .pack3 .ensures)
+    let f₁ = packed-start (a .s) (a .dst .now) _ (p₁ .pack .ensures) in
+    let f₂ = packed-then (a .s) (a .dst .now) peripheral _ _ f₁ (p₂ .pack2 .ensures) in
+    packed-done (a .s) (a .dst .now) _ (packed-then (a .s) (a .dst .now) wires _ _ f₂ (p₃ .pack3 .ensures))
 
 pub pack-spec : {M : Type 1} → statement M
 pack-spec = tie.close (tie.spec (λ c κs. search needs) (λ c κs. search needs) (λ c κs. search needs) (λ c. search needs) returns)
