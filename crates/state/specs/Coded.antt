@@ -56,9 +56,9 @@ module _ (l : List ℕ) (byte : (k : ℕ) → getD l k 0 < 256) (long : stateLen
       found : (k : Channel) → part k s ≡ partIn k l
       found k = ap (part k) es ∙ part-found k l
 
-  pub loaded-by : (s : State) (r : Bool) (h : Each (λ k. Bool)) → s ≡ unpacked l → r ≡ reachable (s .config) → Each (λ k. of-each (λ j. Bool) h k ≡ holdsPart k (on k (s .config)) l)
+  pub loaded-by : {s : State} {r : Bool} {h : Each (λ k. Bool)} → s ≡ unpacked l → r ≡ reachable (s .config) → Each (λ k. of-each (λ j. Bool) h k ≡ holdsPart k (on k (s .config)) l)
       → _≡_ {A = Loaded} (record { ok = r && all (of-each (λ k. Bool) h); state = s }) (loaded l)
-  loaded-by s r h es er eh =
+  loaded-by {s} {r} {h} es er eh =
       let passes : Channel → Bool = λ k. holdsPart k (on k (s .config)) l in
       let same : r && all (of-each (λ k. Bool) h) ≡ reachable (s .config) && all passes =
       rw (er, all-as (of-each (λ k. Bool) h) passes (of-each (λ k. of-each (λ j. Bool) h k ≡ passes k) eh)) in

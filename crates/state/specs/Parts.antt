@@ -127,7 +127,7 @@ pub packed-config : (s : State) → packed s ≡ configBytes (s .config) ++ part
 unfolding packed
 packed-config s = refl
 
-packed-first : (s : State) (t : List ℕ) → packed s ++ t ≡ configBytes (s .config) ++ (partBytes peripheral (s .peripheral) ++ (partBytes wires (s .wires) ++ t))
+packed-first : (s : State) (t : List ℕ) → packed s ++ t ≡ front peripheral s ++ (partBytes peripheral (s .peripheral) ++ behind peripheral s t)
 unfolding packed
 packed-first s t =
     let p = partBytes peripheral (s .peripheral) in
@@ -136,7 +136,7 @@ packed-first s t =
 
 pub packed-at : (k : Channel) (s : State) (t : List ℕ) → packed s ++ t ≡ front k s ++ (partBytes k (part k s) ++ behind k s t)
 packed-at peripheral s t = packed-first s t
-packed-at wires s t = packed-first s t ∙ sym (append-assoc (front peripheral s) (partBytes peripheral (s .peripheral)) (partBytes wires (s .wires) ++ t))
+packed-at wires s t = packed-first s t ∙ sym (append-assoc (front peripheral s) (partBytes peripheral (s .peripheral)) (behind peripheral s t))
 
 pub packed-is : (k : Channel) (s : State) → packed s ≡ front k s ++ (partBytes k (part k s) ++ behind k s [])
 packed-is k s = sym (append-nil (packed s)) ∙ packed-at k s []

@@ -10,7 +10,7 @@ returns c =
     let p = w .before .before in
     let u = p .before .before .before in
     let a = u .before .before in
-    loaded-by (a .args .b .now) (λ k. omega (arith, u .before .shared-slice-known .given k)) (a .pre) _ _ (_, _) (u .unpack .ensures) (c .reachable .ensures) (
+    loaded-by (a .args .b .now) (λ k. omega (arith, u .before .shared-slice-known .given k)) (a .pre) (u .unpack .ensures) (c .reachable .ensures) (
       rw (p .before .on .ensures) at (p .holds .ensures),
       rw (w .before .on2 .ensures) at (w .holds2 .ensures),
     )

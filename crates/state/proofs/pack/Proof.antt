@@ -6,13 +6,13 @@ use Rattle.state.proofs.pack.Tie as tie
 
 returns : tie.Need-returns
 returns c =
-    let p₃ = c .before .before in
-    let p₂ = p₃ .before .before .before .before in
-    let p₁ = p₂ .before .before .before .before in
-    let a = p₁ .before .before .before .before .before .before .args in
-    let f₁ = packed-start (a .s) (a .dst .now) _ (p₁ .pack .ensures) in
-    let f₂ = packed-then (a .s) (a .dst .now) peripheral _ _ f₁ (p₂ .pack2 .ensures) in
-    packed-done (a .s) (a .dst .now) _ (packed-then (a .s) (a .dst .now) wires _ _ f₂ (p₃ .pack3 .ensures))
+    let w = c .before .before in
+    let p = w .before .before .before .before in
+    let r = p .before .before .before .before in
+    let a = r .before .before .before .before .before .before .args in
+    let e₀ = packed-start (a .s) (a .dst .now) _ (r .pack .ensures) in
+    let e₁ = packed-then (a .s) (a .dst .now) peripheral _ _ e₀ (p .pack2 .ensures) in
+    packed-done (a .s) (a .dst .now) _ (packed-then (a .s) (a .dst .now) wires _ _ e₁ (w .pack3 .ensures))
 
 pub pack-spec : {M : Type 1} → statement M
 pack-spec = tie.close (tie.spec (λ c κs. search needs) (λ c κs. search needs) (λ c κs. search needs) (λ c. search needs) returns)
