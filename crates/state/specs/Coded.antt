@@ -20,14 +20,14 @@ use Rattle.state.specs.declared.Loaded.{Loaded}
 -- ---- `pack` by its callees: the registers' bytes, then a channel's behind all before it, to the last
 
 module _ (s : State) (l : List ℕ) where
-  pub packed-start : (m : List ℕ) → m ≡ put 0 (configBytes (s .config)) l → m ≡ over (configBytes (s .config)) l
-  packed-start m e = e ∙ put-first (configBytes (s .config)) l
+  pub packed-start : {m : List ℕ} → m ≡ put 0 (configBytes (s .config)) l → m ≡ over (configBytes (s .config)) l
+  packed-start e = e ∙ put-first (configBytes (s .config)) l
 
-  pub packed-then : (k : Channel) (m n : List ℕ) → m ≡ over (front k s) l → n ≡ put (place k) (partBytes k (part k s)) m → n ≡ over (front k s ++ partBytes k (part k s)) l
-  packed-then k m n e f = f ∙ ap (put (place k) (partBytes k (part k s))) e ∙ put-over (front k s) (partBytes k (part k s)) l (place k) (front-length k s)
+  pub packed-then : (k : Channel) {m n : List ℕ} → n ≡ put (place k) (partBytes k (part k s)) m → m ≡ over (front k s) l → n ≡ over (front k s ++ partBytes k (part k s)) l
+  packed-then k e f = e ∙ ap (put (place k) (partBytes k (part k s))) f ∙ put-over (front k s) (partBytes k (part k s)) l (place k) (front-length k s)
 
-  pub packed-done : (m : List ℕ) → m ≡ over (front last s ++ partBytes last (part last s)) l → m ≡ over (packed s) l
-  packed-done m e = e ∙ ap (λ (z : List ℕ). over z l) (sym (packed-ends s))
+  pub packed-done : {m : List ℕ} → m ≡ over (front last s ++ partBytes last (part last s)) l → m ≡ over (packed s) l
+  packed-done e = e ∙ ap (λ (z : List ℕ). over z l) (sym (packed-ends s))
 
 -- ---- `load` by its callees
 

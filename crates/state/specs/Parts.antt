@@ -91,7 +91,7 @@ part-fits wires l byte = refl
 -- bytes past the length do not matter
 pub part-same : (k : Channel) (a b : List ℕ) → ((n : ℕ) → n < stateLength → getD a n 0 ≡ getD b n 0) → partIn k a ≡ partIn k b
 part-same peripheral a b e = peripheral-same a b (λ n h. e n (omega arith))
-part-same wires a b e = wires-same a b e
+part-same wires a b e = wires-same a b (λ n h. e n (omega arith))
 
 -- tidy bytes are those of the part that they make, and a part's are tidy
 pub part-again : (k : Channel) (l : List ℕ) → ((n : ℕ) → getD l n 0 < 256) → tidyPart k l ≡ true → partBytes k (partIn k l) ≡ listed (size k) (place k) l

@@ -131,9 +131,9 @@ module _ {s : State} {c : Config} {l : List ℕ} {was is : Channels} {m : List �
   pub configured-start : was ≡ channelsOf (s .config) → is ≡ channelsOf c → Packs s l → m ≡ B.put 0 (configBytes c) l → Configured s c l was is (each (λ k q. q) c s) m
   configured-start ew ei h e = record { before = ew; after = ei; bytes = e ∙ config-stored s l l (unchanged s l h) c }
 
-  pub configured-then : {t : State} {n : List ℕ} (k : Channel) → Configured s c l was is t m → n ≡ edgeStored k (isOn k was) (isOn k is) (part k t) m
+  pub configured-then : {t : State} {n : List ℕ} (k : Channel) → n ≡ edgeStored k (isOn k was) (isOn k is) (part k t) m → Configured s c l was is t m
       → Configured s c l was is (put k (enableEdge k (isOn k was) (isOn k is) (part k t)) t) n
-  configured-then {t} {n} k h e = record { before = h .before; after = h .after; bytes = e ∙ edge-stored k t l m (isOn k was) (isOn k is) (h .bytes) }
+  configured-then {t} {n} k e h = record { before = h .before; after = h .after; bytes = e ∙ edge-stored k t l m (isOn k was) (isOn k is) (h .bytes) }
 
   pub configured-done : Configured s c l was is (each (λ k. enableEdge k (isOn k was) (isOn k is)) c s) m → m ≡ kept (reconfigured s c) l
   configured-done h =

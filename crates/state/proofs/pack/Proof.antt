@@ -1,4 +1,4 @@
-use Rattle.state.specs.Channel.{peripheral, wires}
+use Rattle.state.specs.Channel as K
 use Rattle.state.specs.Coded.{packed-start, packed-then, packed-done}
 use borrow.Author.Needs.{needs}
 use Rattle.state.proofs.pack.Statement.{statement}
@@ -9,10 +9,11 @@ returns c =
     let w = c .before .before in
     let p = w .before .before .before .before in
     let r = p .before .before .before .before in
-    let a = r .before .before .before .before .before .before .args in
-    let e₀ = packed-start (a .s) (a .dst .now) _ (r .pack .ensures) in
-    let e₁ = packed-then (a .s) (a .dst .now) peripheral _ _ e₀ (p .pack2 .ensures) in
-    packed-done (a .s) (a .dst .now) _ (packed-then (a .s) (a .dst .now) wires _ _ e₁ (w .pack3 .ensures))
+    let a = r .before .before .before .args in
+    packed-done (a .s) (a .dst .now)
+    (packed-then (a .s) (a .dst .now) K.wires (w .pack3 .ensures)
+    (packed-then (a .s) (a .dst .now) K.peripheral (p .pack2 .ensures)
+    (packed-start (a .s) (a .dst .now) (r .pack .ensures))))
 
 pub pack-spec : {M : Type 1} → statement M
 pack-spec = tie.close (tie.spec (λ c κs. search needs) (λ c κs. search needs) (λ c κs. search needs) (λ c. search needs) returns)

@@ -1,4 +1,4 @@
-use Rattle.rules.specs.Rules.Channel.{peripheral, wires}
+use Rattle.rules.specs.Rules.Channel as K
 use Rattle.engine.specs.Laws.Stored.{configured-start, configured-then, configured-done}
 use borrow.Author.Needs.{needs}
 use Rattle.engine.proofs.configuration.reconfigure.Statement.{statement}
@@ -9,10 +9,10 @@ returns c =
     let w = c .before .before in
     let p = w .before .before .before .before in
     let r = p .before .before .before .before in
-    let a = r .before .before .before .before .before in
-    let e₀ = configured-start (r .before .before .before .channels .ensures) (r .before .before .channels2 .ensures) (a .pre) (r .pack .ensures) in
-    let e₁ = configured-then peripheral e₀ (p .store-edge .ensures) in
-    configured-done (configured-then wires e₁ (w .store-edge2 .ensures))
+    configured-done
+    (configured-then K.wires (w .store-edge2 .ensures)
+    (configured-then K.peripheral (p .store-edge .ensures)
+    (configured-start (r .before .before .before .channels .ensures) (r .before .before .channels2 .ensures) (r .before .before .before .before .before .pre) (r .pack .ensures))))
 
 pub reconfigure-spec : {M : Type 1} → statement M
 reconfigure-spec =
