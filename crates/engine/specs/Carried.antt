@@ -8,11 +8,10 @@ use lib.ListN.{length, take}
 use Rattle.base.specs.Pick.{pick}
 use Rattle.base.specs.Bytes as B
 use Rattle.wires.specs.Groups.{enabled, disabled}
-use Rattle.wires.specs.Layout.{wiresBytes}
 use Rattle.command.specs.declared.Decoded.{Decoded}
 use Rattle.command.specs.declared.Decoded.the-variants.{Known, Refused}
 use Rattle.peripheral.specs.Queues.{dropped}
-use Rattle.peripheral.specs.Layout.{peripheralBytes}
+use Rattle.state.specs.Channel.{place, partBytes}
 use Rattle.state.specs.Sound.{sound}
 use Rattle.state.specs.Layout.{stateLength, packed, unpacked}
 use Rattle.state.specs.declared.State.{State}
@@ -53,8 +52,7 @@ carriedBy p st = carried (outgoing p) (kept (p .next) st)
 
 -- a channel's bytes at their place
 abbrev pub putPart : (k : Channel) → Part k → List ℕ → List ℕ
-putPart peripheral p l = B.put 12 (peripheralBytes p) l
-putPart wires w l = B.put 64 (wiresBytes w) l
+putPart k q l = B.put (place k) (partBytes k q) l
 
 -- those of a change with this number: a refused one stores none
 abbrev pub storedBy : (k : Channel) → ℕ → Part k → List ℕ → List ℕ

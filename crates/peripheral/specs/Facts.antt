@@ -22,7 +22,7 @@ use Rattle.peripheral.specs.declared.Posted.{Posted}
 use Rattle.peripheral.specs.declared.Write.{Write}
 use Rattle.peripheral.specs.declared.Write.the-variants.{Empty, Held}
 use Rattle.peripheral.specs.declared.Peripheral.{Peripheral}
-use Rattle.peripheral.specs.Sound.{within, shortSize, ioMade, madeAs, requestMade, sentRight, soundRequest, soundWrite, nothingHeld, fitsRequest}
+use Rattle.peripheral.specs.Sound.{within, shortSize, ioMade, madeAs, requestMade, sentRight, soundRequest, soundWrite, nothingHeld, soundPeripheral, fitsRequest}
 
 -- ---- sizes
 
@@ -281,6 +281,25 @@ nothing-held p e =
       write = no-write (p .write) (and-left (pcFree (p .write)) _ e);
       request = no-request (p .request) (and-right (pcFree (p .write)) _ e);
     }
+
+-- ---- the channel of a sound state, conjunct by conjunct
+
+pub record SoundOf (on : Bool) (p : Peripheral) : Type 0 where
+  pub held : on || nothingHeld p ≡ true
+  pub request : soundRequest (p .request) ≡ true
+  pub write : soundWrite (p .write) ≡ true
+
+pub sound-of : (on : Bool) (p : Peripheral) → soundPeripheral on p ≡ true → SoundOf on p
+sound-of on p e =
+    let r = and-right (on || nothingHeld p) _ e in
+    record {
+      held = and-left (on || nothingHeld p) _ e;
+      request = and-left (soundRequest (p .request)) _ r;
+      write = and-right (soundRequest (p .request)) _ r;
+    }
+
+pub off-of : (on : Bool) (p : Peripheral) → soundPeripheral on p ≡ true → on ≡ false → NothingHeld p
+off-of on p e off = nothing-held p (subst (λ (t : Bool). t || nothingHeld p ≡ true) off (sound-of on p e .held))
 
 -- ---- an answered request
 

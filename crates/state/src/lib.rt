@@ -39,12 +39,9 @@ pub fn pack(s: State, dst: &mut [u8])
     requires { ⌜ stateLength ≤ length (now dst) ⌝ }
     ensures { λ _. ⌜ now (dst .exit) ≡ over (packed s) (now (dst .entry)) ⌝ }
 {
-    let c = s.config;
-    let p = s.peripheral;
-    let w = s.wires;
-    c.pack(dst);
-    p.pack(dst);
-    w.pack(dst);
+    s.config.pack(dst);
+    s.peripheral.pack(dst);
+    s.wires.pack(dst);
 }
 
 // The state whose bytes stand at the start of `b`, sound or not.

@@ -10,9 +10,10 @@ returns c =
     let p = w .before .before in
     let u = p .before .before in
     let a = u .before .before in
-    holds-by (a .args .b .now) _ _ _ _ (λ k. omega (arith, u .before .shared-slice-known .given k)) (a .pre) (u .unpack .ensures) (c .reachable .ensures)
-    (rw (p .before .on .ensures) at (p .holds .ensures))
-    (rw (w .before .on2 .ensures) at (w .holds2 .ensures))
+    holds-by (a .args .b .now) (λ k. omega (arith, u .before .shared-slice-known .given k)) (a .pre) (u .unpack .ensures) (c .reachable .ensures) (
+      rw (p .before .on .ensures) at (p .holds .ensures),
+      rw (w .before .on2 .ensures) at (w .holds2 .ensures),
+    )
 
 pub holds-spec : {M : Type 1} → statement M
 holds-spec =
