@@ -1,40 +1,34 @@
+use mathlib.Core.Path.{refl, _∙_}
+use denote.Ref.{now}
+use Rattle.state.specs.Layout.{unpacked}
+use Rattle.rules.specs.Rules.Peripheral as P
+use Rattle.rules.specs.Rules.Channel.{peripheral}
+use Rattle.engine.specs.Laws.Stored.{acting-stays}
+use Rattle.engine.specs.Laws.Loaded.{peripheral-there, decided-there, acted-carried}
 use borrow.Author.Needs.{needs}
 use Rattle.engine.proofs.act_peripheral.Statement.{statement}
 use Rattle.engine.proofs.act_peripheral.Tie as tie
-use Rattle.engine.proofs.act_peripheral.Reads as reads
-use Rattle.engine.proofs.act_peripheral.Lts as lts
-use Rattle.engine.proofs.peripheral_channel.decide.Reads as decide-reads
-use Rattle.engine.proofs.reply_with.Reads as reply-with-reads
-use Rattle.peripheral.proofs.Peripheral.status_in.Reads as Peripheral-status-in-reads
-use Rattle.wires.proofs.Wires.status_in.Reads as Wires-status-in-reads
 
--- src/lib.rt:95:9
 status-in-requires : tie.Need-status-in-requires
 status-in-requires c κs = search needs
 
--- src/lib.rt:96:9
 decide-requires : tie.Need-decide-requires
-decide-requires c κs = ?
+decide-requires c κs = let p = c .before .before .before .before .before .pre in let t = peripheral-there (now (c .before .before .before .before .before .args .state)) (p .0) (c .before .before .before .before .before .args .c) (p .1) in (t .0, t .1, t .2, t .3, p .2)
 
--- src/lib.rt:101:32
 status-in-requires-2 : tie.Need-status-in-requires-2
 status-in-requires-2 c κs = search needs
 
--- src/lib.rt:101:32
 add-reply-with : tie.Need-add-reply-with
 add-reply-with c = search needs
 
--- src/lib.rt:101:16
 reply-with-requires : tie.Need-reply-with-requires
 reply-with-requires c κs = search needs
 
--- src/lib.rt:91:1
 same-length : tie.Need-same-length
 same-length c = search needs
 
--- src/lib.rt:91:1
 returns : tie.Need-returns
-returns c = ?
+returns c = let a = c .before .before .before .before .before .before .before .before .before .before .before .args in let l = now (a .state) in let p = c .before .before .before .before .before .before .before .before .before .before .before .pre in let e = decided-there l (a .c) (a .o) (now (a .b)) (p .1) in acted-carried l (P.acting (unpacked l .config) (unpacked l .peripheral) (P.actOf (unpacked l .config) (a .o) (now (a .b)))) (p .0) (acting-stays peripheral (unpacked l) (P.actOf (unpacked l .config) (a .o) (now (a .b))) _ refl) _ _ _ _ _ (c .before .before .before .before .before .decide .ensures ∙ e) (c .before .status-in2 .ensures .0) (c .before .before .before .before .before .before .before .status-in .ensures .0) (c .reply-with .ensures)
 
 pub act-peripheral-spec : {M : Type 1} → statement M
 act-peripheral-spec =

@@ -23,6 +23,8 @@ use Rattle.state.specs.Status.{status}
 use Rattle.state.specs.Layout.{stateLength, packed, unpacked}
 use Rattle.state.specs.Facts.{sound-config, sound-request, sound-wires}
 use Rattle.state.specs.declared.State.{State}
+use Rattle.command.specs.declared.PeripheralCommand.{PeripheralCommand}
+use Rattle.rules.specs.Rules.Peripheral as P
 use Rattle.rules.specs.Rules.Channel as C
 use Rattle.rules.specs.Rules.Channel.{peripheral, wires}
 use Rattle.rules.specs.Rules.Lift.{lift, show, withStatus}
@@ -78,6 +80,13 @@ module _ (l : List ℕ) (h : Loadable l) where
         ap reachable e ∙ sound-config (unpacked l) (h .good),
         ap (λ (z : Config). soundWires (on1 (z .r020)) w) e ∙ ap (soundWires (on1 (configIn l .r020))) f ∙ sound-wires (unpacked l) (h .good),
       )
+
+-- channel 0's decision over its bytes is that over the state that they hold
+pub decided-there : (l : List ℕ) (c : Config) (o : PeripheralCommand) (b : List ℕ) → c ≡ unpacked l .config
+    → changedBy peripheral (P.decide c (peripheralIn l) o b) l
+    ≡ changedBy peripheral (P.acting (unpacked l .config) (unpacked l .peripheral) (P.actOf (unpacked l .config) o b)) l
+unfolding P.decide unpacked
+decided-there l c o b e = ap (λ (z : Config). changedBy peripheral (P.acting z (peripheralIn l) (P.actOf z o b)) l) e
 
 -- ---- the status word, a part of it read off the bytes
 

@@ -1,66 +1,53 @@
+use mathlib.Core.Path.{refl, _∙_}
+use denote.Ref.{now}
+use Rattle.peripheral.specs.Layout.{peripheralIn}
+use Rattle.peripheral.specs.Stored.{stored-asking}
+use Rattle.peripheral.specs.declared.Np.the-variants.{Waiting}
+use Rattle.rules.specs.Rules.Out as O
+use Rattle.rules.specs.Rules.Peripheral as P
+use Rattle.engine.specs.Laws.Peripheral.{ask-held, ask-large, ask-done, size-pos, refused-there, stored-there}
 use borrow.Author.Needs.{needs}
 use Rattle.engine.proofs.peripheral_channel.ask.Statement.{statement}
 use Rattle.engine.proofs.peripheral_channel.ask.Tie as tie
-use Rattle.engine.proofs.peripheral_channel.ask.Reads as reads
-use Rattle.engine.proofs.peripheral_channel.ask.Lts as lts
-use Rattle.engine.proofs.out.defer.Reads as defer-reads
-use Rattle.engine.proofs.out.fatal.Reads as fatal-reads
-use Rattle.engine.proofs.peripheral_channel.size_for.Reads as size-for-reads
-use Rattle.peripheral.proofs.Peripheral.takes_request.Reads as takes-request-reads
-use Rattle.peripheral.proofs.Peripheral.wait.Reads as wait-reads
-use Rattle.peripheral.proofs.within.Reads as within-reads
 
--- src/peripheral_channel.rt:115:9
 takes-request-requires : tie.Need-takes-request-requires
 takes-request-requires c κs = search needs
 
--- src/peripheral_channel.rt:116:9
 fatal-requires : tie.Need-fatal-requires
 fatal-requires c κs = search needs
 
--- src/peripheral_channel.rt:116:9
 same-length : tie.Need-same-length
 same-length c = search needs
 
--- src/peripheral_channel.rt:116:9
 returns : tie.Need-returns
-returns c = ?
+returns c = let a = c .before .before .before .before .before .args in let p = peripheralIn (now (a .state)) in refused-there (now (a .state)) _ p _ (ask-held p (a .q) _ _ (c .before .before .takes-request .ensures) (c .before .if1 .taken) refl) (c .fatal .ensures) refl
 
--- src/peripheral_channel.rt:118:9
 size-for-requires : tie.Need-size-for-requires
 size-for-requires c κs = search needs
 
--- src/peripheral_channel.rt:119:9
 within-requires : tie.Need-within-requires
-within-requires c κs = ?
+within-requires c κs = let q = c .before .before .before .before .before .args .q in rw (c .size-for .ensures) (size-pos q (q .kind) (c .before .before .before .before .before .pre .2) (c .before .before .before .before .before .pre .3))
 
--- src/peripheral_channel.rt:120:9
 fatal-requires-2 : tie.Need-fatal-requires-2
 fatal-requires-2 c κs = search needs
 
--- src/peripheral_channel.rt:120:9
 same-length-2 : tie.Need-same-length-2
 same-length-2 c = search needs
 
--- src/peripheral_channel.rt:120:9
 returns-2 : tie.Need-returns-2
-returns-2 c = ?
+returns-2 c = let a = c .before .before .before .before .before .before .before .before .args in let p = peripheralIn (now (a .state)) in refused-there (now (a .state)) _ p _ (ask-large p (a .q) _ _ _ _ (c .before .before .before .before .before .takes-request .ensures) (c .before .before .before .before .if1 .left) (c .before .before .before .size-for .ensures) (c .before .before .within .ensures) (c .before .if2 .taken) refl) (c .fatal2 .ensures) refl
 
--- src/peripheral_channel.rt:122:5
 wait-requires : tie.Need-wait-requires
 wait-requires c κs = search needs
 
--- src/peripheral_channel.rt:123:5
 defer-requires : tie.Need-defer-requires
 defer-requires c κs = search needs
 
--- src/peripheral_channel.rt:111:1
 same-length-3 : tie.Need-same-length-3
 same-length-3 c = search needs
 
--- src/peripheral_channel.rt:111:1
 returns-3 : tie.Need-returns-3
-returns-3 c = ?
+returns-3 c = let a = c .before .before .before .before .before .before .before .before .before .before .before .before .args in let l = now (a .state) in let p = peripheralIn l in stored-there l _ (P.asking p (a .q)) _ O.defer refl (ask-done p (a .q) _ _ _ _ _ (c .before .before .before .before .before .before .before .before .before .takes-request .ensures) (c .before .before .before .before .before .before .before .before .if1 .left) (c .before .before .before .before .before .before .before .size-for .ensures) (c .before .before .before .before .before .before .within .ensures) (c .before .before .before .before .before .if2 .left) refl refl) (c .defer .ensures) (c .before .before .before .wait .ensures ∙ stored-asking p l (c .before .before .before .before .before .before .before .before .before .before .before .before .pre .1) (Waiting (a .q)) (P.nextSerial (p .serial)))
 
 pub ask-spec : {M : Type 1} → statement M
 ask-spec =

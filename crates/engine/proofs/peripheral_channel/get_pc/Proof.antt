@@ -1,47 +1,43 @@
+use mathlib.Core.Path.{refl, sym, _∙_}
+use denote.Ref.{now}
+use Rattle.peripheral.specs.Layout.{peripheralIn}
+use Rattle.peripheral.specs.Upward.{handed}
+use Rattle.peripheral.specs.Stored.{stored-request, handed-none, handed-one}
+use Rattle.rules.specs.Rules.Out as O
+use Rattle.rules.specs.Rules.Peripheral as P
+use Rattle.rules.specs.declared.Body.the-variants as B
+use Rattle.rules.specs.declared.Kept.the-variants as K
+use Rattle.engine.specs.Laws.Peripheral.{get-none, get-one, refused-there, stored-there}
 use borrow.Author.Needs.{needs}
 use Rattle.engine.proofs.peripheral_channel.get_pc.Statement.{statement}
 use Rattle.engine.proofs.peripheral_channel.get_pc.Tie as tie
-use Rattle.engine.proofs.peripheral_channel.get_pc.Reads as reads
-use Rattle.engine.proofs.peripheral_channel.get_pc.Lts as lts
-use Rattle.engine.proofs.out.accept.Reads as accept-reads
-use Rattle.engine.proofs.out.fatal.Reads as fatal-reads
-use Rattle.peripheral.proofs.Peripheral.hand_over.Reads as hand-over-reads
 
--- src/peripheral_channel.rt:168:9
 hand-over-requires : tie.Need-hand-over-requires
 hand-over-requires c κs = search needs
 
--- src/peripheral_channel.rt:170:26
 enum-told : tie.Need-enum-told
 enum-told c = search needs
 
--- src/peripheral_channel.rt:170:26
 fatal-requires : tie.Need-fatal-requires
 fatal-requires c κs = search needs
 
--- src/peripheral_channel.rt:171:19
 enum-known-up : tie.Need-enum-known-up
 enum-known-up c = search needs
 
--- src/peripheral_channel.rt:171:25
 accept-requires : tie.Need-accept-requires
 accept-requires c κs = search needs
 
--- src/peripheral_channel.rt:164:1
 same-length : tie.Need-same-length
 same-length c = search needs
 
--- src/peripheral_channel.rt:164:1
 returns : tie.Need-returns
-returns c = ?
+returns c = let l = now (c .before .before .before .before .before .before .before .before .args .state) in let p = peripheralIn l in let h = c .before .before .before .before .before .hand-over .ensures in refused-there l _ p _ (get-none p _ _ (h .0) (c .before .enum-told .given .1) refl) (c .fatal .ensures) (h .1 ∙ handed-none (p .request) l (sym (h .0) ∙ c .before .enum-told .given .1))
 
--- src/peripheral_channel.rt:164:1
 same-length-2 : tie.Need-same-length-2
 same-length-2 c = search needs
 
--- src/peripheral_channel.rt:164:1
 returns-2 : tie.Need-returns-2
-returns-2 c = ?
+returns-2 c = let l = now (c .before .before .before .before .before .before .before .before .before .args .state) in let p = peripheralIn l in let h = c .before .before .before .before .before .before .hand-over .ensures in let u = c .before .before .up .given in stored-there l _ (P.withRequest p (handed (p .request))) _ (O.accept (B.Piece (u .0 .0)) K.Nothing) refl (get-one p _ _ _ _ _ (h .0) (u .1) refl refl refl) (c .accept .ensures) (h .1 ∙ handed-one (p .request) l (u .0 .0) (sym (h .0) ∙ u .1) ∙ stored-request p l (c .before .before .before .before .before .before .before .before .before .pre .1) (handed (p .request)))
 
 pub get-pc-spec : {M : Type 1} → statement M
 get-pc-spec =

@@ -1,66 +1,55 @@
+use mathlib.Core.Path.{refl, _∙_}
+use denote.Ref.{now}
+use Rattle.peripheral.specs.Layout.{peripheralIn}
+use Rattle.peripheral.specs.Stored.{stored-write}
+use Rattle.peripheral.specs.declared.Write.the-variants.{Held}
+use Rattle.rules.specs.Rules.Out as O
+use Rattle.rules.specs.Rules.Peripheral as P
+use Rattle.rules.specs.declared.Body.the-variants as B
+use Rattle.rules.specs.declared.Kept.the-variants as K
+use Rattle.engine.specs.Laws.Peripheral.{payload-pos, post-held, post-large, post-done, refused-there, stored-there}
 use borrow.Author.Needs.{needs}
 use Rattle.engine.proofs.peripheral_channel.post.Statement.{statement}
 use Rattle.engine.proofs.peripheral_channel.post.Tie as tie
-use Rattle.engine.proofs.peripheral_channel.post.Reads as reads
-use Rattle.engine.proofs.peripheral_channel.post.Lts as lts
-use Rattle.engine.proofs.out.accept.Reads as accept-reads
-use Rattle.engine.proofs.out.fatal.Reads as fatal-reads
-use Rattle.peripheral.proofs.Peripheral.hold.Reads as hold-reads
-use Rattle.peripheral.proofs.Peripheral.takes_write.Reads as takes-write-reads
-use Rattle.peripheral.proofs.within.Reads as within-reads
-use Rattle.registers.proofs.Reg010.payload_size.Reads as payload-size-reads
 
--- src/peripheral_channel.rt:64:9
 takes-write-requires : tie.Need-takes-write-requires
 takes-write-requires c κs = search needs
 
--- src/peripheral_channel.rt:65:9
 fatal-requires : tie.Need-fatal-requires
 fatal-requires c κs = search needs
 
--- src/peripheral_channel.rt:65:9
 same-length : tie.Need-same-length
 same-length c = search needs
 
--- src/peripheral_channel.rt:65:9
 returns : tie.Need-returns
-returns c = ?
+returns c = let a = c .before .before .before .before .before .args in let p = peripheralIn (now (a .state)) in refused-there (now (a .state)) _ p _ (post-held (a .c) p (a .address) (a .length) (a .from) _ _ (c .before .before .takes-write .ensures) (c .before .if1 .taken) refl) (c .fatal .ensures) refl
 
--- src/peripheral_channel.rt:68:9
 payload-size-requires : tie.Need-payload-size-requires
 payload-size-requires c κs = search needs
 
--- src/peripheral_channel.rt:69:9
 within-requires : tie.Need-within-requires
-within-requires c κs = ?
+within-requires c κs = rw (c .payload-size .ensures) (payload-pos (c .before .before .before .before .before .before .args .c) (c .before .before .before .before .before .before .pre .2))
 
--- src/peripheral_channel.rt:70:9
 fatal-requires-2 : tie.Need-fatal-requires-2
 fatal-requires-2 c κs = search needs
 
--- src/peripheral_channel.rt:70:9
 same-length-2 : tie.Need-same-length-2
 same-length-2 c = search needs
 
--- src/peripheral_channel.rt:70:9
 returns-2 : tie.Need-returns-2
-returns-2 c = ?
+returns-2 c = let a = c .before .before .before .before .before .before .before .before .before .args in let p = peripheralIn (now (a .state)) in refused-there (now (a .state)) _ p _ (post-large (a .c) p (a .address) (a .length) (a .from) _ _ _ _ (c .before .before .before .before .before .before .takes-write .ensures) (c .before .before .before .before .before .if1 .left) (c .before .before .before .payload-size .ensures) (c .before .before .within .ensures) (c .before .if2 .taken) refl) (c .fatal2 .ensures) refl
 
--- src/peripheral_channel.rt:77:5
 hold-requires : tie.Need-hold-requires
 hold-requires c κs = search needs
 
--- src/peripheral_channel.rt:78:5
 accept-requires : tie.Need-accept-requires
 accept-requires c κs = search needs
 
--- src/peripheral_channel.rt:60:1
 same-length-3 : tie.Need-same-length-3
 same-length-3 c = search needs
 
--- src/peripheral_channel.rt:60:1
 returns-3 : tie.Need-returns-3
-returns-3 c = ?
+returns-3 c = let a = c .before .before .before .before .before .before .before .before .before .before .before .before .before .args in let l = now (a .state) in let p = peripheralIn l in let n = c .before .before .before .before .before .before .before .payload-size .result in stored-there l _ (P.holding p (a .address) (a .length) n) _ (O.accept B.Nothing (K.Data (a .from) (a .length))) refl (post-done (a .c) p (a .address) (a .length) (a .from) _ _ _ _ _ (c .before .before .before .before .before .before .before .before .before .before .takes-write .ensures) (c .before .before .before .before .before .before .before .before .before .if1 .left) (c .before .before .before .before .before .before .before .payload-size .ensures) (c .before .before .before .before .before .before .within .ensures) (c .before .before .before .before .before .if2 .left) refl refl) (c .accept .ensures) (c .before .before .before .hold .ensures ∙ stored-write p l (c .before .before .before .before .before .before .before .before .before .before .before .before .before .pre .1) (Held (record { address = a .address; length = a .length; payload = n })))
 
 pub post-spec : {M : Type 1} → statement M
 post-spec =

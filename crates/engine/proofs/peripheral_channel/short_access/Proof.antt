@@ -1,96 +1,80 @@
+use Prim.Native.Nat.{ℕ}
+use mathlib.Core.Path.{ap, sym, subst, _∙_}
+use native.Mathlib.Omega.{arith}
+use denote.Ref.{now}
+use Rattle.command.specs.Facts.{PeripheralFits}
+use Rattle.command.specs.declared.Access.{Access}
+use Rattle.command.specs.declared.PeripheralCommand.the-variants.{Short}
+use Rattle.peripheral.specs.Layout.{peripheralIn}
+use Rattle.peripheral.specs.declared.Kind.the-variants as R
+use Rattle.rules.specs.Rules.Peripheral.{ask, acting, shortAct, requestOf}
+use Rattle.engine.specs.Laws.Peripheral.{request-sizes, as-change}
 use borrow.Author.Needs.{needs}
 use Rattle.engine.proofs.peripheral_channel.short_access.Statement.{statement}
 use Rattle.engine.proofs.peripheral_channel.short_access.Tie as tie
-use Rattle.engine.proofs.peripheral_channel.short_access.Reads as reads
-use Rattle.engine.proofs.peripheral_channel.short_access.Lts as lts
-use Rattle.engine.proofs.peripheral_channel.ask.Reads as ask-reads
-use Rattle.engine.proofs.peripheral_channel.bytes_of.Reads as bytes-of-reads
-use Rattle.engine.proofs.peripheral_channel.post.Reads as post-reads
-use Rattle.engine.proofs.peripheral_channel.request_of.Reads as request-of-reads
 
--- src/peripheral_channel.rt:144:13
 cast-n : tie.Need-cast-n
 cast-n c = search needs
 
--- src/peripheral_channel.rt:146:45
 enum-told : tie.Need-enum-told
 enum-told c = search needs
 
--- src/peripheral_channel.rt:146:31
 request-of-requires : tie.Need-request-of-requires
 request-of-requires c κs = search needs
 
--- src/peripheral_channel.rt:146:27
 ask-requires : tie.Need-ask-requires
-ask-requires c κs = ?
+ask-requires c κs = let a = c .before .before .before .before .before .before .before .args in let s = request-sizes (a .c) (c .before .before .before .before .before .before .before .pre .2) (c .before .request-of .result) R.IoRead (a .at .address) (a .at .size) 0 0 (c .before .request-of .ensures) in (c .before .before .before .before .before .before .before .pre .0, c .before .before .before .before .before .before .before .pre .1, s .0, s .1)
 
--- src/peripheral_channel.rt:148:17
 enum-told-2 : tie.Need-enum-told-2
 enum-told-2 c = search needs
 
--- src/peripheral_channel.rt:148:17
 bytes-of-requires : tie.Need-bytes-of-requires
-bytes-of-requires c κs = ?
+bytes-of-requires c κs = let a = c .before .before .before .before .before .args in let f = subst (λ (z : Access). PeripheralFits (Short z (a .at)) (now (a .b))) (c .enum-told2 .given .1) (c .before .before .before .before .before .pre .3) in (omega (arith, f .0), f .1 .size)
 
--- src/peripheral_channel.rt:150:17
 request-of-requires-2 : tie.Need-request-of-requires-2
 request-of-requires-2 c κs = search needs
 
--- src/peripheral_channel.rt:149:13
 ask-requires-2 : tie.Need-ask-requires-2
-ask-requires-2 c κs = ?
+ask-requires-2 c κs = let a = c .before .before .before .before .before .before .before .before .args in let s = request-sizes (a .c) (c .before .before .before .before .before .before .before .before .pre .2) (c .before .request-of2 .result) R.IoWrite (a .at .address) (a .at .size) 0 (c .before .before .bytes-of .result) (c .before .request-of2 .ensures) in (c .before .before .before .before .before .before .before .before .pre .0, c .before .before .before .before .before .before .before .before .pre .1, s .0, s .1)
 
--- src/peripheral_channel.rt:155:27
 enum-told-3 : tie.Need-enum-told-3
 enum-told-3 c = search needs
 
--- src/peripheral_channel.rt:155:13
 request-of-requires-3 : tie.Need-request-of-requires-3
 request-of-requires-3 c κs = search needs
 
--- src/peripheral_channel.rt:154:31
 ask-requires-3 : tie.Need-ask-requires-3
-ask-requires-3 c κs = ?
+ask-requires-3 c κs = let a = c .before .before .before .before .before .before .before .args in let s = request-sizes (a .c) (c .before .before .before .before .before .before .before .pre .2) (c .before .request-of3 .result) R.MemoryRead (a .at .address) (a .at .size) 0 0 (c .before .request-of3 .ensures) in (c .before .before .before .before .before .before .before .pre .0, c .before .before .before .before .before .before .before .pre .1, s .0, s .1)
 
--- src/peripheral_channel.rt:158:58
 enum-told-4 : tie.Need-enum-told-4
 enum-told-4 c = search needs
 
--- src/peripheral_channel.rt:158:32
 post-requires : tie.Need-post-requires
 post-requires c κs = search needs
 
--- src/peripheral_channel.rt:140:1
 same-length : tie.Need-same-length
 same-length c = search needs
 
--- src/peripheral_channel.rt:140:1
 returns : tie.Need-returns
-returns c = ?
+returns c = let a = c .before .before .before .before .before .before .before .before .before .before .args in let p = peripheralIn (now (a .state)) in as-change (c .before .before .ask .ensures) (ap (ask p) (c .before .before .before .before .request-of .ensures) ∙ ap (λ (z : Access). acting (a .c) p (shortAct (a .c) z (a .at) (now (a .b)))) (sym (c .before .before .before .before .before .enum-told .given .1)))
 
--- src/peripheral_channel.rt:140:1
 same-length-2 : tie.Need-same-length-2
 same-length-2 c = search needs
 
--- src/peripheral_channel.rt:140:1
 returns-2 : tie.Need-returns-2
-returns-2 c = ?
+returns-2 c = let a = c .before .before .before .before .before .before .before .before .before .before .before .args in let p = peripheralIn (now (a .state)) in as-change (c .before .before .ask2 .ensures) (ap (ask p) (c .before .before .before .before .request-of2 .ensures ∙ ap (λ (z : ℕ). requestOf (a .c) R.IoWrite (a .at .address) (a .at .size) 0 z) (c .before .before .before .before .before .bytes-of .ensures)) ∙ ap (λ (z : Access). acting (a .c) p (shortAct (a .c) z (a .at) (now (a .b)))) (sym (c .before .before .before .before .before .before .enum-told2 .given .1)))
 
--- src/peripheral_channel.rt:140:1
 same-length-3 : tie.Need-same-length-3
 same-length-3 c = search needs
 
--- src/peripheral_channel.rt:140:1
 returns-3 : tie.Need-returns-3
-returns-3 c = ?
+returns-3 c = let a = c .before .before .before .before .before .before .before .before .before .before .args in let p = peripheralIn (now (a .state)) in as-change (c .before .before .ask3 .ensures) (ap (ask p) (c .before .before .before .before .request-of3 .ensures) ∙ ap (λ (z : Access). acting (a .c) p (shortAct (a .c) z (a .at) (now (a .b)))) (sym (c .before .before .before .before .before .enum-told3 .given .1)))
 
--- src/peripheral_channel.rt:140:1
 same-length-4 : tie.Need-same-length-4
 same-length-4 c = search needs
 
--- src/peripheral_channel.rt:140:1
 returns-4 : tie.Need-returns-4
-returns-4 c = ?
+returns-4 c = let a = c .before .before .before .before .before .before .before .before .before .args in let p = peripheralIn (now (a .state)) in as-change (c .before .before .post .ensures) (ap (λ (z : Access). acting (a .c) p (shortAct (a .c) z (a .at) (now (a .b)))) (sym (c .before .before .before .before .enum-told4 .given .1)))
 
 pub short-access-spec : {M : Type 1} → statement M
 short-access-spec =
