@@ -5,7 +5,7 @@ use mathlib.Core.Bool.{Bool, true, false, _&&_, not}
 use mathlib.Core.Path.{_≡_, refl, ap, sym, subst}
 use native.Mathlib.Omega.{arith}
 use lib.Dec.{eqb, lit<}
-use borrow.Author.Tests.{eq-eqb, eqb-true}
+use borrow.Author.Tests.{eq-eqb}
 use Rattle.base.specs.Pick.{pick, and-left, and-right, and-true}
 use Rattle.registers.specs.declared.Reg008.{Reg008}
 use Rattle.registers.specs.declared.Reg010.{Reg010}
@@ -14,7 +14,7 @@ use Rattle.registers.specs.declared.Config.{Config}
 use Rattle.registers.specs.Registers.{masked, readied, reset008, reset010, reset020, writable008, writable010, writable020, forbidden008, forbidden010, forbidden020, write008, write010, write020, fresh008, fresh010, fresh020, freshConfig, forbiddenAt, writeAt, reachable008, reachable010, reachable020, reachable}
 use Rattle.registers.specs.Masks.{own-again, ready-again}
 pub use Rattle.registers.specs.Fields.{field-kept, field-written, masked-fits, bit-zero, Written008, written008, Written010, written010, Written020, written020, crc-written, on0-written, payload-written, read-written, on1-written, count-written}
-pub use Rattle.registers.specs.Sizes.{at-equal, sizes, payload-legal, read-legal, payload-cases, read-cases, count-range}
+pub use Rattle.registers.specs.Sizes.{own008, own010, own020, at-equal, sizes, payload-legal, read-legal, payload-cases, read-cases, count-range}
 
 -- ---- a write by its address
 
@@ -63,8 +63,17 @@ fits-write c a v h l =
 
 -- ---- reachable values stay so
 
-pub reachable-fresh : reachable freshConfig ≡ true
-reachable-fresh = refl
+pub fresh-008 : reachable008 (fresh008 .value) ≡ true
+unfolding reachable008
+fresh-008 = refl
+
+pub fresh-010 : reachable010 (fresh010 .value) ≡ true
+unfolding reachable010
+fresh-010 = refl
+
+pub fresh-020 : reachable020 (fresh020 .value) ≡ true
+unfolding reachable020
+fresh-020 = refl
 
 -- each register of a reachable configuration, and back
 module _ (c : Config) where
@@ -89,30 +98,30 @@ module _ (c : Config) where
   pub reachable-all : reachable008 (c .r008 .value) ≡ true → reachable010 (c .r010 .value) ≡ true → reachable020 (c .r020 .value) ≡ true → reachable c ≡ true
   reachable-all e f g = and-true {a = r8 && r10} {b = r20} (and-true {a = r8} {b = r10} e f) g
 
--- another value that its own write leaves, and that is not forbidden
-again : (p q x y : ℕ) (f g : Bool) → (p ≡ q → x ≡ y) → eqb p q && not f ≡ true → g ≡ false → eqb x y && not g ≡ true
-again p q x y f g k h e = and-true {a = eqb x y} {b = not g} (eq-eqb x y (k (eqb-true p q (and-left (eqb p q) (not f) h)))) (ap not e)
+pub reachable-fresh : reachable freshConfig ≡ true
+reachable-fresh = reachable-all freshConfig fresh-008 fresh-010 fresh-020
+
+-- a write that is not forbidden: its own write leaves what it makes, and the fields that are tested are the value's
+made : (x y : ℕ) (f : Bool) → x ≡ y → f ≡ false → eqb x y && not f ≡ true
+made x y f e h = and-true (eq-eqb x y e) (ap not h)
 
 pub reachable-write008 : (r : Reg008) (v : ℕ) → reachable008 (r .value) ≡ true → forbidden008 v ≡ false → reachable008 (write008 r v .value) ≡ true
+unfolding reachable008
 reachable-write008 r v h f =
     let w = written008 r v in
-    let x = write008 r v .value in
-    again (write008 fresh008 (r .value) .value) (r .value) (write008 fresh008 x .value) x (forbidden008 (r .value)) (forbidden008 x)
-    (own-again writable008 refl reset008 (r .value) v) h (rw (w .ioMode, w .frequency) f)
+    made _ _ (forbidden008 (write008 r v .value)) (own-again writable008 refl reset008 (r .value) v (sym (own008 (r .value) h .1))) (rw (w .ioMode, w .frequency) f)
 
 pub reachable-write010 : (r : Reg010) (v : ℕ) → reachable010 (r .value) ≡ true → forbidden010 v ≡ false → reachable010 (write010 r v .value) ≡ true
+unfolding reachable010
 reachable-write010 r v h f =
     let w = written010 r v in
-    let x = write010 r v .value in
-    again (write010 fresh010 (r .value) .value) (r .value) (write010 fresh010 x .value) x (forbidden010 (r .value)) (forbidden010 x)
-    (ready-again writable010 refl refl refl refl refl refl refl reset010 (r .value) v) h (rw (w .readCode, w .payloadCode) f)
+    made _ _ (forbidden010 (write010 r v .value)) (ready-again writable010 refl refl refl refl refl refl refl reset010 (r .value) v (sym (own010 (r .value) h .1))) (rw (w .readCode, w .payloadCode) f)
 
 pub reachable-write020 : (r : Reg020) (v : ℕ) → reachable020 (r .value) ≡ true → forbidden020 v ≡ false → reachable020 (write020 r v .value) ≡ true
+unfolding reachable020
 reachable-write020 r v h f =
     let w = written020 r v in
-    let x = write020 r v .value in
-    again (write020 fresh020 (r .value) .value) (r .value) (write020 fresh020 x .value) x (forbidden020 (r .value)) (forbidden020 x)
-    (ready-again writable020 refl refl refl refl refl refl refl reset020 (r .value) v) h (rw (w .count) f)
+    made _ _ (forbidden020 (write020 r v .value)) (ready-again writable020 refl refl refl refl refl refl refl reset020 (r .value) v (sym (own020 (r .value) h .1))) (rw (w .count) f)
 
 pub reachable-write : (c : Config) (a v : ℕ) → reachable c ≡ true → forbiddenAt a v ≡ false → reachable (writeAt c a v) ≡ true
 reachable-write c a v h =

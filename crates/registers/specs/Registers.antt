@@ -160,13 +160,13 @@ writeAt c a v =
 
 -- ---- reachable values (01, Sound state): what a write that is not forbidden makes of the reset value
 
-abbrev pub reachable008 : ℕ → Bool
+unfoldable pub reachable008 : ℕ → Bool
 reachable008 v = eqb (write008 fresh008 v .value) v && not (forbidden008 v)
 
-abbrev pub reachable010 : ℕ → Bool
+unfoldable pub reachable010 : ℕ → Bool
 reachable010 v = eqb (write010 fresh010 v .value) v && not (forbidden010 v)
 
-abbrev pub reachable020 : ℕ → Bool
+unfoldable pub reachable020 : ℕ → Bool
 reachable020 v = eqb (write020 fresh020 v .value) v && not (forbidden020 v)
 
 abbrev pub reachable : Config → Bool

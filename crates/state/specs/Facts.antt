@@ -3,6 +3,7 @@ use mathlib.Core.Bool.{true, false}
 use mathlib.Core.Path.{_≡_, refl}
 use Rattle.base.specs.Pick.{and-left, and-right, and-true}
 use Rattle.registers.specs.Registers.{on0, on1, reachable}
+use Rattle.registers.specs.Laws.{reachable-fresh}
 use Rattle.registers.specs.Layout.{fitsConfig, config-fitting, fitting-config}
 use Rattle.registers.specs.Laws.{Fitting}
 use Rattle.wires.specs.Groups.{soundWires}
@@ -66,4 +67,4 @@ fit-made s p = and-true (fitting-config (s .config) (p .config)) (true-all (λ k
 
 pub fresh-sound : Sound freshState
 unfolding sound fits soundRequest soundWrite
-fresh-sound = record { isSound = refl; isFit = refl }
+fresh-sound = record { isSound = and-true reachable-fresh refl; isFit = refl }

@@ -1,8 +1,10 @@
 use borrow.Author.Needs.{needs}
+use Rattle.registers.specs.Registers.{reachable020}
 use Rattle.registers.proofs.reachable_020.Statement.{statement}
 use Rattle.registers.proofs.reachable_020.Tie as tie
 
 returns : tie.Need-returns
+unfolding reachable020
 returns c = rw (c .bad020 .ensures, c .before .before .write .ensures, c .before .before .before .fresh .ensures)
 
 pub reachable-020-spec : {M : Type 1} → statement M
