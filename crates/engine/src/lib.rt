@@ -215,12 +215,7 @@ pub fn answer(serial: u32, success: u32, bytes: &[u8], state: &mut [u8]) -> Outg
     ensures { λ r. ⌜ carried r (now (state .exit)) ≡ carriedBy (lift peripheral (unpacked (now (state .entry))) (answerTo (unpacked (now (state .entry)) .peripheral) serial (succeeded success) (length (now (bytes .entry))))) (now (state .entry)) ⌝ }
 {
     lift_peripheral(
-        peripheral_channel::answer_to(
-            Peripheral::unpack(state),
-            serial,
-            success != 0,
-            bytes.len(),
-        ),
+        peripheral_channel::answer_to(Peripheral::unpack(state), serial, success != 0, bytes.len()),
         state,
     )
 }
@@ -230,10 +225,7 @@ pub fn take_write(state: &mut [u8]) -> Outgoing
     requires { ⌜ Loadable (now state) ⌝ }
     ensures { λ r. ⌜ carried r (now (state .exit)) ≡ carriedBy (lift peripheral (unpacked (now (state .entry))) (taken (unpacked (now (state .entry)) .peripheral))) (now (state .entry)) ⌝ }
 {
-    lift_peripheral(
-        peripheral_channel::taken(Peripheral::unpack(state)),
-        state,
-    )
+    lift_peripheral(peripheral_channel::taken(Peripheral::unpack(state)), state)
 }
 
 // The board sets one wire.

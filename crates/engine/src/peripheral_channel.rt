@@ -146,15 +146,9 @@ fn short_access(c: Config, a: Access, at: Span, b: &[u8], state: &mut [u8]) -> O
         Access::IoRead => ask(request_of(c, Kind::IoRead, at.address, n, 0, 0), state),
         Access::IoWrite => {
             let bytes = bytes_of(at.size, b);
-            ask(
-                request_of(c, Kind::IoWrite, at.address, n, 0, bytes),
-                state,
-            )
+            ask(request_of(c, Kind::IoWrite, at.address, n, 0, bytes), state)
         }
-        Access::MemoryRead => ask(
-            request_of(c, Kind::MemoryRead, at.address, n, 0, 0),
-            state,
-        ),
+        Access::MemoryRead => ask(request_of(c, Kind::MemoryRead, at.address, n, 0, 0), state),
         Access::MemoryWrite => post(c, at.address, n, 5, state),
     }
 }

@@ -9,23 +9,8 @@ use borrow.Author.Needs.{needs}
 use Rattle.engine.proofs.act_peripheral.Statement.{statement}
 use Rattle.engine.proofs.act_peripheral.Tie as tie
 
-status-in-requires : tie.Need-status-in-requires
-status-in-requires c κs = search needs
-
 decide-requires : tie.Need-decide-requires
 decide-requires c κs = let p = c .before .before .before .before .before .pre in let t = peripheral-there (now (c .before .before .before .before .before .args .state)) (p .0) (c .before .before .before .before .before .args .c) (p .1) in (t .0, t .1, t .2, t .3, p .2)
-
-status-in-requires-2 : tie.Need-status-in-requires-2
-status-in-requires-2 c κs = search needs
-
-add-reply-with : tie.Need-add-reply-with
-add-reply-with c = search needs
-
-reply-with-requires : tie.Need-reply-with-requires
-reply-with-requires c κs = search needs
-
-same-length : tie.Need-same-length
-same-length c = search needs
 
 returns : tie.Need-returns
 returns c = let a = c .before .before .before .before .before .before .before .before .before .before .before .args in let l = now (a .state) in let p = c .before .before .before .before .before .before .before .before .before .before .before .pre in let e = decided-there l (a .c) (a .o) (now (a .b)) (p .1) in acted-carried l (P.acting (unpacked l .config) (unpacked l .peripheral) (P.actOf (unpacked l .config) (a .o) (now (a .b)))) (p .0) (acting-stays peripheral (unpacked l) (P.actOf (unpacked l .config) (a .o) (now (a .b))) _ refl) _ _ _ _ _ (c .before .before .before .before .before .decide .ensures ∙ e) (c .before .status-in2 .ensures .0) (c .before .before .before .before .before .before .before .status-in .ensures .0) (c .reply-with .ensures)
@@ -34,10 +19,10 @@ pub act-peripheral-spec : {M : Type 1} → statement M
 act-peripheral-spec =
     tie.close
     (tie.spec
-    status-in-requires
+    (λ c κs. search needs)
     decide-requires
-    status-in-requires-2
-    add-reply-with
-    reply-with-requires
-    same-length
+    (λ c κs. search needs)
+    (λ c. search needs)
+    (λ c κs. search needs)
+    (λ c. search needs)
     returns)

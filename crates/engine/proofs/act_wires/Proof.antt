@@ -1,32 +1,23 @@
+use mathlib.Core.Path.{refl, _∙_}
+use denote.Ref.{now}
+use Rattle.state.specs.Layout.{unpacked}
+use Rattle.rules.specs.Rules.Wires as W
+use Rattle.rules.specs.Rules.Channel.{wires}
+use Rattle.engine.specs.Laws.Stored.{acting-stays}
+use Rattle.engine.specs.Laws.Loaded.{wires-there, wires-decided, lifted-by}
 use borrow.Author.Needs.{needs}
 use Rattle.engine.proofs.act_wires.Statement.{statement}
 use Rattle.engine.proofs.act_wires.Tie as tie
-use Rattle.engine.proofs.act_wires.Reads as reads
-use Rattle.engine.proofs.act_wires.Lts as lts
-use Rattle.engine.proofs.lift_wires.Reads as lift-wires-reads
-use Rattle.engine.proofs.wires_channel.decide.Reads as decide-reads
-use Rattle.wires.proofs.Wires.unpack.Reads as unpack-reads
 
--- src/lib.rt:110:41
-unpack-requires : tie.Need-unpack-requires
-unpack-requires c κs = search needs
-
--- src/lib.rt:110:16
 decide-requires : tie.Need-decide-requires
-decide-requires c κs = ?
+decide-requires c κs = let p = c .before .before .before .before .pre in let t = wires-there (now (c .before .before .before .before .args .state)) (p .0) (c .before .before .before .before .args .c) _ (p .1) (c .unpack .ensures) in (t .0, t .1, p .2)
 
--- src/lib.rt:110:5
 lift-wires-requires : tie.Need-lift-wires-requires
-lift-wires-requires c κs = ?
+lift-wires-requires c κs = let a = c .before .before .before .before .before .before .args in let l = now (a .state) in let e = c .before .decide .ensures ∙ wires-decided l (a .c) _ (a .o) (now (a .b)) (c .before .before .before .before .before .before .pre .1) (c .before .before .unpack .ensures) in (c .before .before .before .before .before .before .pre .0, acting-stays wires (unpacked l) (W.actOf (a .o) (now (a .b))) _ e)
 
--- src/lib.rt:106:1
-same-length : tie.Need-same-length
-same-length c = search needs
-
--- src/lib.rt:106:1
 returns : tie.Need-returns
-returns c = ?
+returns c = let a = c .before .before .before .before .before .before .before .before .before .args in let l = now (a .state) in lifted-by wires l (c .before .before .lift-wires .ensures) (c .before .before .before .before .decide .ensures ∙ wires-decided l (a .c) _ (a .o) (now (a .b)) (c .before .before .before .before .before .before .before .before .before .pre .1) (c .before .before .before .before .before .unpack .ensures))
 
 pub act-wires-spec : {M : Type 1} → statement M
 act-wires-spec =
-    tie.close (tie.spec unpack-requires decide-requires lift-wires-requires same-length returns)
+    tie.close (tie.spec (λ c κs. search needs) decide-requires lift-wires-requires (λ c. search needs) returns)

@@ -1,33 +1,24 @@
+use mathlib.Core.Path.{ap, _∙_}
+use denote.Ref.{now}
+use lib.ListN.{length}
+use Rattle.peripheral.specs.declared.Peripheral.{Peripheral}
+use Rattle.state.specs.Layout.{unpacked}
+use Rattle.rules.specs.Rules.Peripheral as P
+use Rattle.rules.specs.Rules.Channel.{peripheral}
+use Rattle.engine.specs.Laws.Stored.{settle-stays}
+use Rattle.engine.specs.Laws.Loaded.{peripheral-in, lifted-by}
 use borrow.Author.Needs.{needs}
 use Rattle.engine.proofs.answer.Statement.{statement}
 use Rattle.engine.proofs.answer.Tie as tie
-use Rattle.engine.proofs.answer.Reads as reads
-use Rattle.engine.proofs.answer.Lts as lts
-use Rattle.engine.proofs.lift_peripheral.Reads as lift-peripheral-reads
-use Rattle.engine.proofs.peripheral_channel.answer_to.Reads as answer-to-reads
-use Rattle.peripheral.proofs.Peripheral.unpack.Reads as unpack-reads
 
--- src/lib.rt:219:13
-unpack-requires : tie.Need-unpack-requires
-unpack-requires c κs = search needs
-
--- src/lib.rt:218:9
-answer-to-requires : tie.Need-answer-to-requires
-answer-to-requires c κs = search needs
-
--- src/lib.rt:217:5
 lift-peripheral-requires : tie.Need-lift-peripheral-requires
-lift-peripheral-requires c κs = ?
+unfolding P.settle
+lift-peripheral-requires c κs = let a = c .before .before .before .before .before .before .args in let l = now (a .state) in let e = c .before .answer-to .ensures ∙ ap (λ (z : Peripheral). P.answerTo z (a .serial) (P.succeeded (a .success)) (length (now (a .bytes)))) (c .before .before .unpack .ensures ∙ peripheral-in l) in (c .before .before .before .before .before .before .pre, settle-stays peripheral (unpacked l) (P.answer (a .serial) (a .success) (now (a .bytes))) _ e)
 
--- src/lib.rt:213:1
-same-length : tie.Need-same-length
-same-length c = search needs
-
--- src/lib.rt:213:1
 returns : tie.Need-returns
-returns c = ?
+returns c = let a = c .before .before .before .before .before .before .before .before .before .args in let l = now (a .state) in lifted-by peripheral l (c .before .before .lift-peripheral .ensures) (c .before .before .before .before .answer-to .ensures ∙ ap (λ (z : Peripheral). P.answerTo z (a .serial) (P.succeeded (a .success)) (length (now (a .bytes)))) (c .before .before .before .before .before .unpack .ensures ∙ peripheral-in l))
 
 pub answer-spec : {M : Type 1} → statement M
 answer-spec =
     tie.close
-    (tie.spec unpack-requires answer-to-requires lift-peripheral-requires same-length returns)
+    (tie.spec (λ c κs. search needs) (λ c κs. search needs) lift-peripheral-requires (λ c. search needs) returns)

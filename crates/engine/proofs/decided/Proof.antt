@@ -1,169 +1,79 @@
+use mathlib.Core.Path.{ap, sym, subst, _∙_}
+use denote.Ref.{now}
+use Rattle.registers.specs.Registers.{readAt}
+use Rattle.registers.specs.declared.Config.{Config}
+use Rattle.state.specs.declared.State.{State}
+use Rattle.state.specs.Layout.{unpacked}
+use Rattle.rules.specs.Rules.Channel.{peripheral, wires}
+use Rattle.rules.specs.declared.Body.the-variants as B
+use Rattle.engine.specs.Carried.{Packs}
+use Rattle.engine.specs.Laws.Exchange.{fits-as, acted-decided, read-decided, set-decided, status-decided, reset-decided}
+use Rattle.engine.specs.Laws.Loaded.{shown-is, set-unpacked, reset-unpacked}
 use borrow.Author.Needs.{needs}
 use Rattle.engine.proofs.decided.Statement.{statement}
 use Rattle.engine.proofs.decided.Tie as tie
-use Rattle.engine.proofs.decided.Reads as reads
-use Rattle.engine.proofs.decided.Lts as lts
-use Rattle.engine.proofs.act_peripheral.Reads as act-peripheral-reads
-use Rattle.engine.proofs.act_wires.Reads as act-wires-reads
-use Rattle.engine.proofs.configuration.reset_008.Reads as reset-008-reads
-use Rattle.engine.proofs.configuration.set.Reads as set-reads
-use Rattle.engine.proofs.shown.Reads as shown-reads
-use Rattle.engine.proofs.silently.Reads as silently-reads
-use Rattle.registers.proofs.Config.read.Reads as read-reads
-use Rattle.state.proofs.status_in.Reads as status-in-reads
-use Rattle.state.proofs.unpack.Reads as unpack-reads
 
--- src/lib.rt:140:29
-enum-known-o : tie.Need-enum-known-o
-enum-known-o c = search needs
-
--- src/lib.rt:140:35
 act-peripheral-requires : tie.Need-act-peripheral-requires
-act-peripheral-requires c κs = ?
+act-peripheral-requires c κs = let p = c .before .before .before .before .before .before .pre in (p .0, p .1, fits-as (now (c .before .before .before .before .before .before .args .b)) (c .before .before .o .given .1) (p .2))
 
--- src/lib.rt:141:24
-enum-known-o-2 : tie.Need-enum-known-o-2
-enum-known-o-2 c = search needs
-
--- src/lib.rt:141:30
 act-wires-requires : tie.Need-act-wires-requires
-act-wires-requires c κs = ?
+act-wires-requires c κs = let p = c .before .before .before .before .before .before .pre in (p .0, p .1, fits-as (now (c .before .before .before .before .before .before .args .b)) (c .before .before .o2 .given .1) (p .2))
 
--- src/lib.rt:142:35
-enum-known-o-3 : tie.Need-enum-known-o-3
-enum-known-o-3 c = search needs
-
--- src/lib.rt:142:58
-read-requires : tie.Need-read-requires
-read-requires c κs = search needs
-
--- src/lib.rt:142:70
-status-in-requires : tie.Need-status-in-requires
-status-in-requires c κs = search needs
-
--- src/lib.rt:142:41
-shown-requires : tie.Need-shown-requires
-shown-requires c κs = search needs
-
--- src/lib.rt:143:35
-enum-known-o-4 : tie.Need-enum-known-o-4
-enum-known-o-4 c = search needs
-
--- src/lib.rt:143:63
-unpack-requires : tie.Need-unpack-requires
-unpack-requires c κs = search needs
-
--- src/lib.rt:143:44
 set-requires : tie.Need-set-requires
-set-requires c κs = ?
+set-requires c κs = subst (λ (s : State). Packs s (now (c .before .before .before .before .before .before .before .before .args .state))) (sym (c .before .unpack .ensures)) (c .before .before .before .before .before .before .before .before .pre .0)
 
--- src/lib.rt:144:37
-enum-told : tie.Need-enum-told
-enum-told c = search needs
-
--- src/lib.rt:144:52
-status-in-requires-2 : tie.Need-status-in-requires-2
-status-in-requires-2 c κs = search needs
-
--- src/lib.rt:144:31
-shown-requires-2 : tie.Need-shown-requires-2
-shown-requires-2 c κs = search needs
-
--- src/lib.rt:146:52
-enum-told-2 : tie.Need-enum-told-2
-enum-told-2 c = search needs
-
--- src/lib.rt:146:38
-unpack-requires-2 : tie.Need-unpack-requires-2
-unpack-requires-2 c κs = search needs
-
--- src/lib.rt:146:13
 reset-008-requires : tie.Need-reset-008-requires
-reset-008-requires c κs = ?
+reset-008-requires c κs = subst (λ (s : State). Packs s (now (c .before .before .before .before .before .before .before .args .state))) (sym (c .before .unpack2 .ensures)) (c .before .before .before .before .before .before .before .pre .0)
 
--- src/lib.rt:147:13
-silently-requires : tie.Need-silently-requires
-silently-requires c κs = search needs
-
--- src/lib.rt:135:1
-same-length : tie.Need-same-length
-same-length c = search needs
-
--- src/lib.rt:135:1
 returns : tie.Need-returns
-returns c = ?
+returns c = acted-decided (unpacked (now (c .before .before .before .before .before .before .before .before .before .args .state))) _ _ _ peripheral _ _ (c .before .before .before .before .before .o .given .1) (c .before .before .act-peripheral .ensures)
 
--- src/lib.rt:135:1
-same-length-2 : tie.Need-same-length-2
-same-length-2 c = search needs
-
--- src/lib.rt:135:1
 returns-2 : tie.Need-returns-2
-returns-2 c = ?
+returns-2 c = acted-decided (unpacked (now (c .before .before .before .before .before .before .before .before .before .args .state))) _ _ _ wires _ _ (c .before .before .before .before .before .o2 .given .1) (c .before .before .act-wires .ensures)
 
--- src/lib.rt:135:1
-same-length-3 : tie.Need-same-length-3
-same-length-3 c = search needs
-
--- src/lib.rt:135:1
 returns-3 : tie.Need-returns-3
-returns-3 c = ?
+returns-3 c = let s = unpacked (now (c .before .before .before .before .before .before .before .before .before .args .state)) in let a = c .before .before .before .before .before .o3 .given .0 .0 in read-decided s _ _ _ a _ _ (c .before .before .before .before .before .before .before .before .before .pre .0) (c .before .before .before .before .before .o3 .given .1) (c .before .before .before .read .ensures ∙ ap (λ (z : Config). readAt z a) (c .before .before .before .before .before .before .before .before .before .pre .1)) (shown-is s _ _ _ (c .shown .ensures) (c .before .status-in .ensures))
 
--- src/lib.rt:135:1
-same-length-4 : tie.Need-same-length-4
-same-length-4 c = search needs
-
--- src/lib.rt:135:1
 returns-4 : tie.Need-returns-4
-returns-4 c = ?
+returns-4 c = let l = now (c .before .before .before .before .before .before .before .before .before .before .before .args .state) in set-decided (unpacked l) _ l _ _ _ _ (c .before .before .before .before .before .before .before .o4 .given .1) (set-unpacked l _ _ (c .before .before .set .ensures) (c .before .before .before .before .unpack .ensures))
 
--- src/lib.rt:135:1
-same-length-5 : tie.Need-same-length-5
-same-length-5 c = search needs
-
--- src/lib.rt:135:1
 returns-5 : tie.Need-returns-5
-returns-5 c = ?
+returns-5 c = let s = unpacked (now (c .before .before .before .before .before .before .before .args .state)) in status-decided s _ _ _ _ (c .before .before .before .before .before .before .before .pre .0) (c .before .before .before .enum-told .given .1) (shown-is s B.Nothing _ _ (c .shown2 .ensures) (c .before .status-in2 .ensures))
 
--- src/lib.rt:135:1
-same-length-6 : tie.Need-same-length-6
-same-length-6 c = search needs
-
--- src/lib.rt:135:1
 returns-6 : tie.Need-returns-6
-returns-6 c = ?
+returns-6 c = let l = now (c .before .before .before .before .before .before .before .before .before .before .before .args .state) in reset-decided (unpacked l) _ l _ _ _ (c .before .before .before .before .before .before .before .enum-told2 .given .1) (reset-unpacked l (c .before .before .before .reset-008 .ensures) (c .before .before .before .before .before .unpack2 .ensures)) (c .silently .ensures)
 
 pub decided-spec : {M : Type 1} → statement M
 decided-spec =
     tie.close
     (tie.spec
-    enum-known-o
+    (λ c. search needs)
     act-peripheral-requires
-    enum-known-o-2
+    (λ c. search needs)
     act-wires-requires
-    enum-known-o-3
-    read-requires
-    status-in-requires
-    shown-requires
-    enum-known-o-4
-    unpack-requires
+    (λ c. search needs)
+    (λ c κs. search needs)
+    (λ c κs. search needs)
+    (λ c κs. search needs)
+    (λ c. search needs)
+    (λ c κs. search needs)
     set-requires
-    enum-told
-    status-in-requires-2
-    shown-requires-2
-    enum-told-2
-    unpack-requires-2
+    (λ c. search needs)
+    (λ c κs. search needs)
+    (λ c κs. search needs)
+    (λ c. search needs)
+    (λ c κs. search needs)
     reset-008-requires
-    silently-requires
-    same-length
+    (λ c κs. search needs)
+    (λ c. search needs)
     returns
-    same-length-2
+    (λ c. search needs)
     returns-2
-    same-length-3
+    (λ c. search needs)
     returns-3
-    same-length-4
+    (λ c. search needs)
     returns-4
-    same-length-5
+    (λ c. search needs)
     returns-5
-    same-length-6
+    (λ c. search needs)
     returns-6)

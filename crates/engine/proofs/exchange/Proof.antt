@@ -1,76 +1,38 @@
+use mathlib.Core.Path.{ap, _∙_}
+use native.Mathlib.Omega.{arith}
+use denote.Ref.{now}
+use Rattle.registers.specs.Registers.{crcChecked}
+use Rattle.registers.specs.declared.Config.{Config}
+use Rattle.state.specs.Layout.{unpacked}
+use Rattle.rules.specs.Rules.Exchange.{channelsOf}
+use Rattle.engine.specs.Laws.Exchange.{exchange-silent, exchange-decided, command-fits}
+use Rattle.engine.specs.Laws.Loaded.{config-in}
 use borrow.Author.Needs.{needs}
 use Rattle.engine.proofs.exchange.Statement.{statement}
 use Rattle.engine.proofs.exchange.Tie as tie
-use Rattle.engine.proofs.exchange.Reads as reads
-use Rattle.engine.proofs.exchange.Lts as lts
-use Rattle.command.proofs.admit.Reads as admit-reads
-use Rattle.engine.proofs.configuration.channels.Reads as channels-reads
-use Rattle.engine.proofs.decided.Reads as decided-reads
-use Rattle.engine.proofs.refused.Reads as refused-reads
-use Rattle.registers.proofs.Config.unpack.Reads as unpack-reads
-use Rattle.registers.proofs.Reg008.crc_checked.Reads as crc-checked-reads
 
--- src/lib.rt:169:9
-unpack-requires : tie.Need-unpack-requires
-unpack-requires c κs = search needs
-
--- src/lib.rt:171:28
-channels-requires : tie.Need-channels-requires
-channels-requires c κs = search needs
-
--- src/lib.rt:171:56
-crc-checked-requires : tie.Need-crc-checked-requires
-crc-checked-requires c κs = search needs
-
--- src/lib.rt:171:9
-admit-requires : tie.Need-admit-requires
-admit-requires c κs = search needs
-
--- src/lib.rt:172:24
-enum-known-d : tie.Need-enum-known-d
-enum-known-d c = search needs
-
--- src/lib.rt:173:9
-enum-told : tie.Need-enum-told
-enum-told c = search needs
-
--- src/lib.rt:173:9
-refused-requires : tie.Need-refused-requires
-refused-requires c κs = search needs
-
--- src/lib.rt:173:9
-same-length : tie.Need-same-length
-same-length c = search needs
-
--- src/lib.rt:173:9
 returns : tie.Need-returns
-returns c = ?
+returns c = let a = c .before .before .before .before .before .before .before .before .before .before .before .args in let l = now (a .state) in let e = c .before .before .before .before .before .before .before .unpack .ensures ∙ config-in l in exchange-silent (unpacked l) (now (a .b)) l _ _ _ _ _ (c .before .before .before .before .before .before .before .before .before .before .before .pre) (c .before .before .before .before .before .channels .ensures ∙ ap channelsOf e) (c .before .before .before .before .crc-checked .ensures ∙ ap (λ (z : Config). crcChecked (z .r008)) e) (c .before .before .before .admit .ensures) (c .before .enum-told .given .1) (c .refused .ensures)
 
--- src/lib.rt:175:5
 decided-requires : tie.Need-decided-requires
-decided-requires c κs = ?
+decided-requires c κs = let a = c .before .before .before .before .before .before .before .before .before .before .before .before .args in (c .before .before .before .before .before .before .before .before .before .before .before .before .pre, c .before .before .before .before .before .before .before .before .unpack .ensures ∙ config-in (now (a .state)), command-fits _ _ (now (a .b)) _ _ (λ i. omega (arith, c .before .before .before .before .before .before .before .before .before .before .before .shared-slice-known .given i)) (c .before .before .before .before .admit .ensures) (c .before .before .d .given .1))
 
--- src/lib.rt:165:1
-same-length-2 : tie.Need-same-length-2
-same-length-2 c = search needs
-
--- src/lib.rt:165:1
 returns-2 : tie.Need-returns-2
-returns-2 c = ?
+returns-2 c = let a = c .before .before .before .before .before .before .before .before .before .before .before .before .before .before .before .args in let l = now (a .state) in let e = c .before .before .before .before .before .before .before .before .before .before .before .unpack .ensures ∙ config-in l in exchange-decided (unpacked l) (now (a .b)) l _ _ _ _ _ (c .before .before .before .before .before .before .before .before .before .channels .ensures ∙ ap channelsOf e) (c .before .before .before .before .before .before .before .before .crc-checked .ensures ∙ ap (λ (z : Config). crcChecked (z .r008)) e) (c .before .before .before .before .before .before .before .admit .ensures) (c .before .before .before .before .before .d .given .1) (c .before .before .decided .ensures)
 
 pub exchange-spec : {M : Type 1} → statement M
 exchange-spec =
     tie.close
     (tie.spec
-    unpack-requires
-    channels-requires
-    crc-checked-requires
-    admit-requires
-    enum-known-d
-    enum-told
-    refused-requires
-    same-length
+    (λ c κs. search needs)
+    (λ c κs. search needs)
+    (λ c κs. search needs)
+    (λ c κs. search needs)
+    (λ c. search needs)
+    (λ c. search needs)
+    (λ c κs. search needs)
+    (λ c. search needs)
     returns
     decided-requires
-    same-length-2
+    (λ c. search needs)
     returns-2)

@@ -5,17 +5,8 @@ use borrow.Author.Needs.{needs}
 use Rattle.engine.proofs.reply_with.Statement.{statement}
 use Rattle.engine.proofs.reply_with.Tie as tie
 
-enum-told : tie.Need-enum-told
-enum-told c = search needs
-
-enum-known-say : tie.Need-enum-known-say
-enum-known-say c = search needs
-
-returns : tie.Need-returns
-returns c = search needs
-
 returns-2 : tie.Need-returns-2
 returns-2 c = ap (λ (z : Say). withStatus z (c .before .before .before .args .word)) (sym (c .before .say .given .1))
 
 pub reply-with-spec : {M : Type 1} → statement M
-reply-with-spec = tie.close (tie.spec enum-told enum-known-say returns returns-2)
+reply-with-spec = tie.close (tie.spec (λ c. search needs) (λ c. search needs) (λ c. search needs) returns-2)

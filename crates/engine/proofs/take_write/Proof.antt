@@ -1,33 +1,23 @@
+use mathlib.Core.List.{[]}
+use mathlib.Core.Path.{ap, _∙_}
+use denote.Ref.{now}
+use Rattle.state.specs.Layout.{unpacked}
+use Rattle.rules.specs.Rules.Peripheral as P
+use Rattle.rules.specs.Rules.Channel.{peripheral}
+use Rattle.engine.specs.Laws.Stored.{settle-stays}
+use Rattle.engine.specs.Laws.Loaded.{peripheral-in, lifted-by}
 use borrow.Author.Needs.{needs}
 use Rattle.engine.proofs.take_write.Statement.{statement}
 use Rattle.engine.proofs.take_write.Tie as tie
-use Rattle.engine.proofs.take_write.Reads as reads
-use Rattle.engine.proofs.take_write.Lts as lts
-use Rattle.engine.proofs.lift_peripheral.Reads as lift-peripheral-reads
-use Rattle.engine.proofs.peripheral_channel.taken.Reads as taken-reads
-use Rattle.peripheral.proofs.Peripheral.unpack.Reads as unpack-reads
 
--- src/lib.rt:234:35
-unpack-requires : tie.Need-unpack-requires
-unpack-requires c κs = search needs
-
--- src/lib.rt:234:9
-taken-requires : tie.Need-taken-requires
-taken-requires c κs = search needs
-
--- src/lib.rt:233:5
 lift-peripheral-requires : tie.Need-lift-peripheral-requires
-lift-peripheral-requires c κs = ?
+unfolding P.settle
+lift-peripheral-requires c κs = let l = now (c .before .before .before .before .before .args .state) in (c .before .before .before .before .before .pre, settle-stays peripheral (unpacked l) (P.takeWrite []) _ (c .before .taken .ensures ∙ ap P.taken (c .before .before .unpack .ensures ∙ peripheral-in l)))
 
--- src/lib.rt:229:1
-same-length : tie.Need-same-length
-same-length c = search needs
-
--- src/lib.rt:229:1
 returns : tie.Need-returns
-returns c = ?
+returns c = let l = now (c .before .before .before .before .before .before .before .before .args .state) in lifted-by peripheral l (c .before .before .lift-peripheral .ensures) (c .before .before .before .before .taken .ensures ∙ ap P.taken (c .before .before .before .before .before .unpack .ensures ∙ peripheral-in l))
 
 pub take-write-spec : {M : Type 1} → statement M
 take-write-spec =
     tie.close
-    (tie.spec unpack-requires taken-requires lift-peripheral-requires same-length returns)
+    (tie.spec (λ c κs. search needs) (λ c κs. search needs) lift-peripheral-requires (λ c. search needs) returns)

@@ -24,7 +24,11 @@ use Rattle.state.specs.Layout.{stateLength, packed, unpacked}
 use Rattle.state.specs.Facts.{sound-config, sound-request, sound-wires}
 use Rattle.state.specs.declared.State.{State}
 use Rattle.command.specs.declared.PeripheralCommand.{PeripheralCommand}
+use Rattle.command.specs.declared.WiresCommand.{WiresCommand}
+use Rattle.rules.specs.Rules.Calls.{kept}
+use Rattle.rules.specs.Rules.Exchange.{setConfiguration, reset008h}
 use Rattle.rules.specs.Rules.Peripheral as P
+use Rattle.rules.specs.Rules.Wires as W
 use Rattle.rules.specs.Rules.Channel as C
 use Rattle.rules.specs.Rules.Channel.{peripheral, wires}
 use Rattle.rules.specs.Rules.Lift.{lift, show, withStatus}
@@ -32,7 +36,7 @@ use Rattle.rules.specs.declared.Body.{Body}
 use Rattle.rules.specs.declared.Out.{Out}
 use Rattle.rules.specs.declared.Reply.{Reply}
 use Rattle.rules.specs.declared.PeripheralChange.{PeripheralChange}
-use Rattle.engine.specs.Carried.{Loadable, Stays, Changed, changedTo, changedBy, carried, carriedBy, outgoing, showing}
+use Rattle.engine.specs.Carried.{Loadable, Stays, Changed, changedTo, changedBy, Carried, carried, carriedBy, outgoing, showing}
 use Rattle.engine.specs.Laws.Stored.{lift-carried}
 use Rattle.engine.specs.declared.Outgoing.{Outgoing}
 
@@ -75,11 +79,10 @@ module _ (l : List ℕ) (h : Loadable l) where
   -- and channel 1's
   pub wires-there : (c : Config) (w : Wires) → c ≡ unpacked l .config → w ≡ wiresIn l → (reachable c ≡ true) × (soundWires (on1 (c .r020)) w ≡ true)
   unfolding unpacked
-  wires-there c w e f =
-      (
-        ap reachable e ∙ sound-config (unpacked l) (h .good),
-        ap (λ (z : Config). soundWires (on1 (z .r020)) w) e ∙ ap (soundWires (on1 (configIn l .r020))) f ∙ sound-wires (unpacked l) (h .good),
-      )
+  wires-there c w e f = (
+    ap reachable e ∙ sound-config (unpacked l) (h .good),
+    ap (λ (z : Config). soundWires (on1 (z .r020)) w) e ∙ ap (soundWires (on1 (configIn l .r020))) f ∙ sound-wires (unpacked l) (h .good),
+  )
 
 -- channel 0's decision over its bytes is that over the state that they hold
 pub decided-there : (l : List ℕ) (c : Config) (o : PeripheralCommand) (b : List ℕ) → c ≡ unpacked l .config
@@ -87,6 +90,27 @@ pub decided-there : (l : List ℕ) (c : Config) (o : PeripheralCommand) (b : Lis
     ≡ changedBy peripheral (P.acting (unpacked l .config) (unpacked l .peripheral) (P.actOf (unpacked l .config) o b)) l
 unfolding P.decide unpacked
 decided-there l c o b e = ap (λ (z : Config). changedBy peripheral (P.acting z (peripheralIn l) (P.actOf z o b)) l) e
+
+-- channel 1's likewise
+pub wires-decided : (l : List ℕ) (c : Config) (w : Wires) (o : WiresCommand) (b : List ℕ) → c ≡ unpacked l .config → w ≡ wiresIn l
+    → W.decide c w o b ≡ W.acting (unpacked l .config) (unpacked l .wires) (W.actOf o b)
+unfolding W.decide unpacked
+wires-decided l c w o b e f = ap (λ (z : Config). W.acting z w (W.actOf o b)) e ∙ ap (λ (z : Wires). W.acting (configIn l) z (W.actOf o b)) f
+
+pub set-there : (l : List ℕ) (c : Config) (w : Wires) (index bit value : ℕ) → c ≡ configIn l → w ≡ wiresIn l
+    → W.setting c w index bit value ≡ W.setting (unpacked l .config) (unpacked l .wires) index bit value
+unfolding unpacked
+set-there l c w index bit value e f = ap (λ (z : Config). W.setting z w index bit value) e ∙ ap (λ (z : Wires). W.setting (configIn l) z index bit value) f
+
+-- a change that is another, lifted; a state that is the bytes', configured or cleared
+pub lifted-by : (k : C.Channel) (l : List ℕ) {x y : C.Change k} {z : Carried} → z ≡ carriedBy (lift k (unpacked l) x) l → x ≡ y → z ≡ carriedBy (lift k (unpacked l) y) l
+lifted-by k l e f = e ∙ ap (λ (c : C.Change k). carriedBy (lift k (unpacked l) c) l) f
+
+pub set-unpacked : (l : List ℕ) (a v : ℕ) {s : State} {z : Carried} → z ≡ carriedBy (setConfiguration s a v) l → s ≡ unpacked l → z ≡ carriedBy (setConfiguration (unpacked l) a v) l
+set-unpacked l a v e f = e ∙ ap (λ (t : State). carriedBy (setConfiguration t a v) l) f
+
+pub reset-unpacked : (l : List ℕ) {s : State} {l′ : List ℕ} → l′ ≡ kept (reset008h s) l → s ≡ unpacked l → l′ ≡ kept (reset008h (unpacked l)) l
+reset-unpacked l e f = e ∙ ap (λ (t : State). kept (reset008h t) l) f
 
 -- ---- the status word, a part of it read off the bytes
 

@@ -43,18 +43,18 @@ changed {p} {q} {a} {b} e f = ap (λ (z : Peripheral). change z a) e ∙ ap (cha
 
 -- ---- a change on the bytes
 
-pub as-change : {x y : PeripheralChange} {l : List ℕ} {z : Changed} → z ≡ changedBy peripheral x l → x ≡ y → z ≡ changedBy peripheral y l
-as-change {x} {y} {l} e f = e ∙ ap (λ (c : PeripheralChange). changedBy peripheral c l) f
+pub as-change : (l : List ℕ) {x y : PeripheralChange} {z : Changed} → z ≡ changedBy peripheral x l → x ≡ y → z ≡ changedBy peripheral y l
+as-change l e f = e ∙ ap (λ (c : PeripheralChange). changedBy peripheral c l) f
 
 -- refused: no byte is stored
 pub refused-there : (l l′ : List ℕ) (p : Peripheral) (o : Out) {x : PeripheralChange} → change p fatal ≡ x → o ≡ fatal → l′ ≡ l → changedTo o l′ ≡ changedBy peripheral x l
-refused-there l l′ p o e k m = as-change (rw (k, m)) e
+refused-there l l′ p o e k m = as-change l (rw (k, m)) e
 
 -- accepted: the whole part is stored, whatever was put to store it
 pub stored-there : (l l′ : List ℕ) (q : Peripheral) (o o′ : Out) {x : PeripheralChange} → eqb (o′ .number) 0 ≡ true → change q o′ ≡ x → o ≡ o′ → l′ ≡ put 12 (peripheralBytes q) l
     → changedTo o l′ ≡ changedBy peripheral x l
 stored-there l l′ q o o′ n e k m =
-    as-change (ap (λ (z : Out). changedTo z l′) k ∙ ap (changedTo o′) (subst (λ (t : Bool). l′ ≡ pick t (put 12 (peripheralBytes q) l) l) (sym n) m)) e
+    as-change l (ap (λ (z : Out). changedTo z l′) k ∙ ap (changedTo o′) (subst (λ (t : Bool). l′ ≡ pick t (put 12 (peripheralBytes q) l) l) (sym n) m)) e
 
 -- ---- what a reachable configuration gives
 

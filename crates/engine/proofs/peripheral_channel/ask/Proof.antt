@@ -10,41 +10,14 @@ use borrow.Author.Needs.{needs}
 use Rattle.engine.proofs.peripheral_channel.ask.Statement.{statement}
 use Rattle.engine.proofs.peripheral_channel.ask.Tie as tie
 
-takes-request-requires : tie.Need-takes-request-requires
-takes-request-requires c κs = search needs
-
-fatal-requires : tie.Need-fatal-requires
-fatal-requires c κs = search needs
-
-same-length : tie.Need-same-length
-same-length c = search needs
-
 returns : tie.Need-returns
 returns c = let a = c .before .before .before .before .before .args in let p = peripheralIn (now (a .state)) in refused-there (now (a .state)) _ p _ (ask-held p (a .q) _ _ (c .before .before .takes-request .ensures) (c .before .if1 .taken) refl) (c .fatal .ensures) refl
-
-size-for-requires : tie.Need-size-for-requires
-size-for-requires c κs = search needs
 
 within-requires : tie.Need-within-requires
 within-requires c κs = let q = c .before .before .before .before .before .args .q in rw (c .size-for .ensures) (size-pos q (q .kind) (c .before .before .before .before .before .pre .2) (c .before .before .before .before .before .pre .3))
 
-fatal-requires-2 : tie.Need-fatal-requires-2
-fatal-requires-2 c κs = search needs
-
-same-length-2 : tie.Need-same-length-2
-same-length-2 c = search needs
-
 returns-2 : tie.Need-returns-2
 returns-2 c = let a = c .before .before .before .before .before .before .before .before .args in let p = peripheralIn (now (a .state)) in refused-there (now (a .state)) _ p _ (ask-large p (a .q) _ _ _ _ (c .before .before .before .before .before .takes-request .ensures) (c .before .before .before .before .if1 .left) (c .before .before .before .size-for .ensures) (c .before .before .within .ensures) (c .before .if2 .taken) refl) (c .fatal2 .ensures) refl
-
-wait-requires : tie.Need-wait-requires
-wait-requires c κs = search needs
-
-defer-requires : tie.Need-defer-requires
-defer-requires c κs = search needs
-
-same-length-3 : tie.Need-same-length-3
-same-length-3 c = search needs
 
 returns-3 : tie.Need-returns-3
 returns-3 c = let a = c .before .before .before .before .before .before .before .before .before .before .before .before .args in let l = now (a .state) in let p = peripheralIn l in stored-there l _ (P.asking p (a .q)) _ O.defer refl (ask-done p (a .q) _ _ _ _ _ (c .before .before .before .before .before .before .before .before .before .takes-request .ensures) (c .before .before .before .before .before .before .before .before .if1 .left) (c .before .before .before .before .before .before .before .size-for .ensures) (c .before .before .before .before .before .before .within .ensures) (c .before .before .before .before .before .if2 .left) refl refl) (c .defer .ensures) (c .before .before .before .wait .ensures ∙ stored-asking p l (c .before .before .before .before .before .before .before .before .before .before .before .before .pre .1) (Waiting (a .q)) (P.nextSerial (p .serial)))
@@ -53,16 +26,16 @@ pub ask-spec : {M : Type 1} → statement M
 ask-spec =
     tie.close
     (tie.spec
-    takes-request-requires
-    fatal-requires
-    same-length
+    (λ c κs. search needs)
+    (λ c κs. search needs)
+    (λ c. search needs)
     returns
-    size-for-requires
+    (λ c κs. search needs)
     within-requires
-    fatal-requires-2
-    same-length-2
+    (λ c κs. search needs)
+    (λ c. search needs)
     returns-2
-    wait-requires
-    defer-requires
-    same-length-3
+    (λ c κs. search needs)
+    (λ c κs. search needs)
+    (λ c. search needs)
     returns-3)

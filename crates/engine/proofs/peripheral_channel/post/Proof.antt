@@ -12,41 +12,14 @@ use borrow.Author.Needs.{needs}
 use Rattle.engine.proofs.peripheral_channel.post.Statement.{statement}
 use Rattle.engine.proofs.peripheral_channel.post.Tie as tie
 
-takes-write-requires : tie.Need-takes-write-requires
-takes-write-requires c κs = search needs
-
-fatal-requires : tie.Need-fatal-requires
-fatal-requires c κs = search needs
-
-same-length : tie.Need-same-length
-same-length c = search needs
-
 returns : tie.Need-returns
 returns c = let a = c .before .before .before .before .before .args in let p = peripheralIn (now (a .state)) in refused-there (now (a .state)) _ p _ (post-held (a .c) p (a .address) (a .length) (a .from) _ _ (c .before .before .takes-write .ensures) (c .before .if1 .taken) refl) (c .fatal .ensures) refl
-
-payload-size-requires : tie.Need-payload-size-requires
-payload-size-requires c κs = search needs
 
 within-requires : tie.Need-within-requires
 within-requires c κs = rw (c .payload-size .ensures) (payload-pos (c .before .before .before .before .before .before .args .c) (c .before .before .before .before .before .before .pre .2))
 
-fatal-requires-2 : tie.Need-fatal-requires-2
-fatal-requires-2 c κs = search needs
-
-same-length-2 : tie.Need-same-length-2
-same-length-2 c = search needs
-
 returns-2 : tie.Need-returns-2
 returns-2 c = let a = c .before .before .before .before .before .before .before .before .before .args in let p = peripheralIn (now (a .state)) in refused-there (now (a .state)) _ p _ (post-large (a .c) p (a .address) (a .length) (a .from) _ _ _ _ (c .before .before .before .before .before .before .takes-write .ensures) (c .before .before .before .before .before .if1 .left) (c .before .before .before .payload-size .ensures) (c .before .before .within .ensures) (c .before .if2 .taken) refl) (c .fatal2 .ensures) refl
-
-hold-requires : tie.Need-hold-requires
-hold-requires c κs = search needs
-
-accept-requires : tie.Need-accept-requires
-accept-requires c κs = search needs
-
-same-length-3 : tie.Need-same-length-3
-same-length-3 c = search needs
 
 returns-3 : tie.Need-returns-3
 returns-3 c = let a = c .before .before .before .before .before .before .before .before .before .before .before .before .before .args in let l = now (a .state) in let p = peripheralIn l in let n = c .before .before .before .before .before .before .before .payload-size .result in stored-there l _ (P.holding p (a .address) (a .length) n) _ (O.accept B.Nothing (K.Data (a .from) (a .length))) refl (post-done (a .c) p (a .address) (a .length) (a .from) _ _ _ _ _ (c .before .before .before .before .before .before .before .before .before .before .takes-write .ensures) (c .before .before .before .before .before .before .before .before .before .if1 .left) (c .before .before .before .before .before .before .before .payload-size .ensures) (c .before .before .before .before .before .before .within .ensures) (c .before .before .before .before .before .if2 .left) refl refl) (c .accept .ensures) (c .before .before .before .hold .ensures ∙ stored-write p l (c .before .before .before .before .before .before .before .before .before .before .before .before .before .pre .1) (Held (record { address = a .address; length = a .length; payload = n })))
@@ -55,16 +28,16 @@ pub post-spec : {M : Type 1} → statement M
 post-spec =
     tie.close
     (tie.spec
-    takes-write-requires
-    fatal-requires
-    same-length
+    (λ c κs. search needs)
+    (λ c κs. search needs)
+    (λ c. search needs)
     returns
-    payload-size-requires
+    (λ c κs. search needs)
     within-requires
-    fatal-requires-2
-    same-length-2
+    (λ c κs. search needs)
+    (λ c. search needs)
     returns-2
-    hold-requires
-    accept-requires
-    same-length-3
+    (λ c κs. search needs)
+    (λ c κs. search needs)
+    (λ c. search needs)
     returns-3)
