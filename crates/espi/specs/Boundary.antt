@@ -10,7 +10,10 @@ use borrow.Author.Tests.{not-false}
 use Rattle.base.specs.Pick.{pick, and-left}
 use Rattle.base.specs.Bytes.{over, agree}
 use Rattle.wires.specs.Groups.{definedBit, readWire}
+use Rattle.wires.specs.Layout.{wiresIn}
 use Rattle.wires.specs.declared.Wires.{Wires}
+use Rattle.peripheral.specs.Layout.{peripheralIn}
+use Rattle.peripheral.specs.declared.Peripheral.{Peripheral}
 use Rattle.peripheral.specs.declared.Np.{Np}
 use Rattle.state.specs.declared.State.{State}
 use Rattle.state.specs.Sound.{sound}
@@ -28,7 +31,7 @@ use Rattle.rules.specs.Proofs.Fits as F
 use Rattle.rules.specs.declared.Kept.{Kept}
 use Rattle.rules.specs.declared.Kept.the-variants as K
 use Rattle.rules.specs.declared.Plan.{Plan}
-use Rattle.engine.specs.Carried.{Packs, Carried, carried, carriedBy}
+use Rattle.engine.specs.Carried.{Loadable, Carried, carried, carriedBy}
 use Rattle.engine.specs.declared.Outgoing.{Outgoing}
 
 -- ---- an exchange's reply and data on the lent bytes
