@@ -87,10 +87,11 @@ module _ (st : List ℕ) (g : Loaded) (e : g ≡ loaded st) where
   -- an exchange's plan carried out
   pub exchanged-by : (p : Plan) (command reply write read : List ℕ) (x : Exchanged)
       → p ≡ exchange (g .state) command
-      → x ≡ exchangePlanned p st command reply write read
-      → x ≡ exchangePlanned (exchange (unpacked st) command) st command reply write read
+      → x ≡ exchangePlanned p (g .state .wires) st command reply write read
+      → x ≡ exchangePlanned (exchange (unpacked st) command) (unpacked st .wires) st command reply write read
   exchanged-by p command reply write read x ep ex =
-      ex ∙ ap (λ (q : Plan). exchangePlanned q st command reply write read) (ep ∙ ap (λ (y : Loaded). exchange (y .state) command) e)
+      ex ∙ ap (λ (q : Plan). exchangePlanned q (g .state .wires) st command reply write read) ep
+      ∙ ap (λ (y : Loaded). exchangePlanned (exchange (y .state) command) (y .state .wires) st command reply write read) e
 
   -- a wire read
   pub wire-by : (index bit v : ℕ) (ok : Bool) → ok ≡ definedBit index bit → not ok ≡ false → v ≡ readWire (g .state .wires) index bit
@@ -107,22 +108,22 @@ wire-refused w index bit false eo h = ap (λ (b : Bool). word (pick b 0 22) (pic
 
 -- ---- a plan carried out
 
-pub planned-by : (p : Plan) (st st′ command reply reply′ write write′ read : List ℕ) (n : ℕ)
+pub planned-by : (p : Plan) (w : Wires) (st st′ command reply reply′ write write′ read : List ℕ) (n : ℕ)
     → st′ ≡ over (packed (p .next)) st
-    → reply′ ≡ over (replyBytes (p .reply) read) reply
-    → n ≡ length (replyBytes (p .reply) read)
+    → reply′ ≡ over (replyBytes (p .reply) w read) reply
+    → n ≡ length (replyBytes (p .reply) w read)
     → write′ ≡ over (keptBytes (p .kept) command) write
-    → exchanged (p .number + 256 * n) st′ reply′ write′ ≡ exchangePlanned p st command reply write read
+    → exchanged (p .number + 256 * n) st′ reply′ write′ ≡ exchangePlanned p w st command reply write read
 unfolding exchangePlanned
-planned-by p st st′ command reply reply′ write write′ read n es er en ew = rw (es, er, en, ew)
+planned-by p w st st′ command reply reply′ write write′ read n es er en ew = rw (es, er, en, ew)
 
 -- a bigger store keeps as much
 pub kept-wider : (k : Kept) (m a b : ℕ) → a ≤ b → KeptFits k m a → KeptFits k m b
 kept-wider K.Nothing m a b h f = tt
 kept-wider (K.Data at n) m a b h f = record { there = f .there; most = omega (arith, f .most) }
 
-pub exchange-fits : (s : State) (command : List ℕ) (p : Plan) → sound s ≡ true → p ≡ exchange s command → PlanFits (length command) p
-exchange-fits s command p h e = subst (PlanFits (length command)) (sym e) (F.exchange-fits s h command)
+pub exchange-fits : (s : State) (command : List ℕ) (p : Plan) → sound s ≡ true → p ≡ exchange s command → PlanFits (length command) (s .wires) p
+exchange-fits s command p h e = subst (PlanFits (length command) (s .wires)) (sym e) (F.exchange-fits s h command)
 
 pub answer-fits : (s : State) (serial n : ℕ) (success : Bool) (p : Plan) → sound s ≡ true → p ≡ lift peripheral s (P.answerTo (s .peripheral) serial success n) → KeptFits (p .kept) n 4096
 answer-fits s serial n success p h e = subst (λ (q : Plan). KeptFits (q .kept) n 4096) (sym e) (F.answer-fits s h serial success n)

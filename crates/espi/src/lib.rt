@@ -4,6 +4,7 @@ use rules::Plan;
 use state::State;
 use state::load;
 use state::pack;
+use wires::Wires;
 ghost use mathlib.Core.Path.{_≡_};
 ghost use Prim.Native.Nat.{_≤_};
 ghost use lib.ListN.{length};
@@ -71,23 +72,24 @@ pub extern "C" fn espi_platform_reset(state: &mut [u8]) -> u32
     0
 }
 
-// A plan carried out on the lent bytes.
+// A plan carried out on the lent bytes; a reply that carries wires shows them as they were.
 fn commit(
     p: Plan,
+    was: Wires,
     state: &mut [u8],
     command: &[u8],
     reply: &mut [u8],
     write_store: &mut [u8],
     read_store: &[u8],
 ) -> u32
-    requires { ⌜ (77 ≤ length (now state)) × (263 ≤ length (now reply)) × (256 ≤ length (now «write_store»)) × (4096 ≤ length (now «read_store»)) × ReplyFits (p .reply) × KeptFits (p .kept) (length (now command)) 256 ⌝ }
-    ensures { λ r. ⌜ exchanged r (now (state .exit)) (now (reply .exit)) (now («write_store» .exit)) ≡ exchangePlanned p (now (state .entry)) (now (command .entry)) (now (reply .entry)) (now («write_store» .entry)) (now («read_store» .entry)) ⌝ }
+    requires { ⌜ (77 ≤ length (now state)) × (263 ≤ length (now reply)) × (256 ≤ length (now «write_store»)) × (4096 ≤ length (now «read_store»)) × ReplyFits (p .reply) was × KeptFits (p .kept) (length (now command)) 256 ⌝ }
+    ensures { λ r. ⌜ exchanged r (now (state .exit)) (now (reply .exit)) (now («write_store» .exit)) ≡ exchangePlanned p was (now (state .entry)) (now (command .entry)) (now (reply .entry)) (now («write_store» .entry)) (now («read_store» .entry)) ⌝ }
 {
     let next = p.next;
     let r = p.reply;
     let k = p.kept;
     pack(next, state);
-    let n = reply::put_reply(reply, r, read_store);
+    let n = reply::put_reply(reply, r, was, read_store);
     reply::keep(write_store, k, command);
     (p.number as u32) + 256 * n
 }
@@ -119,8 +121,9 @@ pub extern "C" fn espi_exchange(
         return rules::STATE_NOT_SOUND;
     }
     let s = got.state;
+    let was = s.wires;
     let p = engine::exchange(s, command);
-    commit(p, state, command, reply, write_store, read_store)
+    commit(p, was, state, command, reply, write_store, read_store)
 }
 
 #[no_mangle]

@@ -4,8 +4,9 @@ ghost use mathlib.Core.Bool.{true};
 ghost use Prim.Native.Nat.{_+_, _-_, _*_, _≤_, _<_};
 ghost use lib.ListN.{length, take};
 ghost use Rattle.wires.specs.Turn.{after};
-ghost use Rattle.wires.specs.Sending.{packetAnd, leftBy, asked, sending, Sendable};
-ghost use Rattle.wires.specs.Groups.{senders, groupOf, freshWires, withGroup, levelAt, nibble, putPair, putPairs, definedBit, settable, setWire, readWire, anyPending, wiresStatus, differs, enabled, disabled, placed, resetGroup, platformWires, onlyDefined, undefinedZero, marksRight, placeRight, soundWires};
+ghost use Rattle.wires.specs.Table.{upsBefore, senders, groupAt};
+ghost use Rattle.wires.specs.Sending.{begun, takes, past, sending};
+ghost use Rattle.wires.specs.Groups.{senderSize, waiting, leftBy, pairOf, freshWires, withGroup, levelAt, nibble, putPair, putPairs, definedBit, settable, setWire, readWire, anyPending, wiresStatus, remarked, enabled, disabled, resetGroup, platformWires, groupRight, soundWires};
 ghost use Rattle.wires.specs.Layout.{wiresBytes, wiresIn};
 
 pub struct WireRow {
@@ -54,6 +55,9 @@ pub const TABLE: [WireRow; 6] = [
     },
 ];
 
+// Where going round begins: "from 4 itself".
+const FIRST_PLACE: u8 = 4;
+
 // Index i stands at place i - 2 of both arrays; `place` is the index that the next GET_VWIRE begins with.
 pub struct Wires {
     pub level: [u8; 6],
@@ -61,18 +65,10 @@ pub struct Wires {
     pub place: u8,
 }
 
-// One group as it is sent.
-pub struct Group {
-    pub index: u8,
-    pub byte: u8,
-}
-
-// What a GET_VWIRE sends: at most the three up groups.
-pub enum Packet {
-    Nothing,
-    One(Group),
-    Two(Group, Group),
-    Three(Group, Group, Group),
+// What a GET_VWIRE sends, over the wires as they were: so many entries, going round from a place.
+pub struct Packet {
+    pub place: u8,
+    pub count: u8,
 }
 
 // What a GET_VWIRE sends, and the wires after it.
@@ -81,11 +77,11 @@ pub struct Sending {
     pub next: Wires,
 }
 
-// Going round: the packet so far, the wires after it, and how many groups more it holds.
-struct Asking {
-    packet: Packet,
-    next: Wires,
-    left: u32,
+// Going round: the sender to be asked now, how many are still to be asked, and the room left in the packet.
+pub struct Going {
+    pub k: u8,
+    pub left: u8,
+    pub room: u32,
 }
 
 // Four bits: those of `val` where the mask has ones, those of `old` elsewhere.
@@ -96,31 +92,61 @@ fn nibble_of(old: u8, val: u8, mask: u8) -> u8
     (old & (15 - mask)) | (val & mask)
 }
 
-fn after_sender(k: u8) -> u8
-    requires { ⌜ k < 3 ⌝ }
-    ensures { λ r. ⌜ (r ≡ after senders k) × (r < 3) ⌝ }
+// How many up rows stand before a place of the table.
+fn ups_before(at: usize) -> u8
+    requires { ⌜ at ≤ 6 ⌝ }
+    ensures { λ r. ⌜ (r ≡ upsBefore at) × (r ≤ at) ⌝ }
 {
-    if k + 1 < 3 {
+    let mut ups: u8 = 0;
+    let mut i: usize = 0;
+    while i < at {
+        ups += base::bit_of(!TABLE[i].down);
+        i += 1;
+    }
+    ups
+}
+
+// The place in the table of sender k: the first with more than k up rows up to it.
+fn up_row(k: u8) -> usize
+    requires { ⌜ k < senders ⌝ }
+    ensures { λ r. ⌜ (r + 2 ≡ groupAt k) × (r < 6) ⌝ }
+{
+    let mut at: usize = 0;
+    while ups_before(at + 1) <= k {
+        at += 1;
+    }
+    at
+}
+
+fn after_sender(k: u8) -> u8
+    requires { ⌜ k < senders ⌝ }
+    ensures { λ r. ⌜ (r ≡ after senders k) × (r < senders) ⌝ }
+{
+    if k + 1 < ups_before(6) {
         return k + 1;
     }
     0
 }
 
-impl Packet {
-    // One group more; there is no fourth.
-    fn and(self, group: Group) -> Packet
-        ensures { λ r. ⌜ r ≡ packetAnd self group ⌝ }
-    {
-        match self {
-            Packet::Nothing => Packet::One(group),
-            Packet::One(a) => Packet::Two(a, group),
-            Packet::Two(a, b) => Packet::Three(a, b, group),
-            Packet::Three(a, b, c) => Packet::Three(a, b, c),
-        }
+// A group is one entry of a packet.
+fn sender_size(k: u8) -> u32
+    ensures { λ r. ⌜ r ≡ senderSize k ⌝ }
+{
+    1
+}
+
+// Every sender is to be asked, from the group at the place on.
+pub fn go_round(place: u8, capacity: u32) -> Going
+    requires { ⌜ (4 ≤ place) × (place ≤ 6) ⌝ }
+    ensures { λ r. ⌜ r ≡ begun place capacity ⌝ }
+{
+    Going {
+        k: ups_before((place - 2) as usize),
+        left: ups_before(6),
+        room: capacity,
     }
 }
 
-// "undefined wire bits are 0"
 pub fn defined_bit(index: u32, bit: u32) -> bool
     ensures { λ r. ⌜ r ≡ definedBit index bit ⌝ }
 {
@@ -161,19 +187,20 @@ impl Wires {
                 TABLE[5].reset,
             ],
             pending: [false; 6],
-            place: 4,
+            place: FIRST_PLACE,
         }
     }
 
-    // The one place where a group changes.
-    fn with(self, index: usize, level: u8, mark: bool) -> Wires
+    // The one place where the wires change: a group's level and mark, and the place.
+    fn with(self, index: usize, level: u8, mark: bool, place: u8) -> Wires
         requires { ⌜ (2 ≤ index) × (index ≤ 7) ⌝ }
-        ensures { λ r. ⌜ r ≡ withGroup self index level mark ⌝ }
+        ensures { λ r. ⌜ r ≡ withGroup self index level mark place ⌝ }
     {
         let i = index - 2;
         let mut next = self;
         next.level[i] = level;
         next.pending[i] = mark;
+        next.place = place;
         next
     }
 
@@ -192,7 +219,7 @@ impl Wires {
             return self;
         }
         let level = nibble_of(self.level[at], byte % 16, (byte / 16) & TABLE[at].defined);
-        self.with(index as usize, level, self.pending[at])
+        self.with(index as usize, level, self.pending[at], self.place)
     }
 
     pub fn put(self, pairs: &[u8], n: usize) -> Wires
@@ -219,6 +246,7 @@ impl Wires {
             index as usize,
             level,
             self.pending[at] | (on & (level != old)),
+            self.place,
         )
     }
 
@@ -230,74 +258,100 @@ impl Wires {
         ((self.level[at] >> bit) % 2) as u32
     }
 
-    // "with all defined bits valid"
-    fn group(self, k: u8) -> Group
-        requires { ⌜ (k < 3) × (levelAt self (k + 4) < 16) ⌝ }
-        ensures { λ r. ⌜ r ≡ groupOf self k ⌝ }
+    fn waits(self, k: u8) -> bool
+        requires { ⌜ k < senders ⌝ }
+        ensures { λ r. ⌜ r ≡ waiting self k ⌝ }
     {
-        let at = (k + 2) as usize;
+        self.pending[up_row(k)]
+    }
+
+    // Whether the sender asked now is taken: it waits, and it fits.
+    pub fn takes(self, g: Going) -> bool
+        requires { ⌜ g .k < senders ⌝ }
+        ensures { λ r. ⌜ r ≡ takes self g ⌝ }
+    {
+        self.waits(g.k) & (sender_size(g.k) <= g.room)
+    }
+
+    // The next sender is asked; at the first that does not fit the packet closes.
+    pub fn past(self, g: Going) -> Going
+        requires { ⌜ (g .k < senders) × (0 < g .left) ⌝ }
+        ensures { λ r. ⌜ r ≡ past self g ⌝ }
+    {
+        let next = after_sender(g.k);
+        if !self.waits(g.k) {
+            return Going {
+                k: next,
+                left: g.left - 1,
+                room: g.room,
+            };
+        }
+        let size = sender_size(g.k);
+        if g.room < size {
+            return Going {
+                k: g.k,
+                left: 0,
+                room: g.room,
+            };
+        }
+        Going {
+            k: next,
+            left: g.left - 1,
+            room: g.room - size,
+        }
+    }
+
+    // Index and data of a sender, "with all defined bits valid".
+    pub fn pair(self, k: u8) -> [u8; 2]
+        requires { ⌜ (k < senders) × (levelAt self (groupAt k) < 16) ⌝ }
+        ensures { λ r. ⌜ r ≡ pairOf self k ⌝ }
+    {
+        let at = up_row(k);
         let valid = TABLE[at].defined;
-        let byte = valid * 16 + self.level[at];
-        let index = k + 4;
-        Group { index, byte }
+        [TABLE[at].index, valid * 16 + self.level[at]]
     }
 
     // Sender k is sent: its mark goes, and the place moves behind it.
     fn left_by(self, k: u8) -> Wires
-        requires { ⌜ k < 3 ⌝ }
+        requires { ⌜ k < senders ⌝ }
         ensures { λ r. ⌜ r ≡ leftBy self k ⌝ }
     {
-        let at = (k + 2) as usize;
-        let next = after_sender(k);
-        self.with((k + 4) as usize, self.level[at], false)
-            .placed(next + 4)
-    }
-
-    // Sender k is asked: it is taken if it waits and the packet has room.
-    fn asked(self, so_far: Asking, k: u8) -> Asking
-        requires { ⌜ (k < 3) × (levelAt self (k + 4) < 16) ⌝ }
-        ensures { λ r. ⌜ r ≡ asked self «so_far» k ⌝ }
-    {
-        let at = (k + 2) as usize;
-        if !self.pending[at] {
-            return so_far;
-        }
-        if so_far.left < 1 {
-            return so_far;
-        }
-        let packet = so_far.packet;
-        let next = so_far.next;
-        Asking {
-            packet: packet.and(self.group(k)),
-            next: next.left_by(k),
-            left: so_far.left - 1,
-        }
+        let at = up_row(k);
+        let next = up_row(after_sender(k));
+        self.with(at + 2, self.level[at], false, TABLE[next].index)
     }
 
     pub fn send(self, capacity: u32) -> Sending
-        requires { ⌜ Sendable self ⌝ }
+        requires { ⌜ (4 ≤ self .place) × (self .place ≤ 6) × (capacity ≤ 64) ⌝ }
         ensures { λ r. ⌜ r ≡ sending self capacity ⌝ }
     {
-        let a = self.place - 4;
-        let b = after_sender(a);
-        let c = after_sender(b);
-        let none = Asking {
-            packet: Packet::Nothing,
-            next: self,
-            left: capacity,
-        };
-        let one = self.asked(none, a);
-        let two = self.asked(one, b);
-        let all = self.asked(two, c);
-        let packet = all.packet;
-        let next = all.next;
-        Sending { packet, next }
+        let place = self.place;
+        let mut next = self;
+        let mut g = go_round(place, capacity);
+        while 0 < g.left {
+            if self.takes(g) {
+                next = next.left_by(g.k);
+            }
+            g = self.past(g);
+        }
+        let count = (capacity - g.room) as u8;
+        Sending {
+            packet: Packet { place, count },
+            next,
+        }
     }
 
     pub fn any_pending(self) -> bool
         ensures { λ r. ⌜ r ≡ anyPending self ⌝ }
     {
-        self.pending[2] | (self.pending[3] | self.pending[4])
+        let n = ups_before(6);
+        let mut any = false;
+        let mut k: u8 = 0;
+        while k < n {
+            any = any | self.waits(k);
+            k += 1;
+        }
+        any
     }
 
     // Bit 2, VWIRE_FREE, is always 1.
@@ -307,95 +361,67 @@ impl Wires {
         4 + (base::bit_of(self.any_pending()) as u32) * 64
     }
 
-    fn differs(self, index: usize) -> bool
-        requires { ⌜ (2 ≤ index) × (index ≤ 7) ⌝ }
-        ensures { λ r. ⌜ r ≡ differs self index ⌝ }
+    // Each mark anew: that of an up group that differs from its reset value, or none.
+    fn remarked(self, on: bool, place: u8) -> Wires
+        ensures { λ r. ⌜ r ≡ remarked on self place ⌝ }
     {
-        let at = index - 2;
-        self.level[at] != TABLE[at].reset
+        let mut next = self;
+        let mut i: usize = 0;
+        while i < 6 {
+            let mark = on & (!TABLE[i].down & (self.level[i] != TABLE[i].reset));
+            next = next.with(i + 2, self.level[i], mark, place);
+            i += 1;
+        }
+        next
     }
 
     // "Enabling it from disabled makes each up group pending that differs from its reset value."
     pub fn enabled(self) -> Wires
         ensures { λ r. ⌜ r ≡ enabled self ⌝ }
     {
-        self.with(4, self.level[2], self.differs(4))
-            .with(5, self.level[3], self.differs(5))
-            .with(6, self.level[4], self.differs(6))
+        self.remarked(true, self.place)
     }
 
     pub fn disabled(self) -> Wires
         ensures { λ r. ⌜ r ≡ disabled self ⌝ }
     {
-        let level = self.level;
-        Wires {
-            level,
-            pending: [false; 6],
-            place: 4,
-        }
-    }
-
-    fn placed(self, place: u8) -> Wires
-        ensures { λ r. ⌜ r ≡ placed self place ⌝ }
-    {
-        let level = self.level;
-        let pending = self.pending;
-        Wires {
-            level,
-            pending,
-            place,
-        }
+        self.remarked(false, FIRST_PLACE)
     }
 
     fn reset_group(self, index: usize) -> Wires
         requires { ⌜ (2 ≤ index) × (index ≤ 7) ⌝ }
         ensures { λ r. ⌜ r ≡ resetGroup self index ⌝ }
     {
-        self.with(index, TABLE[index - 2].reset, false)
+        self.with(index, TABLE[index - 2].reset, false, FIRST_PLACE)
     }
 
     pub fn platform(self) -> Wires
         ensures { λ r. ⌜ r ≡ platformWires self ⌝ }
     {
-        self.reset_group(6).reset_group(7).placed(4)
+        self.reset_group(6).reset_group(7)
     }
 
-    fn only_defined(self, index: usize) -> bool
+    // A group's undefined bits are 0, and it is pending only where it may be.
+    fn group_right(self, on: bool, index: usize) -> bool
         requires { ⌜ (2 ≤ index) × (index ≤ 7) ⌝ }
-        ensures { λ r. ⌜ r ≡ onlyDefined self index ⌝ }
+        ensures { λ r. ⌜ r ≡ groupRight on self index ⌝ }
     {
         let at = index - 2;
         let level = self.level[at];
-        (level & (15 - TABLE[at].defined) == 0) & (level < 16)
-    }
-
-    fn undefined_zero(self) -> bool
-        ensures { λ r. ⌜ r ≡ undefinedZero self ⌝ }
-    {
-        self.only_defined(2)
-            & self.only_defined(3)
-            & self.only_defined(4)
-            & self.only_defined(5)
-            & self.only_defined(6)
-            & self.only_defined(7)
-    }
-
-    fn marks_right(self, on: bool) -> bool
-        ensures { λ r. ⌜ r ≡ marksRight on self ⌝ }
-    {
-        !(self.pending[0] | (self.pending[1] | self.pending[5])) & (on | !self.any_pending())
-    }
-
-    fn place_right(self) -> bool
-        ensures { λ r. ⌜ r ≡ placeRight self ⌝ }
-    {
-        (4 <= self.place) & (self.place <= 6)
+        let clean = (level & (15 - TABLE[at].defined) == 0) & (level < 16);
+        clean & (!self.pending[at] | (on & !TABLE[at].down))
     }
 
     pub fn sound(self, on: bool) -> bool
         ensures { λ r. ⌜ r ≡ soundWires on self ⌝ }
     {
-        self.undefined_zero() & self.marks_right(on) & self.place_right()
+        let mut ok = true;
+        let mut i: usize = 0;
+        while i < 6 {
+            ok = self.group_right(on, i + 2) & ok;
+            i += 1;
+        }
+        ok & ((4 <= self.place) & (self.place <= 6))
     }
 
     pub fn bytes(self) -> [u8; 13]

@@ -33,7 +33,7 @@ same-length-3 : tie.Need-same-length-3
 same-length-3 c = search needs
 
 returns : tie.Need-returns
-returns c = let a = c .before .before .before .before .before .before .before .before .before .before .before .before .before .before .before .before .before .before .before .args in planned-by (a .p) (now (a .state)) _ (now (a .command)) (now (a .reply)) _ (now (a .write-store)) _ (now (a .read-store)) _ (c .before .before .before .before .before .before .before .before .before .before .before .pack .ensures) (c .before .before .before .before .before .before .before .put-reply .ensures .0) (c .before .before .before .before .before .before .before .put-reply .ensures .1) (c .before .before .before .keep .ensures)
+returns c = let a = c .before .before .before .before .before .before .before .before .before .before .before .before .before .before .before .before .before .before .before .args in planned-by (a .p) (a .was) (now (a .state)) _ (now (a .command)) (now (a .reply)) _ (now (a .write-store)) _ (now (a .read-store)) _ (c .before .before .before .before .before .before .before .before .before .before .before .pack .ensures) (c .before .before .before .before .before .before .before .put-reply .ensures .0) (c .before .before .before .before .before .before .before .put-reply .ensures .1) (c .before .before .before .keep .ensures)
 
 pub commit-spec : {M : Type 1} → statement M
 commit-spec =

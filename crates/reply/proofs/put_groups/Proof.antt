@@ -1,92 +1,99 @@
-use mathlib.Core.Path.{refl}
+use Prim.Native.Nat.{_+_, _≤_, _<_}
+use mathlib.Core.Path.{_≡_, refl, ap, _∙_}
 use native.Mathlib.Omega.{arith}
-use Rattle.reply.specs.Written.{by-packet}
-use native.Mathlib.Omega.{arith}
+use lib.ListN.{length}
+use Rattle.base.specs.Bytes.{put}
+use Rattle.wires.specs.Table.{senders}
+use Rattle.wires.specs.Rows.{place-up}
+use Rattle.wires.specs.Groups.{pairBytes}
+use Rattle.wires.specs.Sending.{turnOf, step}
+use Rattle.wires.specs.declared.Going.{Going}
+use Rattle.reply.specs.Written.{Written, written-first, pairs-small, written-next, written-whole}
 use borrow.Author.Needs.{needs}
 use Rattle.reply.proofs.put_groups.Statement.{statement}
 use Rattle.reply.proofs.put_groups.Tie as tie
 
-enum-told : tie.Need-enum-told
-enum-told c = search needs
+abbrev Inv-loop : tie.InvT-loop
+Inv-loop reply₀ code w at₀ g₀ reply at g = (g .k < senders) × (length reply ≡ length reply₀)
+    × Written w g at reply (put at₀ (pairBytes w (turnOf w g₀)) reply₀) (at₀ + length (pairBytes w (turnOf w g₀)))
 
-slice-aggregate-put-at : tie.Need-slice-aggregate-put-at
+abbrev μ-loop : tie.MeasureT-loop
+μ-loop reply₀ code w at₀ g₀ reply at g = g .left
+
+sub-t11 : tie.Need-sub-t11 Inv-loop μ-loop
+sub-t11 c = c .before .before .before .pre .1 .some
+
+slice-aggregate-put-at : tie.Need-slice-aggregate-put-at Inv-loop μ-loop
 slice-aggregate-put-at c = search needs
 
-put-at-requires : tie.Need-put-at-requires
+put-at-requires : tie.Need-put-at-requires Inv-loop μ-loop
 put-at-requires c κs = search needs
 
-enum-known-p : tie.Need-enum-known-p
-enum-known-p c = search needs
+cast-go-round : tie.Need-cast-go-round Inv-loop μ-loop
+cast-go-round c = search needs
 
-slice-aggregate-put-at-2 : tie.Need-slice-aggregate-put-at-2
-slice-aggregate-put-at-2 c = search needs
+go-round-requires : tie.Need-go-round-requires Inv-loop μ-loop
+go-round-requires c κs = (c .before .before .before .before .before .before .before .before .pre .1 .from, c .before .before .before .before .before .before .before .before .pre .1 .upto)
 
-put-at-requires-2 : tie.Need-put-at-requires-2
-put-at-requires-2 c κs = search needs
+loop-holds : tie.Need-loop-holds Inv-loop μ-loop
+loop-holds c = let s = c .before .before .before .before .before .before .before .before .before in (
+  omega (arith, ap (λ (g : Going). g .k) (c .go-round .ensures), place-up (s .args .p .place) (s .pre .1 .from) (s .pre .1 .upto) .below),
+  refl,
+  record { rest = refl; end = refl },
+)
 
-enum-known-p-2 : tie.Need-enum-known-p-2
-enum-known-p-2 c = search needs
+put-pair-requires : tie.Need-put-pair-requires Inv-loop μ-loop
+put-pair-requires c κs = let s = c .before .before .before .before .before .before .before .before .before .before .before .before .before in
+    let l = c .before .before .before .loop in (
+      omega (arith, s .pre .0, l .inv .1, l .inv .2 .end, pairs-small (s .args .w) (s .args .p) (c .before .before .before .before .go-round .result) (c .before .before .before .before .go-round .ensures) (s .pre .1 .most)),
+      l .inv .0,
+      s .pre .1 .small (l .g .k) (l .inv .0),
+    )
 
-slice-aggregate-put-at-3 : tie.Need-slice-aggregate-put-at-3
-slice-aggregate-put-at-3 c = search needs
+past-requires : tie.Need-past-requires Inv-loop μ-loop
+past-requires c κs = (c .before .before .before .before .before .before .loop .inv .0, c .before .before .before .before .if1 .taken)
 
-put-at-requires-3 : tie.Need-put-at-requires-3
-put-at-requires-3 c κs = search needs
+loop-less : tie.Need-loop-less Inv-loop μ-loop
+loop-less c = let l = c .before .before .before .before .before .before .before .loop in
+    omega (arith, ap (λ (g : Going). g .left) (c .past .ensures), step (c .before .before .before .before .before .before .before .before .before .before .before .before .before .before .before .before .before .args .w) (l .g) (l .inv .0) (c .before .before .before .before .before .if1 .taken) .less)
 
-enum-known-p-3 : tie.Need-enum-known-p-3
-enum-known-p-3 c = search needs
+loop-again : tie.Need-loop-again Inv-loop μ-loop
+loop-again c = let s = c .before .before .before .before .before .before .before .before .before .before .before .before .before .before .before .before .before in
+    let l = c .before .before .before .before .before .before .before .loop in
+    let m = c .before .before .before .before .before .if1 .taken in
+    let w = c .before .before .before .put-pair .ensures in
+    let fit = pairs-small (s .args .w) (s .args .p) (c .before .before .before .before .before .before .before .before .go-round .result) (c .before .before .before .before .before .before .before .before .go-round .ensures) (s .pre .1 .most) in
+    let room : l .at ≤ length (l .reply) = omega (arith, s .pre .0, l .inv .1, l .inv .2 .end, fit) in (
+      omega (arith, ap (λ (g : Going). g .k) (c .past .ensures), step (s .args .w) (l .g) (l .inv .0) m .k),
+      search needs,
+      written-next (s .args .w) (l .g) _ (l .at) _ _ _ _ _ (l .inv .0) m room (w .0) (w .1) (c .past .ensures) (l .inv .2),
+    )
 
-slice-aggregate-put-at-4 : tie.Need-slice-aggregate-put-at-4
-slice-aggregate-put-at-4 c = search needs
-
-put-at-requires-4 : tie.Need-put-at-requires-4
-put-at-requires-4 c κs = search needs
-
-same-length : tie.Need-same-length
+same-length : tie.Need-same-length Inv-loop μ-loop
 same-length c = search needs
 
-returns : tie.Need-returns
-returns c = by-packet _ _ _ _ _ _ (c .before .before .before .before .before .enum-told .given .1) (c .before .before .put-at .ensures) refl (omega arith)
-
-same-length-2 : tie.Need-same-length-2
-same-length-2 c = search needs
-
-returns-2 : tie.Need-returns-2
-returns-2 c = by-packet _ _ _ _ _ _ (c .before .before .before .before .before .before .p .given .1) (c .before .before .put-at2 .ensures) refl (omega arith)
-
-same-length-3 : tie.Need-same-length-3
-same-length-3 c = search needs
-
-returns-3 : tie.Need-returns-3
-returns-3 c = by-packet _ _ _ _ _ _ (c .before .before .before .before .before .before .p2 .given .1) (c .before .before .put-at3 .ensures) refl (omega arith)
-
-same-length-4 : tie.Need-same-length-4
-same-length-4 c = search needs
-
-returns-4 : tie.Need-returns-4
-returns-4 c = by-packet _ _ _ _ _ _ (c .before .before .before .before .before .before .p3 .given .1) (c .before .before .put-at4 .ensures) refl (omega arith)
+returns : tie.Need-returns Inv-loop μ-loop
+returns c = let s = c .before .before .before .before .before .before .before .before .before .before .before .before in
+    let l = c .before .before .loop in
+    let f = written-first (s .args .w) (s .args .p) (c .before .before .before .go-round .result) (s .args .code) _ _ (c .before .before .before .go-round .ensures) (c .before .before .before .before .before .before .before .put-at .ensures) in
+    written-whole (s .args .w) (s .args .p) (l .g) (s .args .code) (l .at) _ _ (s .pre .1 .most) (omega (arith, c .if1 .left))
+    (record { rest = l .inv .2 .rest ∙ f .rest; end = l .inv .2 .end ∙ f .end })
 
 pub put-groups-spec : {M : Type 1} → statement M
 put-groups-spec =
     tie.close
     (tie.spec
-    enum-told
+    Inv-loop
+    μ-loop
+    sub-t11
     slice-aggregate-put-at
     put-at-requires
-    enum-known-p
-    slice-aggregate-put-at-2
-    put-at-requires-2
-    enum-known-p-2
-    slice-aggregate-put-at-3
-    put-at-requires-3
-    enum-known-p-3
-    slice-aggregate-put-at-4
-    put-at-requires-4
+    cast-go-round
+    go-round-requires
+    loop-holds
+    put-pair-requires
+    past-requires
+    loop-less
+    loop-again
     same-length
-    returns
-    same-length-2
-    returns-2
-    same-length-3
-    returns-3
-    same-length-4
-    returns-4)
+    returns)

@@ -14,6 +14,7 @@ use Rattle.crc.specs.Crc.{crc}
 use Rattle.registers.specs.Registers.{fresh008, readAt, writeAt}
 use Rattle.registers.specs.declared.Config.{Config}
 use Rattle.wires.specs.Groups.{wiresStatus}
+use Rattle.wires.specs.declared.Wires.{Wires}
 use Rattle.command.specs.declared.Command as C₀
 use Rattle.peripheral.specs.Status.{peripheralStatus}
 use Rattle.peripheral.specs.declared.Peripheral.{Peripheral}
@@ -91,27 +92,30 @@ closed-but x m s =
     (getD-at m (t % 256) _ 0 (length m) refl) (getD-append-add m end 1 0 ∙ omega (arith, status-small s))
 
 -- what a plan says, in two states that are alike but for x, its body's bytes being the same
-abbrev bodyOf : Say → List ℕ → List ℕ
-bodyOf Y.Silent reads = []
-bodyOf (Y.Said r body) reads = bodyBytes body reads
+abbrev bodyOf : Say → World → List ℕ
+bodyOf Y.Silent w = []
+bodyOf (Y.Said r body) w = bodyBytes body (w .state .wires) (w .read)
 
-module _ (x : Channel) (s t : State) (h : StatesAlike x s t) (l m : List ℕ) where
-  said-but : (y : Say) → bodyOf y l ≡ bodyOf y m → replyBut x (replyBytes (withStatus y (status s)) l) ≡ replyBut x (replyBytes (withStatus y (status t)) m)
+module _ (x : Channel) (s t : State) (h : StatesAlike x s t) (w v : World) where
+  abbrev replyOn : World → Say → ℕ → List ℕ
+  replyOn u y word = replyBytes (withStatus y word) (u .state .wires) (u .read)
+
+  said-but : (y : Say) → bodyOf y w ≡ bodyOf y v → replyBut x (replyOn w y (status s)) ≡ replyBut x (replyOn v y (status t))
   unfolding replyBytes
   said-but Y.Silent e = refl
   said-but (Y.Said r body) e =
-      closed-but x (responseByte r ∷ bodyBytes body l) s
-      ∙ ap (λ (z : ℕ). (responseByte r ∷ bodyBytes body l) ++ (z ∷ 0 ∷ [])) (status-alike x s t h)
+      closed-but x (responseByte r ∷ bodyOf (Y.Said r body) w) s
+      ∙ ap (λ (z : ℕ). (responseByte r ∷ bodyOf (Y.Said r body) w) ++ (z ∷ 0 ∷ [])) (status-alike x s t h)
       ∙ ap (λ (z : List ℕ). (responseByte r ∷ z) ++ (clear x (status t % 256) ∷ 0 ∷ [])) e
-      ∙ sym (closed-but x (responseByte r ∷ bodyBytes body m) t)
+      ∙ sym (closed-but x (responseByte r ∷ bodyOf (Y.Said r body) v) t)
 
-  said-length : (y : Say) → bodyOf y l ≡ bodyOf y m → length (replyBytes (withStatus y (status s)) l) ≡ length (replyBytes (withStatus y (status t)) m)
+  said-length : (y : Say) → bodyOf y w ≡ bodyOf y v → length (replyOn w y (status s)) ≡ length (replyOn v y (status t))
   unfolding replyBytes
   said-length Y.Silent e = refl
   said-length (Y.Said r body) e =
-      closed-length (responseByte r ∷ bodyBytes body l) (status s)
+      closed-length (responseByte r ∷ bodyOf (Y.Said r body) w) (status s)
       ∙ ap (λ (z : List ℕ). length (responseByte r ∷ z) + 3) e
-      ∙ sym (closed-length (responseByte r ∷ bodyBytes body m) (status t))
+      ∙ sym (closed-length (responseByte r ∷ bodyOf (Y.Said r body) v) (status t))
 
 -- ---- states and worlds alike but for x
 
@@ -154,12 +158,13 @@ each-alike : (x : Channel) (f g : (k : Channel) → Part k → Part k) (c d : Co
 each-alike x f g c d s t e u h =
     record { config = e; parts = λ y n. part-each f c s y ∙ ap (f y) (h .parts y n) ∙ u y (part y t) ∙ sym (part-each g d t y) }
 
--- ---- stores: a body of a channel's own reads none but its stores, data of its own goes to none but these
+-- ---- stores: a body of a channel's own reads none but its part and its stores, data of its own goes to none but these
 
-own-bytes : (k : Channel) (body : Body) (write read write′ read′ : List ℕ) → ownBody k body ≡ true → storesOf k write read ≡ storesOf k write′ read′
-    → bodyBytes body read ≡ bodyBytes body read′
-own-bytes peripheral body write read write′ read′ o e = ap (λ (l : List (List ℕ)). bodyBytes body (getD l 1 [])) e
-own-bytes wires body write read write′ read′ o e = W₁.own-bytes body read read′ o
+own-bytes : (k : Channel) (body : Body) (w v : World) → ownBody k body ≡ true → part k (w .state) ≡ part k (v .state)
+    → storesOf k (w .write) (w .read) ≡ storesOf k (v .write) (v .read) → bodyBytes body (w .state .wires) (w .read) ≡ bodyBytes body (v .state .wires) (v .read)
+own-bytes peripheral body w v o p e =
+    P₁.own-bytes body (w .state .wires) (v .state .wires) (w .read) o ∙ ap (λ (l : List (List ℕ)). bodyBytes body (v .state .wires) (getD l 1 [])) e
+own-bytes wires body w v o p e = ap (λ (u : Wires). bodyBytes body u (w .read)) p ∙ W₁.own-bytes body (v .state .wires) (w .read) (v .read) o
 
 none-own : (k : Channel) → ownKept k K.Nothing ≡ true
 none-own peripheral = refl
@@ -205,30 +210,30 @@ record Together (x : Channel) (o q : Outcome) : Type 0 where
 module _ (x : Channel) (w v : World) (h : Alike x w v) where
   -- a plan that says and keeps the same in both, with the status of s and t, and s′ and t′ after it
   exchanged-together : (b : List ℕ) (n : ℕ) (y : Say) (kept : Kept) (s t s′ t′ : State) → StatesAlike x s t → StatesAlike x s′ t′
-      → bodyOf y (w .read) ≡ bodyOf y (v .read)
+      → bodyOf y w ≡ bodyOf y v
       → SameLack (over (keptBytes kept b) (w .write)) (w .read) (over (keptBytes kept b) (v .write)) (v .read)
       → Together x (exchanged w b (record { number = n; reply = withStatus y (status s); next = s′; kept = kept }))
       (exchanged v b (record { number = n; reply = withStatus y (status t); next = t′; kept = kept }))
   unfolding exchanged seen
   exchanged-together b n y kept s t s′ t′ g g′ e l =
-      let reply : List ℕ = replyBut x (replyBytes (withStatus y (status s)) (w .read)) in
-      let value : ℕ = length (replyBytes (withStatus y (status t)) (v .read)) in
+      let reply : List ℕ = replyBut x (replyBytes (withStatus y (status s)) (w .state .wires) (w .read)) in
+      let value : ℕ = length (replyBytes (withStatus y (status t)) (v .state .wires) (v .read)) in
       record {
         shows =
-            ap (λ (z : ℕ). record { number = n; value = z; report = []; reply = reply }) (said-length x s t g (w .read) (v .read) y e)
-            ∙ ap (λ (z : List ℕ). record { number = n; value = value; report = []; reply = z }) (said-but x s t g (w .read) (v .read) y e);
+            ap (λ (z : ℕ). record { number = n; value = z; report = []; reply = reply }) (said-length x s t g w v y e)
+            ∙ ap (λ (z : List ℕ). record { number = n; value = value; report = []; reply = z }) (said-but x s t g w v y e);
         next = record { state = g′; stores = λ z f. stores-written z (keptBytes kept b) (w .write) (w .read) (v .write) (v .read) (h .stores z f); room = l };
       }
 
   -- above all channels nothing is kept and no store is read
-  above-together : (b : List ℕ) (n : ℕ) (y : Say) (s′ t′ : State) → StatesAlike x s′ t′ → bodyOf y (w .read) ≡ bodyOf y (v .read)
+  above-together : (b : List ℕ) (n : ℕ) (y : Say) (s′ t′ : State) → StatesAlike x s′ t′ → bodyOf y w ≡ bodyOf y v
       → Together x (exchanged w b (record { number = n; reply = withStatus y (status (w .state)); next = s′; kept = K.Nothing }))
       (exchanged v b (record { number = n; reply = withStatus y (status (v .state)); next = t′; kept = K.Nothing }))
   unfolding over
   above-together b n y s′ t′ g e = exchanged-together b n y K.Nothing (w .state) (v .state) s′ t′ (h .state) g e (h .room)
 
   module _ (k : Channel) (other : same x k ≡ false) where
-    out-together : (b : List ℕ) (q : Part k) (n : ℕ) (y : Say) (kept : Kept) → bodyOf y (w .read) ≡ bodyOf y (v .read) → ownKept k kept ≡ true
+    out-together : (b : List ℕ) (q : Part k) (n : ℕ) (y : Say) (kept : Kept) → bodyOf y w ≡ bodyOf y v → ownKept k kept ≡ true
         → Together x (exchanged w b (lift k (w .state) (change k q (record { number = n; say = y; kept = kept }))))
         (exchanged v b (lift k (v .state) (change k q (record { number = n; say = y; kept = kept }))))
     out-together b q n y kept e o =
@@ -242,7 +247,7 @@ module _ (x : Channel) (w v : World) (h : Alike x w v) where
         → Together x (exchanged w b (lift k (w .state) c)) (exchanged v b (lift k (v .state) c))
     acts-together b {p = p} L.Acts.refused = out-together b p 1 _ K.Nothing refl (none-own k)
     acts-together b (L.Acts.accepted q body kept o n) =
-        out-together b q 0 (Y.Said _ body) kept (own-bytes k body (w .write) (w .read) (v .write) (v .read) o (h .stores k other)) n
+        out-together b q 0 (Y.Said _ body) kept (own-bytes k body w v o (h .state .parts k other) (h .stores k other)) n
 
     -- its change is the same in both
     acting-alike : (o : Command k) (b : List ℕ)

@@ -3,19 +3,19 @@
 use Prim.Native.Nat.{ℕ, _+_, _%_, _≤_}
 use mathlib.Core.Bool.{Bool, true, false, not}
 use mathlib.Core.List.{List, [], _∷_}
-use mathlib.Core.Path.{_≡_, refl}
+use mathlib.Core.Path.{_≡_, refl, ap, subst}
 use native.Mathlib.Omega.{arith}
 use lib.Dec.{eqb, ltb}
 use lib.ListN.{length, drop, length-append, length-take}
 use borrow.Author.Tests.{not-false, eqb-true, leb-true}
 use Rattle.base.specs.Pick.{pick, pick-ind}
-use Rattle.registers.specs.Registers.{payloadSize, operatingCount, crcChecked, forbiddenAt, reachable}
+use Rattle.registers.specs.Registers.{payloadSize, on1, operatingCount, crcChecked, forbiddenAt, reachable}
 use Rattle.registers.specs.Laws.{payload-legal, reachable-r010}
 use Rattle.registers.specs.declared.Config.{Config}
-use Rattle.wires.specs.Groups.{sent, packetBytes}
+use Rattle.wires.specs.Groups.{sent, packetOf, soundWires}
+use Rattle.wires.specs.Sending.{PacketFits}
+use Rattle.wires.specs.Sent.{packet-length, sent-fits}
 use Rattle.wires.specs.declared.Wires.{Wires}
-use Rattle.wires.specs.declared.Packet.{Packet}
-use Rattle.wires.specs.declared.Packet.the-variants as G
 use Rattle.command.specs.Decode.{admit}
 use Rattle.command.specs.Facts.{PeripheralLength, CommandLength, admit-length}
 use Rattle.command.specs.declared.Access.{Access}
@@ -40,7 +40,7 @@ use Rattle.peripheral.specs.declared.Peripheral.{Peripheral}
 use Rattle.peripheral.specs.Facts.{ReadyRequest, legal-payload, ready-request, waiting-request}
 use Rattle.peripheral.specs.Sound.{within, soundRequest}
 use Rattle.state.specs.declared.State.{State}
-use Rattle.state.specs.Facts.{sound-config, sound-request}
+use Rattle.state.specs.Facts.{sound-config, sound-request, sound-wires}
 use Rattle.state.specs.Sound.{sound}
 use Rattle.rules.specs.Rules.Out.{responseByte}
 use Rattle.rules.specs.Rules.Peripheral as P
@@ -62,49 +62,43 @@ use Rattle.rules.specs.declared.Reply.the-variants.{Silent, Said}
 
 -- ---- the reply's length
 
-packet-length : (p : Packet) → length (packetBytes p) ≤ 7
-packet-length G.Nothing = omega arith
-packet-length (G.One a) = omega arith
-packet-length (G.Two a b) = omega arith
-packet-length (G.Three a b c) = omega arith
-
-body-length : (b : Body) (reads : List ℕ) → BodyFits b → length (bodyBytes b reads) ≤ 259
-body-length B.Nothing reads f = omega arith
-body-length (B.Word v) reads f = omega arith
-body-length (B.Piece c) reads f = omega (arith, length-take (c .length) (drop (c .from) reads), f .most)
-body-length (B.Groups p) reads f = omega (arith, packet-length p)
+body-length : (b : Body) (w : Wires) (reads : List ℕ) → BodyFits b w → length (bodyBytes b w reads) ≤ 259
+body-length B.Nothing w reads f = omega arith
+body-length (B.Word v) w reads f = omega arith
+body-length (B.Piece c) w reads f = omega (arith, length-take (c .length) (drop (c .from) reads), f .most)
+body-length (B.Groups p) w reads f = omega (arith, packet-length w p, f .most)
 
 pub closed-length : (m : List ℕ) (status : ℕ) → length (closed m status) ≡ length m + 3
 unfolding closed
 closed-length m status = simp length-append (omega arith)
 
 -- "reply at least 263 bytes"
-pub reply-length : (r : Reply) (reads : List ℕ) → ReplyFits r → length (replyBytes r reads) ≤ 263
+pub reply-length : (r : Reply) (w : Wires) (reads : List ℕ) → ReplyFits r w → length (replyBytes r w reads) ≤ 263
 unfolding replyBytes
-reply-length Silent reads f = omega arith
-reply-length (Said response body status) reads f = omega (arith, closed-length (responseByte response ∷ bodyBytes body reads) status, body-length body reads f)
+reply-length Silent w reads f = omega arith
+reply-length (Said response body status) w reads f = omega (arith, closed-length (responseByte response ∷ bodyBytes body w reads) status, body-length body w reads f)
 
 -- ---- what goes out of a channel
 
-abbrev SayFits : Say → Type 0
-SayFits S.Silent = Unit {0}
-SayFits (S.Said response body) = BodyFits body
+abbrev SayFits : Say → Wires → Type 0
+SayFits S.Silent w = Unit {0}
+SayFits (S.Said response body) w = BodyFits body w
 
-abbrev OutFits : ℕ → Out → Type 0
-OutFits m out = SayFits (out .say) × KeptFits (out .kept) m 256
+abbrev OutFits : ℕ → Wires → Out → Type 0
+OutFits m w out = SayFits (out .say) w × KeptFits (out .kept) m 256
 
-with-status : (say : Say) (word : ℕ) → SayFits say → ReplyFits (withStatus say word)
-with-status S.Silent word f = f
-with-status (S.Said response body) word f = f
+with-status : (say : Say) (word : ℕ) (w : Wires) → SayFits say w → ReplyFits (withStatus say word) w
+with-status S.Silent word w f = f
+with-status (S.Said response body) word w f = f
 
-lift-fits : (k : Channel) (s : State) (x : Change k) (m : ℕ) → OutFits m (outOf k x) → PlanFits m (lift k s x)
+lift-fits : (k : Channel) (s : State) (x : Change k) (m : ℕ) → OutFits m (s .wires) (outOf k x) → PlanFits m (s .wires) (lift k s x)
 unfolding lift
-lift-fits k s x m f = record { reply = with-status (outOf k x .say) _ (f .0); kept = f .1 }
+lift-fits k s x m f = record { reply = with-status (outOf k x .say) _ (s .wires) (f .0); kept = f .1 }
 
 -- ---- channel 0
 
-abbrev Fits0 : ℕ → PeripheralChange → Type 0
-Fits0 m x = OutFits m (x .out)
+abbrev Fits0 : ℕ → Wires → PeripheralChange → Type 0
+Fits0 m w x = OutFits m w (x .out)
 
 -- where PUT_PC's data stands in the command
 data-there : (w : Bool) (n m : ℕ) → m ≡ 4 + pick w 8 4 + n + 1 → pick w 12 8 + n ≤ m
@@ -116,43 +110,43 @@ success-fits R.MemoryRead q sent r = record { most = r .nextMost; end = omega (a
 success-fits R.IoRead q sent r = record { most = r .nextMost; end = omega (arith, r .nextEnd, r .made .most) }
 success-fits R.IoWrite q sent r = record { most = omega arith; end = omega arith }
 
-module _ (c : Config) (p : Peripheral) (h : reachable c ≡ true) where
+module _ (c : Config) (p : Peripheral) (w : Wires) (h : reachable c ≡ true) where
   payload-most : payloadSize (c .r010) ≤ 256
   payload-most = legal-payload _ (payload-legal (c .r010) (reachable-r010 c h)) .most
 
-  post-fits : (m A L from : ℕ) → from + L ≤ m → Fits0 m (P.post c p A L from)
+  post-fits : (m A L from : ℕ) → from + L ≤ m → Fits0 m w (P.post c p A L from)
   unfolding P.post
   post-fits m A L from there =
       let N = payloadSize (c .r010) in
-      pick-ind (Fits0 m) (not (pcFree (p .write))) (λ _. (tt, tt))
-      (λ _. pick-ind (Fits0 m) (not (within A L N)) (λ _. (tt, tt))
-      (λ e. let w = leb-true (A % N + L) N (not-false (within A L N) e) in (tt, record { there = there; most = omega (arith, payload-most) })))
+      pick-ind (Fits0 m w) (not (pcFree (p .write))) (λ _. (tt, tt))
+      (λ _. pick-ind (Fits0 m w) (not (within A L N)) (λ _. (tt, tt))
+      (λ e. let l = leb-true (A % N + L) N (not-false (within A L N) e) in (tt, record { there = there; most = omega (arith, payload-most) })))
 
-  ask-fits : (m : ℕ) (q : Request) → Fits0 m (P.ask p q)
+  ask-fits : (m : ℕ) (q : Request) → Fits0 m w (P.ask p q)
   unfolding P.ask
   ask-fits m q =
-      pick-ind (Fits0 m) (not (npFree (p .request))) (λ _. (tt, tt))
-      (λ _. pick-ind (Fits0 m) (not (within (q .address) (q .length) (P.sizeFor (q .kind) q))) (λ _. (tt, tt)) (λ _. (tt, tt)))
+      pick-ind (Fits0 m w) (not (npFree (p .request))) (λ _. (tt, tt))
+      (λ _. pick-ind (Fits0 m w) (not (within (q .address) (q .length) (P.sizeFor (q .kind) q))) (λ _. (tt, tt)) (λ _. (tt, tt)))
 
-  short-fits : (a : Access) (at : Span) (b : List ℕ) → PeripheralLength (Short a at) (length b) → Fits0 (length b) (P.acting c p (P.shortAct c a at b))
+  short-fits : (a : Access) (at : Span) (b : List ℕ) → PeripheralLength (Short a at) (length b) → Fits0 (length b) w (P.acting c p (P.shortAct c a at b))
   short-fits IoRead at b e = ask-fits (length b) _
   short-fits IoWrite at b e = ask-fits (length b) _
   short-fits MemoryRead at b e = ask-fits (length b) _
   short-fits MemoryWrite at b e = post-fits (length b) (at .address) (at .size) 5 (omega arith)
 
-  upward-fits : (m : ℕ) (n : Np) → soundRequest n ≡ true → Fits0 m (P.handing p (upward n))
+  upward-fits : (m : ℕ) (n : Np) → soundRequest n ≡ true → Fits0 m w (P.handing p (upward n))
   unfolding upward
   upward-fits m Free e = (tt, tt)
   upward-fits m (Waiting q) e = (tt, tt)
   upward-fits m (Ready q sent) e = (success-fits (q .kind) q sent (ready-request q sent e), tt)
   upward-fits m (Failed q) e = (record { most = omega arith; end = omega arith }, tt)
 
-  get-pc-fits : (m : ℕ) → soundRequest (p .request) ≡ true → Fits0 m (P.getPc p)
+  get-pc-fits : (m : ℕ) → soundRequest (p .request) ≡ true → Fits0 m w (P.getPc p)
   unfolding P.getPc
   get-pc-fits m e = upward-fits m (p .request) e
 
   peripheral-fits : (o : PeripheralCommand) (b : List ℕ) → soundRequest (p .request) ≡ true → PeripheralLength o (length b)
-      → Fits0 (length b) (P.acting c p (P.actOf c o b))
+      → Fits0 (length b) w (P.acting c p (P.actOf c o b))
   peripheral-fits (PutPc x) b r e = post-fits (length b) (x .address) (x .length) (P.dataAt x) (data-there (x .wide) (x .length) (length b) e)
   peripheral-fits GetPc b r e = get-pc-fits (length b) r
   peripheral-fits (PutNp x) b r e = ask-fits (length b) _
@@ -187,48 +181,50 @@ module _ (p : Peripheral) (serial : ℕ) (success : Bool) (n : ℕ) where
 
 -- ---- channel 1
 
-abbrev Fits1 : ℕ → WiresChange → Type 0
-Fits1 m x = OutFits m (x .out)
+abbrev Fits1 : ℕ → Wires → WiresChange → Type 0
+Fits1 m w x = OutFits m w (x .out)
 
-module _ (c : Config) (w : Wires) (m : ℕ) where
-  put-vwire-fits : (n : ℕ) (pairs : List ℕ) → Fits1 m (W.putVwire c w n pairs)
+module _ (c : Config) (w : Wires) (m : ℕ) (h : soundWires (on1 (c .r020)) w ≡ true) where
+  put-vwire-fits : (n : ℕ) (pairs : List ℕ) → Fits1 m w (W.putVwire c w n pairs)
   unfolding W.putVwire
-  put-vwire-fits n pairs = pick-ind (Fits1 m) (ltb (operatingCount (c .r020)) n) (λ _. (tt, tt)) (λ _. (tt, tt))
+  put-vwire-fits n pairs = pick-ind (Fits1 m w) (ltb (operatingCount (c .r020)) n) (λ _. (tt, tt)) (λ _. (tt, tt))
 
-  sending-fits : (ks : List ℕ) → Fits1 m (W.sending w ks)
-  sending-fits [] = (tt, tt)
-  sending-fits (k ∷ ks) = (tt, tt)
+  sending-fits : (ks : List ℕ) → sent w (operatingCount (c .r020)) ≡ ks → Fits1 m w (W.sending w ks)
+  sending-fits [] e = (tt, tt)
+  sending-fits (k ∷ ks) e =
+      let n = ap length e in
+      (subst (λ (l : List ℕ). PacketFits w (packetOf w l)) e (sent-fits (on1 (c .r020)) w (operatingCount (c .r020)) (omega arith) h (omega arith)), tt)
 
-  get-vwire-fits : Fits1 m (W.getVwire c w)
+  get-vwire-fits : Fits1 m w (W.getVwire c w)
   unfolding W.getVwire
-  get-vwire-fits = sending-fits (sent w (operatingCount (c .r020)))
+  get-vwire-fits = sending-fits (sent w (operatingCount (c .r020))) refl
 
-  wires-fits : (o : WiresCommand) (b : List ℕ) → Fits1 m (W.acting c w (W.actOf o b))
+  wires-fits : (o : WiresCommand) (b : List ℕ) → Fits1 m w (W.acting c w (W.actOf o b))
   wires-fits (PutVwire n) b = put-vwire-fits n _
   wires-fits GetVwire b = get-vwire-fits
 
 -- ---- an exchange
 
 module _ (s : State) (h : sound s ≡ true) where
-  set-configuration-fits : (m a v : ℕ) → PlanFits m (setConfiguration s a v)
+  set-configuration-fits : (m a v : ℕ) → PlanFits m (s .wires) (setConfiguration s a v)
   unfolding setConfiguration
-  set-configuration-fits m a v = pick-ind (PlanFits m) (forbiddenAt a v) (λ _. record { reply = tt; kept = tt }) (λ _. record { reply = tt; kept = tt })
+  set-configuration-fits m a v = pick-ind (PlanFits m (s .wires)) (forbiddenAt a v) (λ _. record { reply = tt; kept = tt }) (λ _. record { reply = tt; kept = tt })
 
-  decide-fits : (o : Command) (b : List ℕ) → CommandLength o (length b) → PlanFits (length b) (decide s o b)
+  decide-fits : (o : Command) (b : List ℕ) → CommandLength o (length b) → PlanFits (length b) (s .wires) (decide s o b)
   unfolding decide
   decide-fits (C.Peripheral o) b e =
-      lift-fits peripheral s _ (length b) (peripheral-fits (s .config) (s .peripheral) (sound-config s h) o b (sound-request s h) e)
-  decide-fits (C.Wires o) b e = lift-fits wires s _ (length b) (wires-fits (s .config) (s .wires) (length b) o b)
+      lift-fits peripheral s _ (length b) (peripheral-fits (s .config) (s .peripheral) (s .wires) (sound-config s h) o b (sound-request s h) e)
+  decide-fits (C.Wires o) b e = lift-fits wires s _ (length b) (wires-fits (s .config) (s .wires) (length b) (sound-wires s h) o b)
   decide-fits (C.GetConfiguration a) b e = record { reply = tt; kept = tt }
   decide-fits (C.SetConfiguration a v) b e = set-configuration-fits (length b) a v
   decide-fits C.GetStatus b e = record { reply = tt; kept = tt }
   decide-fits C.Reset b e = record { reply = tt; kept = tt }
 
-  decoded-fits : (b : List ℕ) (d : Decoded) → admit (channelsOf (s .config)) (crcChecked (s .config .r008)) b ≡ d → PlanFits (length b) (byDecoded s b d)
+  decoded-fits : (b : List ℕ) (d : Decoded) → admit (channelsOf (s .config)) (crcChecked (s .config .r008)) b ≡ d → PlanFits (length b) (s .wires) (byDecoded s b d)
   decoded-fits b (Refused n) e = record { reply = tt; kept = tt }
   decoded-fits b (Known o) e = decide-fits o b (admit-length _ _ b o e)
 
-  pub exchange-fits : (b : List ℕ) → PlanFits (length b) (exchange s b)
+  pub exchange-fits : (b : List ℕ) → PlanFits (length b) (s .wires) (exchange s b)
   unfolding exchange
   exchange-fits b = decoded-fits b _ refl
 

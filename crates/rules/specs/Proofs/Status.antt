@@ -9,6 +9,7 @@ use Rattle.base.specs.Pick.{pick}
 use Rattle.base.specs.Bytes.{bit}
 use Rattle.registers.specs.Registers.{field}
 use Rattle.wires.specs.Groups.{anyPending}
+use Rattle.wires.specs.Sent.{pending-any}
 use Rattle.peripheral.specs.Status.{pcFree, npFree, pcAvail}
 use Rattle.state.specs.Status.{status}
 use Rattle.state.specs.declared.State.{State}
@@ -56,7 +57,7 @@ pub word-bits : (s : State)
     (groupPending (s .wires))
 unfolding status
 word-bits s =
-    rw (← free-as (s .peripheral .write), ← idle-as (s .peripheral .request), ← avail-as (s .peripheral .request))
+    rw (← free-as (s .peripheral .write), ← idle-as (s .peripheral .request), ← avail-as (s .peripheral .request), ← pending-any (s .wires))
     (bits-of (pcFree (s .peripheral .write)) (npFree (s .peripheral .request)) (pcAvail (s .peripheral .request)) (anyPending (s .wires)))
 
 -- ---- what a bit says, from the rows

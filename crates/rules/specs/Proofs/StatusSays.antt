@@ -87,7 +87,7 @@ shown-same op s = pick-ind (λ (n : ℕ). status s ≡ n) (eqb op 0x22) (λ _. r
 
 module _ (s : State) (b store : List ℕ) where
   abbrev Shown : Plan → Type 0
-  Shown p = replyBytes (p .reply) store ≢ [] → statusIn (replyBytes (p .reply) store) ≡ statusShown (byte b 0) s (p .next)
+  Shown p = replyBytes (p .reply) (s .wires) store ≢ [] → statusIn (replyBytes (p .reply) (s .wires) store) ≡ statusShown (byte b 0) s (p .next)
 
   -- no channel's command is a SET_CONFIGURATION
   not-set : (k : Channel) (o : Command k) → Admits s b (commandOf k o) → eqb (byte b 0) 0x22 ≡ false
@@ -95,7 +95,7 @@ module _ (s : State) (b store : List ℕ) where
       one (λ (op : ℕ). isOf k op ≡ true → eqb op 0x22 ≡ false) (byte b 0) 0x22 (λ h. absurd (true≢false (sym h ∙ above k .at22))) (λ n _. n)
       (command-own k s b o e)
 
-  said : (say : Say) (t : State) → replyBytes (withStatus say (status t)) store ≢ [] → statusIn (replyBytes (withStatus say (status t)) store) ≡ status t
+  said : (say : Say) (t : State) → replyBytes (withStatus say (status t)) (s .wires) store ≢ [] → statusIn (replyBytes (withStatus say (status t)) (s .wires) store) ≡ status t
   unfolding replyBytes
   said Y.Silent t some = absurd (some refl)
   said (Y.Said response body) t some = status-in _ t

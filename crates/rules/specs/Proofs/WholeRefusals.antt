@@ -53,19 +53,19 @@ module _ (st : List ℕ) (long : ltb (length st) stateLength ≡ false) (ok : no
   same = stored-same st (ltb-false (length st) stateLength long) (not-false (holds st) ok)
 
   planned-refuses : (command reply write read : List ℕ) (n : ℕ) (p : Plan) → p .number ≡ n → PlanAs n (unpacked st) p
-      → ExchangeRefusal (numberOf (exchangePlanned p st command reply write read .word)) st reply write (exchangePlanned p st command reply write read)
+      → ExchangeRefusal (numberOf (exchangePlanned p (unpacked st .wires) st command reply write read .word)) st reply write (exchangePlanned p (unpacked st .wires) st command reply write read)
   unfolding exchangePlanned replyBytes closed over
   planned-refuses command reply write read zero p e h =
-      subst (λ (k : ℕ). ExchangeRefusal k st reply write (exchangePlanned p st command reply write read))
-      (sym (ap (λ (k : ℕ). numberOf (word k (length (replyBytes (p .reply) read)))) e ∙ number-word 0 (length (replyBytes (p .reply) read)) refl)) tt
+      subst (λ (k : ℕ). ExchangeRefusal k st reply write (exchangePlanned p (unpacked st .wires) st command reply write read))
+      (sym (ap (λ (k : ℕ). numberOf (word k (length (replyBytes (p .reply) (unpacked st .wires) read)))) e ∙ number-word 0 (length (replyBytes (p .reply) (unpacked st .wires) read)) refl)) tt
   planned-refuses command reply write read (suc zero) p e h =
-      subst (λ (x : Plan). ExchangeRefusal (numberOf (exchangePlanned x st command reply write read .word)) st reply write (exchangePlanned x st command reply write read)) (sym h)
+      subst (λ (x : Plan). ExchangeRefusal (numberOf (exchangePlanned x (unpacked st .wires) st command reply write read .word)) st reply write (exchangePlanned x (unpacked st .wires) st command reply write read)) (sym h)
       (rw same)
   planned-refuses command reply write read (suc (suc zero)) p e h =
-      subst (λ (x : Plan). ExchangeRefusal (numberOf (exchangePlanned x st command reply write read .word)) st reply write (exchangePlanned x st command reply write read)) (sym h)
+      subst (λ (x : Plan). ExchangeRefusal (numberOf (exchangePlanned x (unpacked st .wires) st command reply write read .word)) st reply write (exchangePlanned x (unpacked st .wires) st command reply write read)) (sym h)
       (rw same)
   planned-refuses command reply write read (suc (suc (suc n))) p e h =
-      subst (λ (x : Plan). ExchangeRefusal (numberOf (exchangePlanned x st command reply write read .word)) st reply write (exchangePlanned x st command reply write read)) (sym (h .0))
+      subst (λ (x : Plan). ExchangeRefusal (numberOf (exchangePlanned x (unpacked st .wires) st command reply write read .word)) st reply write (exchangePlanned x (unpacked st .wires) st command reply write read)) (sym (h .0))
       (subst (λ (k : ℕ). ExchangeRefusal k st reply write (X.exchanged (word (suc (suc (suc n))) 0) (kept (unpacked st) st) reply write)) (sym (number-word (suc (suc (suc n))) 0 (h .1)))
       (rw (same, add-zero)))
 
@@ -225,7 +225,7 @@ unfolding exchangeCall exchangePlanned
 exchange-bytes st command reply write read =
     let Q = ExchangePast command st reply write in
     let p = E.exchange (unpacked st) command in
-    let r = replyBytes (p .reply) read in
+    let r = replyBytes (p .reply) (unpacked st .wires) read in
     let v : word (p .number) (length r) / 256 ≡ length r = value-word (p .number) (length r) (planned-small (p .number) (unpacked st) p (exchange-turned (unpacked st) command)) in
     pick-ind Q (ltb (length st) stateLength) (λ _. as-it-was 10)
     λ _. pick-ind Q (ltb (length reply) replyLength) (λ _. as-it-was 10)

@@ -19,11 +19,11 @@ use Rattle.rules.specs.declared.Kept.{Kept}
 use Rattle.rules.specs.declared.Kept.the-variants as K
 use Rattle.rules.specs.declared.WiresChange.{WiresChange}
 
-pub own-bytes : (body : Body) (read read′ : List ℕ) → ownBody wires body ≡ true → bodyBytes body read ≡ bodyBytes body read′
-own-bytes B.Nothing read read′ o = refl
-own-bytes (B.Word n) read read′ o = refl
-own-bytes (B.Piece c) read read′ o = absurd (true≢false (sym o))
-own-bytes (B.Groups p) read read′ o = refl
+pub own-bytes : (body : Body) (w : Wires) (read read′ : List ℕ) → ownBody wires body ≡ true → bodyBytes body w read ≡ bodyBytes body w read′
+own-bytes B.Nothing w read read′ o = refl
+own-bytes (B.Word n) w read read′ o = refl
+own-bytes (B.Piece c) w read read′ o = absurd (true≢false (sym o))
+own-bytes (B.Groups p) w read read′ o = refl
 
 -- what holds of stores as they are holds of them with its data laid over
 pub kept-none : (Q : (List ℕ → List ℕ) → Type 0) (kept : Kept) (b : List ℕ) → ownKept wires kept ≡ true → Q (λ l. l) → Q (over (keptBytes kept b))
