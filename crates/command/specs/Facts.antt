@@ -1,24 +1,33 @@
--- What is known of an admitted command: how many bytes it has, which numbers it holds, and what let it in.
-use Prim.Native.Nat.{ℕ, _+_, _*_, _/_, _%_, _<_, _≤_}
-use mathlib.Core.Bool.{Bool, true, false, not, _&&_}
+-- What is known of a need and of an admitted command: the row and the tests that it passed, how many bytes it has, which numbers it holds.
+use Prim.Native.Nat.{ℕ, zero, suc, _+_, _*_, _/_, _%_, _^_, _<_, _≤_}
+use mathlib.Core.Bool.{Bool, true, false, not, _&&_, true≢false}
 use mathlib.Core.List.{List}
 use mathlib.Core.Logic.{_⊎_, inl, inr}
 use mathlib.Core.Path.{_≡_, refl, sym, ap, subst, _∙_}
 use native.Mathlib.Omega.{arith}
-use borrow.Author.Tests.{leb-true, eqb-true, eqb-false, not-false}
-use lib.Dec.{T, eqb, ltb}
+use borrow.Author.Tests.{ltb-false, ltb-true, lt-ltb, leb-true, eqb-true, eqb-false, not-false}
+use lib.Dec.{eqb, ltb, leb, lit≤}
 use lib.ListN.{length, getD}
-use Rattle.base.specs.Pick.{pick, pick-ind, and-left}
+use Rattle.base.specs.Pick.{pick, pick-ind}
 use Rattle.base.specs.Bytes.{high2}
-use Rattle.command.specs.Opcode.{shortOf, opcodeOf, channelOn, hasCycle, cycleListed, wideCycle}
-use Rattle.command.specs.Needs.{lengthOf, shortNeed, needOf, lengthRight}
-use Rattle.command.specs.Decode.{address2, address4, headOf, shortAddress, commandOf, allFF, opcodeKnown, decodeAs, decode, hasCrc, crcGood, checkedBy, admit}
-use Rattle.command.specs.Laws.{headed-right}
+use Rattle.command.specs.Rows.{plain, headed, counted, resets, sizeOfCode, short, rowOf}
+use Rattle.command.specs.Needs.{channelOn, cycleListed, wideCycle, addressBytes, lengthOf, allFF, needData, needListed, needIn}
+use Rattle.command.specs.Decode.{highFirst, commandOf, crcWrong, checkedAs, readOff, admit}
 use Rattle.command.specs.declared.Access.{Access}
 use Rattle.command.specs.declared.Access.the-variants.{IoRead, IoWrite, MemoryRead, MemoryWrite}
 use Rattle.command.specs.declared.Opcode.{Opcode}
 use Rattle.command.specs.declared.Opcode.the-variants as O
 use Rattle.command.specs.declared.Channels.{Channels}
+use Rattle.command.specs.declared.Channel.{Channel}
+use Rattle.command.specs.declared.Channel.the-variants.{Peripheral, Wires, Independent}
+use Rattle.command.specs.declared.Cycle.the-variants.{Absent, Types}
+use Rattle.command.specs.declared.Data.{Data}
+use Rattle.command.specs.declared.Data.the-variants.{Fixed, Length, Pairs, Ones}
+use Rattle.command.specs.declared.Row.{Row}
+use Rattle.command.specs.declared.Listed.{Listed}
+use Rattle.command.specs.declared.Listed.the-variants.{As, Unlisted}
+use Rattle.command.specs.declared.Need.{Need}
+use Rattle.command.specs.declared.Need.the-variants.{Whole, More, Open, Never}
 use Rattle.command.specs.declared.Head.{Head}
 use Rattle.command.specs.declared.Span.{Span}
 use Rattle.command.specs.declared.PeripheralCommand.{PeripheralCommand}
@@ -32,12 +41,19 @@ use Rattle.command.specs.declared.Decoded.the-variants.{Known, Refused}
 
 -- ---- how many bytes
 
+-- "I/O has 2 address bytes, memory 4, high byte first; data follows for a write"
+abbrev pub shortLength : Access → ℕ → ℕ
+shortLength IoRead n = 1 + 2 + 1
+shortLength IoWrite n = 1 + 2 + n + 1
+shortLength MemoryRead n = 1 + 4 + 1
+shortLength MemoryWrite n = 1 + 4 + n + 1
+
 -- so many bytes a command has; the data of a write and the pairs of PUT_VWIRE are among them
 abbrev pub PeripheralLength : PeripheralCommand → ℕ → Type 0
 PeripheralLength (P.PutPc h) m = m ≡ 4 + pick (h .wide) 8 4 + h .length + 1
 PeripheralLength P.GetPc m = m ≡ 2
 PeripheralLength (P.PutNp h) m = m ≡ 4 + pick (h .wide) 8 4 + 1
-PeripheralLength (P.Short a s) m = m ≡ shortNeed a (s .size)
+PeripheralLength (P.Short a s) m = m ≡ shortLength a (s .size)
 
 abbrev pub WiresLength : WiresCommand → ℕ → Type 0
 WiresLength (W.PutVwire n) m = m ≡ 2 + n * 2 + 1
@@ -50,22 +66,6 @@ CommandLength (C.GetConfiguration a) m = m ≡ 4
 CommandLength (C.SetConfiguration a v) m = m ≡ 8
 CommandLength C.GetStatus m = m ≡ 2
 CommandLength C.Reset m = 2 ≤ m
-
-not-both : {t : Bool} → t ≡ true → t ≡ false → ⊥
-not-both e f = subst T (sym e ∙ f) tt
-
-length-as : (op : Opcode) (b : List ℕ) → opcodeKnown op b ≡ true → lengthRight (needOf op b) (length b) ≡ true → CommandLength (commandOf op b) (length b)
-length-as O.PutPc b k r = headed-right 4 b _ r .1
-length-as O.GetPc b k r = eqb-true _ _ r
-length-as O.PutNp b k r = headed-right 2 b _ r .1
-length-as O.PutVwire b k r = headed-right 2 b _ r .1
-length-as O.GetVwire b k r = eqb-true _ _ r
-length-as O.GetConfiguration b k r = eqb-true _ _ r
-length-as O.SetConfiguration b k r = eqb-true _ _ r
-length-as O.GetStatus b k r = eqb-true _ _ r
-length-as O.Reset b k r = leb-true 2 (length b) (and-left _ (allFF b) k)
-length-as (O.Short a n) b k r = eqb-true _ _ r
-length-as O.Unknown b k r = absurd (not-both k refl)
 
 -- ---- which numbers
 
@@ -122,7 +122,7 @@ WiresFits c b = WiresLength c (length b) × WiresNumbers c
 abbrev pub CommandFits : Command → List ℕ → Type 0
 CommandFits c b = CommandLength c (length b) × NumbersFit c
 
-length-fits : (hi lo : ℕ) → lo < 256 → (1 ≤ lengthOf hi lo) × (lengthOf hi lo ≤ 4096)
+pub length-fits : (hi lo : ℕ) → lo < 256 → (1 ≤ lengthOf hi lo) × (lengthOf hi lo ≤ 4096)
 length-fits hi lo h =
     pick-ind (λ (n : ℕ). (1 ≤ n) × (n ≤ 4096)) (eqb (high2 (hi % 16) lo) 0)
     (λ _. (omega arith, omega arith))
@@ -132,161 +132,250 @@ register-fits : (x : ℕ) → x % 1024 * 4 < 4096
 register-fits x = omega arith
 
 module _ (b : List ℕ) (bytes : IsBytes b) where
-  address4-fits : (at : ℕ) → address4 b at < 4294967296
-  address4-fits at = omega (arith, bytes at, bytes (at + 1), bytes (at + 2), bytes (at + 3))
+  high-fits : (n at : ℕ) → highFirst n at b < 256 ^ n
+  high-fits zero at = omega arith
+  high-fits (suc n) at = omega (arith, high-fits n at, bytes (at + n))
 
-  head-fits : HeadFits (headOf b)
-  head-fits =
-      let wide = wideCycle (getD b 1 0) in
+  -- an address of 4 or 8 bytes behind the header
+  head-fits : (wide : Bool)
+      → HeadFits (record { wide = wide; tag = getD b 2 0 / 16; length = lengthOf (getD b 2 0) (getD b 3 0); address = highFirst (pick wide 8 4) 4 b })
+  head-fits wide =
+      let l = length-fits (getD b 2 0) (getD b 3 0) (bytes 3) in
       record {
         tag = omega (arith, bytes 2);
-        some = length-fits (getD b 2 0) (getD b 3 0) (bytes 3) .0;
-        most = length-fits (getD b 2 0) (getD b 3 0) (bytes 3) .1;
-        address = pick-ind (λ (n : ℕ). n < 18446744073709551616) wide (λ _. omega (arith, address4-fits 4, address4-fits 8)) (λ _. omega (arith, address4-fits 4));
-        narrow = λ e. pick-ind (λ (n : ℕ). n < 4294967296) wide (λ t. absurd (not-both t e)) (λ _. address4-fits 4);
+        some = l .0;
+        most = l .1;
+        address = most wide;
+        narrow = λ e. subst (λ (t : Bool). highFirst (pick t 8 4) 4 b < 4294967296) (sym e) (high-fits 4 4);
       }
+    where
+      most : (t : Bool) → highFirst (pick t 8 4) 4 b < 18446744073709551616
+      most true = high-fits 8 4
+      most false = omega (arith, high-fits 4 4)
 
-  short-fits : (a : Access) → shortAddress a b < addressLimit a
-  short-fits IoRead = omega (arith, bytes 1, bytes 2)
-  short-fits IoWrite = omega (arith, bytes 1, bytes 2)
-  short-fits MemoryRead = address4-fits 1
-  short-fits MemoryWrite = address4-fits 1
+-- ---- whose
 
--- an opcode of a short access has one of its sizes
-abbrev SizedAs : Opcode → Type 0
-SizedAs O.PutPc = Unit {0}
-SizedAs O.GetPc = Unit {0}
-SizedAs O.PutNp = Unit {0}
-SizedAs O.PutVwire = Unit {0}
-SizedAs O.GetVwire = Unit {0}
-SizedAs O.GetConfiguration = Unit {0}
-SizedAs O.SetConfiguration = Unit {0}
-SizedAs O.GetStatus = Unit {0}
-SizedAs O.Reset = Unit {0}
-SizedAs (O.Short a n) = SizeFits n
-SizedAs O.Unknown = Unit {0}
+-- the channel of the command is on
+abbrev pub CommandOn : Channels → Command → Type 0
+CommandOn on (C.Peripheral c) = on .peripheral ≡ true
+CommandOn on (C.Wires c) = on .wires ≡ true
+CommandOn on (C.GetConfiguration a) = Unit {0}
+CommandOn on (C.SetConfiguration a v) = Unit {0}
+CommandOn on C.GetStatus = Unit {0}
+CommandOn on C.Reset = Unit {0}
 
-sized-short : (a : Access) (c : ℕ) → SizedAs (shortOf a c)
-sized-short a c =
-    pick-ind SizedAs (eqb c 2) (λ _. tt)
-    (λ _. pick-ind SizeFits (eqb c 0) (λ _. inl refl)
-    (λ _. pick-ind SizeFits (eqb c 1) (λ _. inr (inl refl)) (λ _. inr (inr refl))))
+-- ---- row by row
 
-sized : (op : ℕ) → SizedAs (opcodeOf op)
-sized op =
-    pick-ind SizedAs (eqb op 0x00) (λ _. tt)
-    (λ _. pick-ind SizedAs (eqb op 0x01) (λ _. tt)
-    (λ _. pick-ind SizedAs (eqb op 0x02) (λ _. tt)
-    (λ _. pick-ind SizedAs (eqb op 0x04) (λ _. tt)
-    (λ _. pick-ind SizedAs (eqb op 0x05) (λ _. tt)
-    (λ _. pick-ind SizedAs (eqb op 0x21) (λ _. tt)
-    (λ _. pick-ind SizedAs (eqb op 0x22) (λ _. tt)
-    (λ _. pick-ind SizedAs (eqb op 0x25) (λ _. tt)
-    (λ _. pick-ind SizedAs (eqb op 0xFF) (λ _. tt)
-    (λ _. pick-ind SizedAs (eqb (op / 4) 0x10) (λ _. sized-short IoRead (op % 4))
-    (λ _. pick-ind SizedAs (eqb (op / 4) 0x11) (λ _. sized-short IoWrite (op % 4))
-    (λ _. pick-ind SizedAs (eqb (op / 4) 0x12) (λ _. sized-short MemoryRead (op % 4))
-    (λ _. pick-ind SizedAs (eqb (op / 4) 0x13) (λ _. sized-short MemoryWrite (op % 4)) (λ _. tt)))))))))))))
+sized : (Q : Listed → Type 0) (a : Access) (address : ℕ) (writes : Bool)
+    → ((n : ℕ) → SizeFits n → Q (plain (O.Short a n) Peripheral address (pick writes n 0)))
+    → Q Unlisted → (c : ℕ) → Q (short a address writes c)
+sized Q a n w h none c =
+    pick-ind Q (eqb c 2) (λ _. none)
+    (λ _. h (sizeOfCode c) (pick-ind SizeFits (eqb c 0) (λ _. inl refl)
+    (λ _. pick-ind SizeFits (eqb c 1) (λ _. inr (inl refl)) (λ _. inr (inr refl)))))
 
-numbers-as : (op : Opcode) (b : List ℕ) → IsBytes b → SizedAs op → NumbersFit (commandOf op b)
-numbers-as O.PutPc b h s = head-fits b h
-numbers-as O.GetPc b h s = tt
-numbers-as O.PutNp b h s = head-fits b h
-numbers-as O.PutVwire b h s = (omega arith, omega arith)
-numbers-as O.GetVwire b h s = tt
-numbers-as O.GetConfiguration b h s = register-fits (address2 b 1 / 4)
-numbers-as O.SetConfiguration b h s = (register-fits (address2 b 1 / 4), omega (arith, h 3, h 4, h 5, h 6))
-numbers-as O.GetStatus b h s = tt
-numbers-as O.Reset b h s = tt
-numbers-as (O.Short a n) b h s = record { size = s; address = short-fits b h a }
-numbers-as O.Unknown b h s = tt
+-- what holds of each row, and where there is none, holds of every opcode's
+pub by-row : (Q : Listed → Type 0)
+    → Q (headed O.PutPc 0x01 0x03 4 Length)
+    → Q (plain O.GetPc Peripheral 0 0)
+    → Q (headed O.PutNp 0x00 0x02 2 (Fixed 0))
+    → Q counted
+    → Q (plain O.GetVwire Wires 0 0)
+    → Q (plain O.GetConfiguration Independent 2 0)
+    → Q (plain O.SetConfiguration Independent 2 4)
+    → Q (plain O.GetStatus Independent 0 0)
+    → Q resets
+    → ((n : ℕ) → SizeFits n → Q (plain (O.Short IoRead n) Peripheral 2 0))
+    → ((n : ℕ) → SizeFits n → Q (plain (O.Short IoWrite n) Peripheral 2 n))
+    → ((n : ℕ) → SizeFits n → Q (plain (O.Short MemoryRead n) Peripheral 4 0))
+    → ((n : ℕ) → SizeFits n → Q (plain (O.Short MemoryWrite n) Peripheral 4 n))
+    → Q Unlisted
+    → (op : ℕ) → Q (rowOf op)
+by-row Q putPc getPc putNp putVwire getVwire getConfiguration setConfiguration getStatus reset ioRead ioWrite memoryRead memoryWrite none op =
+    pick-ind Q (eqb op 0x00) (λ _. putPc)
+    λ _. pick-ind Q (eqb op 0x01) (λ _. getPc)
+    λ _. pick-ind Q (eqb op 0x02) (λ _. putNp)
+    λ _. pick-ind Q (eqb op 0x04) (λ _. putVwire)
+    λ _. pick-ind Q (eqb op 0x05) (λ _. getVwire)
+    λ _. pick-ind Q (eqb op 0x21) (λ _. getConfiguration)
+    λ _. pick-ind Q (eqb op 0x22) (λ _. setConfiguration)
+    λ _. pick-ind Q (eqb op 0x25) (λ _. getStatus)
+    λ _. pick-ind Q (eqb op 0xFF) (λ _. reset)
+    λ _. pick-ind Q (eqb (op / 4) 0x10) (λ _. sized Q IoRead 2 false ioRead none (op % 4))
+    λ _. pick-ind Q (eqb (op / 4) 0x11) (λ _. sized Q IoWrite 2 true ioWrite none (op % 4))
+    λ _. pick-ind Q (eqb (op / 4) 0x12) (λ _. sized Q MemoryRead 4 false memoryRead none (op % 4))
+    λ _. pick-ind Q (eqb (op / 4) 0x13) (λ _. sized Q MemoryWrite 4 true memoryWrite none (op % 4)) (λ _. none)
 
--- ---- what let it in
+-- few bytes tell how many there are in all, and a narrow address has few
+pub record Readable (r : Row) : Type 0 where
+  pub told : r .told ≤ 4
+  pub address : r .address ≤ 4
 
-abbrev pub peripheralOpcode : PeripheralCommand → Opcode
-peripheralOpcode (P.PutPc h) = O.PutPc
-peripheralOpcode P.GetPc = O.GetPc
-peripheralOpcode (P.PutNp h) = O.PutNp
-peripheralOpcode (P.Short a s) = O.Short a (s .size)
+pub address-few : (r : Row) (b : List ℕ) → Readable r → addressBytes r b ≤ 8
+address-few r b h = pick-ind (λ (n : ℕ). n ≤ 8) (wideCycle (r .cycle) (getD b 1 0)) (λ _. omega arith) (λ _. omega (arith, h .address))
 
-abbrev pub wiresOpcode : WiresCommand → Opcode
-wiresOpcode (W.PutVwire n) = O.PutVwire
-wiresOpcode W.GetVwire = O.GetVwire
+-- the bytes are as many as the need says
+abbrev pub LengthRight : Need → ℕ → Type 0
+LengthRight (Whole r n) m = m ≡ n
+LengthRight (More k) m = ⊥
+LengthRight (Open r) m = 2 ≤ m
+LengthRight (Never n) m = ⊥
 
-abbrev pub opcodeFor : Command → Opcode
-opcodeFor (C.Peripheral c) = peripheralOpcode c
-opcodeFor (C.Wires c) = wiresOpcode c
-opcodeFor (C.GetConfiguration a) = O.GetConfiguration
-opcodeFor (C.SetConfiguration a v) = O.SetConfiguration
-opcodeFor C.GetStatus = O.GetStatus
-opcodeFor C.Reset = O.Reset
+-- the cycle type, if it is there, is not listed
+abbrev pub cycleWrong : Row → List ℕ → Bool
+cycleWrong r b = not (cycleListed (r .cycle) (getD b 1 0)) && ltb 1 (length b)
 
-opcode-as : (op : Opcode) (b : List ℕ) → opcodeKnown op b ≡ true → op ≡ opcodeFor (commandOf op b)
-opcode-as O.PutPc b k = refl
-opcode-as O.GetPc b k = refl
-opcode-as O.PutNp b k = refl
-opcode-as O.PutVwire b k = refl
-opcode-as O.GetVwire b k = refl
-opcode-as O.GetConfiguration b k = refl
-opcode-as O.SetConfiguration b k = refl
-opcode-as O.GetStatus b k = refl
-opcode-as O.Reset b k = refl
-opcode-as (O.Short a n) b k = refl
-opcode-as O.Unknown b k = absurd (not-both k refl)
+pub record RowTells (on : Channels) (b : List ℕ) (r : Row) : Type 0 where
+  pub readable : Readable r
+  pub listed : r .told ≤ length b → cycleWrong r b ≡ false → cycleListed (r .cycle) (getD b 1 0) ≡ true
+  pub channel : channelOn on (r .channel) ≡ true → CommandOn on (commandOf r b)
+  pub right : LengthRight (needData r b (r .carries)) (length b) → CommandLength (commandOf r b) (length b)
+  pub numbers : IsBytes b → NumbersFit (commandOf r b)
 
--- the tests that a command passed, for its opcode
-pub record Decodes (on : Channels) (b : List ℕ) (op : Opcode) (c : Command) : Type 0 where
-  pub some : 1 ≤ length b
-  pub known : opcodeKnown op b ≡ true
-  pub channel : channelOn on op ≡ true
-  pub listed : cycleListed op (getD b 1 0) ≡ true
-  pub right : lengthRight (needOf op b) (length b) ≡ true
-  pub same : c ≡ commandOf op b
+module _ (on : Channels) (b : List ℕ) where
+  abbrev pub ListedTells : Listed → Type 0
+  ListedTells (As r) = RowTells on b r
+  ListedTells Unlisted = Unit {0}
 
-abbrev DecodeTells : Channels → List ℕ → Opcode → Decoded → Type 0
-DecodeTells on b op (Known c) = Decodes on b op c
-DecodeTells on b op (Refused n) = (12 ≤ n) × (n ≤ 16)
+  -- the cycle type is there
+  there : (t : Bool) → 2 ≤ length b → not t && ltb 1 (length b) ≡ false → t ≡ true
+  there true h e = refl
+  there false h e = absurd (true≢false (sym (lt-ltb 1 (length b) h) ∙ e))
 
-tells-as : (on : Channels) (b : List ℕ) (op : Opcode) → 1 ≤ length b → DecodeTells on b op (decodeAs on b op)
-tells-as on b op some =
-    pick-ind (DecodeTells on b op) (not (opcodeKnown op b)) (λ _. (omega arith, omega arith))
-    (λ k. pick-ind (DecodeTells on b op) (not (channelOn on op)) (λ _. (omega arith, omega arith))
-    (λ o. pick-ind (DecodeTells on b op) (hasCycle op && ltb (length b) 2) (λ _. (omega arith, omega arith))
-    (λ _. pick-ind (DecodeTells on b op) (not (cycleListed op (getD b 1 0))) (λ _. (omega arith, omega arith))
-    (λ l. pick-ind (DecodeTells on b op) (not (lengthRight (needOf op b) (length b))) (λ _. (omega arith, omega arith))
-    (λ r. record {
-      some = some;
-      known = not-false (opcodeKnown op b) k;
-      channel = not-false (channelOn on op) o;
-      listed = not-false (cycleListed op (getD b 1 0)) l;
-      right = not-false (lengthRight (needOf op b) (length b)) r;
-      same = refl;
-    })))))
+  reset-right : (r : Row) (t : Bool) → LengthRight (pick t (Open r) (Never 13)) (length b) → 2 ≤ length b
+  reset-right r true h = h
+  reset-right r false h = absurd h
 
-tells : (on : Channels) (b : List ℕ) → DecodeTells on b (opcodeOf (getD b 0 0)) (decode on b)
-unfolding decode
-tells on b =
-    let op = opcodeOf (getD b 0 0) in
-    pick-ind (DecodeTells on b op) (eqb (length b) 0) (λ _. (omega arith, omega arith))
-    (λ e. let z : length b ≡ 0 → ⊥ = eqb-false _ _ e in tells-as on b op (omega arith))
+  module _ (op : Opcode) where
+    plain-tells : (k : Channel) (a n : ℕ) → a ≤ 4
+        → let r : Row = record { opcode = op; channel = k; cycle = Absent; told = 1; from = 1; address = a; carries = Fixed n; crc = true } in
+        (channelOn on k ≡ true → CommandOn on (commandOf r b)) → (length b ≡ 1 + a + n + 1 → CommandLength (commandOf r b) (length b))
+        → (IsBytes b → NumbersFit (commandOf r b)) → RowTells on b r
+    plain-tells k a n m x y z = record { readable = record { told = lit≤ tt; address = m }; listed = λ _ _. refl; channel = x; right = y; numbers = z }
 
-pub decode-decodes : (on : Channels) (b : List ℕ) (c : Command) → decode on b ≡ Known c → Decodes on b (opcodeOf (getD b 0 0)) c
-decode-decodes on b c e = subst (DecodeTells on b (opcodeOf (getD b 0 0))) e (tells on b)
+    headed-tells : (n w t : ℕ) (d : Data) → 2 ≤ t → t ≤ 4
+        → let r : Row = record { opcode = op; channel = Peripheral; cycle = Types n w; told = t; from = 4; address = 4; carries = d; crc = true } in
+        (on .peripheral ≡ true → CommandOn on (commandOf r b)) → (LengthRight (needData r b d) (length b) → CommandLength (commandOf r b) (length b))
+        → (IsBytes b → NumbersFit (commandOf r b)) → RowTells on b r
+    headed-tells n w t d l m x y z =
+        record { readable = record { told = m; address = lit≤ tt }; listed = λ h. there _ (omega arith); channel = x; right = y; numbers = z }
 
--- the same with the CRC check
-abbrev AdmitTells : Channels → Bool → List ℕ → Decoded → Type 0
-AdmitTells on checked b (Known c) = Decodes on b (opcodeOf (getD b 0 0)) c × (checked ≡ true → hasCrc c ≡ true → crcGood b ≡ true)
-AdmitTells on checked b (Refused n) = (12 ≤ n) × (n ≤ 16)
+  pub row-tells : (op : ℕ) → ListedTells (rowOf op)
+  row-tells =
+      by-row ListedTells
+      (headed-tells O.PutPc 1 3 4 Length (lit≤ tt) (lit≤ tt) (λ e. e) (λ h. h) (λ h. head-fits b h _))
+      (plain-tells O.GetPc _ _ _ (lit≤ tt) (λ e. e) (λ h. h) (λ _. tt))
+      (headed-tells O.PutNp 0 2 2 (Fixed 0) (lit≤ tt) (lit≤ tt) (λ e. e) (λ h. omega arith) (λ h. head-fits b h _))
+      (record {
+        readable = record { told = lit≤ tt; address = lit≤ tt };
+        listed = λ _ _. refl;
+        channel = λ e. e;
+        right = λ h. h;
+        numbers = λ _. (omega arith, omega arith);
+      })
+      (plain-tells O.GetVwire _ _ _ (lit≤ tt) (λ e. e) (λ h. h) (λ _. tt))
+      (plain-tells O.GetConfiguration _ _ _ (lit≤ tt) (λ _. tt) (λ h. h) (λ _. register-fits _))
+      (plain-tells O.SetConfiguration _ _ _ (lit≤ tt) (λ _. tt) (λ h. h) (λ h. (register-fits _, omega (arith, h 3, h 4, h 5, h 6))))
+      (plain-tells O.GetStatus _ _ _ (lit≤ tt) (λ _. tt) (λ h. h) (λ _. tt))
+      (record {
+        readable = record { told = lit≤ tt; address = lit≤ tt };
+        listed = λ _ _. refl;
+        channel = λ _. tt;
+        right = reset-right _ (allFF b);
+        numbers = λ _. tt;
+      })
+      (λ n f. plain-tells (O.Short IoRead n) _ _ _ (lit≤ tt) (λ e. e) (λ h. h) (λ h. record { size = f; address = high-fits b h 2 1 }))
+      (λ n f. plain-tells (O.Short IoWrite n) _ _ _ (lit≤ tt) (λ e. e) (λ h. h) (λ h. record { size = f; address = high-fits b h 2 1 }))
+      (λ n f. plain-tells (O.Short MemoryRead n) _ _ _ (lit≤ tt) (λ e. e) (λ h. h) (λ h. record { size = f; address = high-fits b h 4 1 }))
+      (λ n f. plain-tells (O.Short MemoryWrite n) _ _ _ (lit≤ tt) (λ e. e) (λ h. h) (λ h. record { size = f; address = high-fits b h 4 1 }))
+      tt
 
-tells-checked : (on : Channels) (checked : Bool) (b : List ℕ) (d : Decoded) → DecodeTells on b (opcodeOf (getD b 0 0)) d → AdmitTells on checked b (checkedBy checked b d)
-tells-checked on checked b (Refused n) t = t
-tells-checked on checked b (Known c) t =
-    pick-ind (AdmitTells on checked b) (checked && (hasCrc c && not (crcGood b))) (λ _. (omega arith, omega arith))
-    (λ w. (t, λ e f. not-false (crcGood b) (sym (ap (λ (z : Bool). z && (hasCrc c && not (crcGood b))) e ∙ ap (λ (z : Bool). z && not (crcGood b)) f) ∙ w)))
+  -- ---- what a need tells
 
-admit-tells : (on : Channels) (checked : Bool) (b : List ℕ) (d : Decoded) → admit on checked b ≡ d → AdmitTells on checked b d
-unfolding admit
-admit-tells on checked b d e = subst (AdmitTells on checked b) e (tells-checked on checked b (decode on b) (tells on b))
+  -- the row of the opcode, the tests that it passed, and what its data say
+  pub record Passes (r : Row) (x : Need) : Type 0 where
+    pub some : 1 ≤ length b
+    pub row : rowOf (getD b 0 0) ≡ As r
+    pub channel : channelOn on (r .channel) ≡ true
+    pub cycle : cycleWrong r b ≡ false
+    pub told : r .told ≤ length b
+    pub needs : needData r b (r .carries) ≡ x
+
+  abbrev pub NeedTells : Need → Type 0
+  NeedTells (Whole r n) = Passes r (Whole r n)
+  NeedTells (More k) = (1 ≤ k) × (k ≤ 3)
+  NeedTells (Open r) = Passes r (Open r)
+  NeedTells (Never n) = (13 ≤ n) × (n ≤ 15)
+
+  data-tells : (r : Row) (d : Data) → r .carries ≡ d → ((x : Need) → needData r b (r .carries) ≡ x → Passes r x) → NeedTells (needData r b d)
+  data-tells r (Fixed n) e h = h _ (ap (needData r b) e)
+  data-tells r Length e h = h _ (ap (needData r b) e)
+  data-tells r Pairs e h = h _ (ap (needData r b) e)
+  data-tells r Ones e h = go (allFF b) refl
+    where
+      go : (t : Bool) → allFF b ≡ t → NeedTells (pick t (Open r) (Never 13))
+      go true q = h _ (ap (needData r b) e ∙ ap (λ (u : Bool). pick u (Open r) (Never 13)) q)
+      go false q = (omega arith, omega arith)
+
+  listed-tells : (l : Listed) → rowOf (getD b 0 0) ≡ l → ListedTells l → 1 ≤ length b → NeedTells (needListed on b l)
+  listed-tells Unlisted e w some = (omega arith, omega arith)
+  listed-tells (As r) e w some =
+      pick-ind NeedTells (not (channelOn on (r .channel))) (λ _. (omega arith, omega arith))
+      λ k. pick-ind NeedTells (cycleWrong r b) (λ _. (omega arith, omega arith))
+      λ y. pick-ind NeedTells (ltb (length b) (r .told))
+      (λ l. let h = ltb-true (length b) (r .told) l in (omega arith, omega (arith, w .readable .told)))
+      λ t. data-tells r (r .carries) refl
+      (λ x n. record { some = some; row = e; channel = not-false (channelOn on (r .channel)) k; cycle = y; told = ltb-false (length b) (r .told) t; needs = n })
+
+  pub need-tells : NeedTells (needIn on b)
+  unfolding needIn
+  need-tells =
+      pick-ind NeedTells (eqb (length b) 0) (λ _. (omega arith, omega arith))
+      λ e. let z : length b ≡ 0 → ⊥ = eqb-false _ _ e in listed-tells (rowOf (getD b 0 0)) refl (row-tells (getD b 0 0)) (omega arith)
+
+  pub need-is : (x : Need) → needIn on b ≡ x → NeedTells x
+  need-is x e = subst NeedTells e need-tells
+
+  -- what the row of a need tells
+  pub passes-tells : {r : Row} {x : Need} → Passes r x → RowTells on b r
+  passes-tells p = subst ListedTells (p .row) (row-tells (getD b 0 0))
+
+  pub passes-ready : {r : Row} {x : Need} → Passes r x → (1 ≤ length b) × Readable r
+  passes-ready p = (p .some, passes-tells p .readable)
+
+-- ---- what let a command in
+
+pub record Decodes (on : Channels) (b : List ℕ) (c : Command) : Type 0 where
+  pub row : Row
+  pub need : Need
+  pub passes : Passes on b row need
+  pub listed : cycleListed (row .cycle) (getD b 1 0) ≡ true
+  pub right : LengthRight need (length b)
+  pub same : c ≡ commandOf row b
+
+abbrev AdmitTells : Channels → List ℕ → Decoded → Type 0
+AdmitTells on b (Known c) = Decodes on b c
+AdmitTells on b (Refused n) = (12 ≤ n) × (n ≤ 16)
+
+module _ (on : Channels) (checked : Bool) (b : List ℕ) where
+  checked-tells : (r : Row) (x : Need) → Passes on b r x → LengthRight x (length b) → AdmitTells on b (checkedAs checked b r)
+  checked-tells r x p h =
+      pick-ind (AdmitTells on b) (crcWrong checked (r .crc) b) (λ _. (omega arith, omega arith))
+      (λ _. record { row = r; need = x; passes = p; listed = passes-tells on b p .listed (p .told) (p .cycle); right = h; same = refl })
+
+  reads-tells : (x : Need) → NeedTells on b x → AdmitTells on b (readOff checked b x)
+  reads-tells (Whole r n) p =
+      pick-ind (AdmitTells on b) (not (eqb (length b) n)) (λ _. (omega arith, omega arith))
+      (λ e. checked-tells r (Whole r n) p (eqb-true _ _ (not-false (eqb (length b) n) e)))
+  reads-tells (More k) p = (omega arith, omega arith)
+  reads-tells (Open r) p =
+      pick-ind (AdmitTells on b) (not (leb 2 (length b))) (λ _. (omega arith, omega arith))
+      (λ e. checked-tells r (Open r) p (leb-true 2 (length b) (not-false (leb 2 (length b)) e)))
+  reads-tells (Never n) p = (omega (arith, p .0), omega (arith, p .1))
+
+  admit-tells : (d : Decoded) → admit on checked b ≡ d → AdmitTells on b d
+  unfolding admit
+  admit-tells d e = subst (AdmitTells on b) e (reads-tells (needIn on b) (need-tells on b))
 
 -- ---- the laws
 
@@ -294,26 +383,24 @@ pub refused-number : (on : Channels) (checked : Bool) (b : List ℕ) (n : ℕ) �
 refused-number on checked b n e = admit-tells on checked b (Refused n) e
 
 module _ (on : Channels) (checked : Bool) (b : List ℕ) (c : Command) (e : admit on checked b ≡ Known c) where
-  pub admit-decodes : Decodes on b (opcodeOf (getD b 0 0)) c
-  admit-decodes = admit-tells on checked b (Known c) e .0
+  pub admit-decodes : Decodes on b c
+  admit-decodes = admit-tells on checked b (Known c) e
 
-  -- a CRC that is checked is good
-  pub admit-crc : checked ≡ true → hasCrc c ≡ true → crcGood b ≡ true
-  admit-crc = admit-tells on checked b (Known c) e .1
+  tells : RowTells on b (admit-decodes .row)
+  tells = passes-tells on b (admit-decodes .passes)
 
-  pub admit-opcode : opcodeOf (getD b 0 0) ≡ opcodeFor c
-  admit-opcode = let d = admit-decodes in opcode-as (opcodeOf (getD b 0 0)) b (d .known) ∙ ap opcodeFor (sym (d .same))
-
-  pub admit-channel : channelOn on (opcodeFor c) ≡ true
-  admit-channel = subst (λ (op : Opcode). channelOn on op ≡ true) admit-opcode (admit-decodes .channel)
+  -- a command of a channel is admitted while it is on
+  pub admit-channel : CommandOn on c
+  admit-channel = subst (CommandOn on) (sym (admit-decodes .same)) (tells .channel (admit-decodes .passes .channel))
 
   pub admit-length : CommandLength c (length b)
   admit-length =
       let d = admit-decodes in
-      subst (λ (z : Command). CommandLength z (length b)) (sym (d .same)) (length-as (opcodeOf (getD b 0 0)) b (d .known) (d .right))
+      subst (λ (z : Command). CommandLength z (length b)) (sym (d .same))
+      (tells .right (subst (λ (x : Need). LengthRight x (length b)) (sym (d .passes .needs)) (d .right)))
 
   pub admit-numbers : IsBytes b → NumbersFit c
-  admit-numbers h = subst NumbersFit (sym (admit-decodes .same)) (numbers-as (opcodeOf (getD b 0 0)) b h (sized (getD b 0 0)))
+  admit-numbers h = subst NumbersFit (sym (admit-decodes .same)) (tells .numbers h)
 
 pub admit-fits : (on : Channels) (checked : Bool) (b : List ℕ) (c : Command) → IsBytes b → admit on checked b ≡ Known c → CommandFits c b
 admit-fits on checked b c h e = (admit-length on checked b c e, admit-numbers on checked b c e h)

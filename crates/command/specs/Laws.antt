@@ -1,26 +1,21 @@
 -- Laws of the definitions, for the proofs of the code.
-use Prim.Native.Nat.{ℕ, zero, suc, _+_, _*_, _/_, _<_, _≤_}
-use mathlib.Core.Bool.{Bool, true, false, _&&_, not}
+use Prim.Native.Nat.{ℕ, zero, suc, _+_, _-_, _*_, _/_, _^_, _<_, _≤_}
+use mathlib.Core.Bool.{Bool, true, false}
 use mathlib.Core.List.{List, [], _∷_}
 use mathlib.Core.Path.{_≡_, refl, sym, ap, subst, _∙_}
 use native.Mathlib.Omega.{arith}
+use native.Mathlib.Nat.{zero-add, suc-add}
 use native.Mathlib.Numerals.{add-one}
-use borrow.Author.Tests.{ltb-false, eqb-true, eq-eqb, ne-eqb}
-use lib.Dec.{T, ltb}
+use borrow.Author.Tests.{eq-eqb, ne-eqb}
 use lib.ListN.{length, getD, drop}
 use lib.Seq.{drop-cons}
-use Rattle.base.specs.Pick.{pick, pick-ind}
-use Rattle.command.specs.Opcode.{shortOpcode, opcodeOf}
-use Rattle.command.specs.Needs.{headed, shortNeed, lengthRight}
-use Rattle.command.specs.Decode.{allFF, decode, hasCrc, crcGood, checkedBy, admit}
-use Rattle.command.specs.declared.Access.{Access}
-use Rattle.command.specs.declared.Access.the-variants.{IoRead, IoWrite, MemoryRead, MemoryWrite}
-use Rattle.command.specs.declared.Opcode.the-variants as O
-use Rattle.command.specs.declared.Need.{Need}
+use Rattle.command.specs.Rows.{shortRow, rowOf}
+use Rattle.command.specs.Needs.{allFF, needIn}
+use Rattle.command.specs.Decode.{highFirst, readOff, admit}
 use Rattle.command.specs.declared.Channels.{Channels}
-use Rattle.command.specs.declared.Command.{Command}
+use Rattle.command.specs.declared.Need.{Need}
 use Rattle.command.specs.declared.Decoded.{Decoded}
-use Rattle.command.specs.declared.Decoded.the-variants.{Known, Refused}
+use Rattle.command.specs.declared.Listed.the-variants.{Unlisted}
 
 -- ---- opcodes
 
@@ -31,7 +26,7 @@ NoSingle op =
     × (op ≡ 0xFF → ⊥)
 
 -- then the short accesses decide
-pub no-single : (op : ℕ) → NoSingle op → opcodeOf op ≡ shortOpcode op
+pub no-single : (op : ℕ) → NoSingle op → rowOf op ≡ shortRow op
 no-single op r =
     simp (
       ne-eqb op 0x00 (r .0 .0 .0 .0 .0 .0 .0 .0 .1),
@@ -46,7 +41,7 @@ no-single op r =
     )
 
 -- so it is between the single opcodes
-pub middle : (op : ℕ) → 0x25 < op → op < 0xFF → opcodeOf op ≡ shortOpcode op
+pub middle : (op : ℕ) → 0x25 < op → op < 0xFF → rowOf op ≡ shortRow op
 middle op l h =
     no-single op (
       ((((((((tt, λ e. omega arith), λ e. omega arith), λ e. omega arith), λ e. omega arith), λ e. omega arith), λ e. omega arith), λ e. omega arith), λ e. omega arith),
@@ -57,30 +52,14 @@ middle op l h =
 pub quad : (q op : ℕ) → q * 4 ≤ op → op ≤ q * 4 + 3 → op / 4 ≡ q
 quad q op l h = omega arith
 
-short-none : (op : ℕ) → (op / 4 ≡ 0x10 → ⊥) → (op / 4 ≡ 0x11 → ⊥) → (op / 4 ≡ 0x12 → ⊥) → (op / 4 ≡ 0x13 → ⊥) → shortOpcode op ≡ O.Unknown
+short-none : (op : ℕ) → (op / 4 ≡ 0x10 → ⊥) → (op / 4 ≡ 0x11 → ⊥) → (op / 4 ≡ 0x12 → ⊥) → (op / 4 ≡ 0x13 → ⊥) → shortRow op ≡ Unlisted
 short-none op h0 h1 h2 h3 = simp (ne-eqb (op / 4) 0x10 h0, ne-eqb (op / 4) 0x11 h1, ne-eqb (op / 4) 0x12 h2, ne-eqb (op / 4) 0x13 h3)
 
-pub short-below : (op : ℕ) → op < 0x40 → shortOpcode op ≡ O.Unknown
+pub short-below : (op : ℕ) → op < 0x40 → shortRow op ≡ Unlisted
 short-below op h = short-none op (λ e. omega arith) (λ e. omega arith) (λ e. omega arith) (λ e. omega arith)
 
-pub short-above : (op : ℕ) → 0x4F < op → shortOpcode op ≡ O.Unknown
+pub short-above : (op : ℕ) → 0x4F < op → shortRow op ≡ Unlisted
 short-above op h = short-none op (λ e. omega arith) (λ e. omega arith) (λ e. omega arith) (λ e. omega arith)
-
--- ---- lengths
-
--- the bytes are right only where the header is there
-pub headed-right : (n : ℕ) (b : List ℕ) (whole : ℕ) → lengthRight (headed n b whole) (length b) ≡ true → (n ≤ length b) × (length b ≡ whole)
-headed-right n b whole =
-    pick-ind (λ (x : Need). lengthRight x (length b) ≡ true → (n ≤ length b) × (length b ≡ whole)) (ltb (length b) n)
-    (λ _ e. absurd (subst T (sym e) tt))
-    (λ l e. (ltb-false _ _ l, eqb-true _ _ e))
-
--- a short access has its address
-pub short-least : (a : Access) (n m : ℕ) → m ≡ shortNeed a n → shortNeed a 0 ≤ m
-short-least IoRead n m e = omega arith
-short-least IoWrite n m e = omega arith
-short-least MemoryRead n m e = omega arith
-short-least MemoryWrite n m e = omega arith
 
 -- ---- all bytes FFh
 
@@ -99,18 +78,25 @@ pub allFF-stop : (b : List ℕ) (i : ℕ) → i < length b → (getD b i 0 ≡ 0
 unfolding allFF
 allFF-stop b i h e = rw (drop-cons b i 0, ne-eqb (getD b i 0) 0xFF e)
 
--- ---- the decoder and the CRC check
+-- ---- numbers of bytes
 
-pub admit-silent : (on : Channels) (checked : Bool) (b : List ℕ) (d : Decoded) (n : ℕ) → d ≡ decode on b → d ≡ Refused n → d ≡ admit on checked b
-unfolding admit
-admit-silent on checked b d n e r = r ∙ ap (checkedBy checked b) (sym r ∙ e)
+pub high-next : (n at : ℕ) (b : List ℕ) {v x : ℕ} → v ≡ highFirst n at b → x ≡ getD b (at + n) 0 → v * 256 + x ≡ highFirst (n + 1) at b
+high-next n at b e f = rw (add-one, e, f)
 
-pub admit-known : (on : Channels) (checked : Bool) (b : List ℕ) (d x : Decoded) (c : Command) (wrong : Bool)
-    → d ≡ decode on b
-    → d ≡ Known c
-    → wrong ≡ (checked && (hasCrc c && not (crcGood b)))
-    → x ≡ pick wrong (Refused 16) (Known c)
-    → x ≡ admit on checked b
+pub power-next : (n v x : ℕ) → v < 256 ^ n → x < 256 → v * 256 + x < 256 ^ (n + 1)
+power-next n v x h l = rw add-one (omega arith)
+
+power-up : (k n : ℕ) → 256 ^ n ≤ 256 ^ (k + n)
+power-up zero n = rw zero-add (omega arith)
+power-up (suc k) n = rw suc-add (omega (arith, power-up k n))
+
+-- fewer bytes are less
+pub within : (m n v : ℕ) → n ≤ m → v < 256 ^ n → v < 256 ^ m
+within m n v h l = let e : m - n + n ≡ m = omega arith in omega (arith, subst (λ (k : ℕ). 256 ^ n ≤ 256 ^ k) e (power-up (m - n) n))
+
+-- ---- the decoder, of a need
+
+pub admit-by : (on : Channels) (checked : Bool) (b : List ℕ) (d : Decoded) (y x : Need) → y ≡ needIn on b → y ≡ x
+    → d ≡ readOff checked b x → d ≡ admit on checked b
 unfolding admit
-admit-known on checked b d x c wrong e k w q =
-    q ∙ ap (λ (t : Bool). pick t (Refused 16) (Known c)) w ∙ ap (checkedBy checked b) (sym k ∙ e)
+admit-by on checked b d y x e f g = g ∙ ap (readOff checked b) (sym f ∙ e)

@@ -1,5 +1,7 @@
-pub mod Opcode
+pub mod Numbers
+pub mod Rows
 pub mod Needs
 pub mod Decode
 pub mod Laws
 pub mod Facts
+pub mod Prefix

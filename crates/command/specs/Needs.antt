@@ -1,18 +1,46 @@
--- How many bytes a command needs in all, its CRC byte included, or how many more header bytes must come before that is known (01, Commands).
+-- What a command's first bytes need: how many bytes it has in all, its CRC byte included; how many more must come before that is known; that
+-- it is open; or that it is never one, by the number of the refusal (01, Commands; Replies and refusals).
 use Prim.Native.Nat.{ℕ, _+_, _-_, _*_, _%_}
-use mathlib.Core.Bool.{Bool, true, false}
-use mathlib.Core.List.{List}
+use mathlib.Core.Bool.{Bool, true, false, _&&_, _||_, not}
+use mathlib.Core.List.{List, [], _∷_}
 use lib.Dec.{eqb, ltb}
 use lib.ListN.{length, getD}
 use Rattle.base.specs.Pick.{pick}
-use Rattle.base.specs.Bytes.{high2}
-use Rattle.command.specs.Opcode.{addressBytes}
-use Rattle.command.specs.declared.Access.{Access}
-use Rattle.command.specs.declared.Access.the-variants.{IoRead, IoWrite, MemoryRead, MemoryWrite}
-use Rattle.command.specs.declared.Opcode.{Opcode}
-use Rattle.command.specs.declared.Opcode.the-variants as O
+use Rattle.base.specs.Bytes.{bit, high2}
+use Rattle.command.specs.Numbers.{opcodeUnknown, channelDisabled, cycleUnlisted}
+use Rattle.command.specs.Rows.{rowOf}
+use Rattle.command.specs.declared.Channels.{Channels}
+use Rattle.command.specs.declared.Channel.{Channel}
+use Rattle.command.specs.declared.Channel.the-variants.{Peripheral, Wires, Independent}
+use Rattle.command.specs.declared.Cycle.{Cycle}
+use Rattle.command.specs.declared.Cycle.the-variants.{Absent, Types}
+use Rattle.command.specs.declared.Data.{Data}
+use Rattle.command.specs.declared.Data.the-variants.{Fixed, Length, Pairs, Ones}
+use Rattle.command.specs.declared.Row.{Row}
+use Rattle.command.specs.declared.Listed.{Listed}
+use Rattle.command.specs.declared.Listed.the-variants.{As, Unlisted}
 use Rattle.command.specs.declared.Need.{Need}
-use Rattle.command.specs.declared.Need.the-variants.{Whole, More, Open}
+use Rattle.command.specs.declared.Need.the-variants.{Whole, More, Open, Never}
+
+-- ---- what the row says of the bytes
+
+-- the command's channel is on; those for no channel always are
+abbrev pub channelOn : Channels → Channel → Bool
+channelOn on Peripheral = on .peripheral
+channelOn on Wires = on .wires
+channelOn on Independent = true
+
+abbrev pub cycleListed : Cycle → ℕ → Bool
+cycleListed Absent t = true
+cycleListed (Types n w) t = eqb t n || eqb t w
+
+-- 8 address bytes
+abbrev pub wideCycle : Cycle → ℕ → Bool
+wideCycle Absent t = false
+wideCycle (Types n w) t = eqb t w
+
+abbrev pub addressBytes : Row → List ℕ → ℕ
+addressBytes r b = pick (wideCycle (r .cycle) (getD b 1 0)) 8 (r .address)
 
 -- "tag (4 bits) with length bits 11:8, then length 7:0 .. Length 0 means 4,096"
 abbrev pub lengthOf : ℕ → ℕ → ℕ
@@ -22,32 +50,34 @@ lengthOf hi lo = pick (eqb (high2 (hi % 16) lo) 0) 4096 (high2 (hi % 16) lo)
 abbrev pub groupCount : ℕ → ℕ
 groupCount c = c % 64 + 1
 
--- n header bytes are there, or so many more must come
-abbrev pub headed : ℕ → List ℕ → ℕ → Need
-headed n b whole = pick (ltb (length b) n) (More (n - length b)) (Whole whole)
+unfoldable pub allFF : List ℕ → Bool
+allFF [] = true
+allFF (x ∷ xs) = eqb x 0xFF && allFF xs
 
--- "I/O has 2 address bytes, memory 4, high byte first; data follows for a write"
-abbrev pub shortNeed : Access → ℕ → ℕ
-shortNeed IoRead n = 1 + 2 + 1
-shortNeed IoWrite n = 1 + 2 + n + 1
-shortNeed MemoryRead n = 1 + 4 + 1
-shortNeed MemoryWrite n = 1 + 4 + n + 1
+-- ---- how many bytes
 
-abbrev pub needOf : Opcode → List ℕ → Need
-needOf O.PutPc b = headed 4 b (4 + addressBytes (getD b 1 0) + lengthOf (getD b 2 0) (getD b 3 0) + 1)
-needOf O.GetPc b = Whole 2
-needOf O.PutNp b = headed 2 b (4 + addressBytes (getD b 1 0) + 1)
-needOf O.PutVwire b = headed 2 b (2 + groupCount (getD b 1 0) * 2 + 1)
-needOf O.GetVwire b = Whole 2
-needOf O.GetConfiguration b = Whole 4
-needOf O.SetConfiguration b = Whole 8
-needOf O.GetStatus b = Whole 2
-needOf O.Reset b = Open
-needOf (O.Short a n) b = Whole (shortNeed a n)
-needOf O.Unknown b = Open
+-- header, address, n data bytes, CRC
+abbrev pub wholeWith : Row → List ℕ → ℕ → ℕ
+wholeWith r b n = r .from + addressBytes r b + n + bit (r .crc)
 
--- the bytes are as many as the command needs
-abbrev pub lengthRight : Need → ℕ → Bool
-lengthRight (Whole n) m = eqb m n
-lengthRight (More n) m = false
-lengthRight Open m = true
+abbrev pub needData : Row → List ℕ → Data → Need
+needData r b (Fixed n) = Whole r (wholeWith r b n)
+needData r b Length = Whole r (wholeWith r b (lengthOf (getD b 2 0) (getD b 3 0)))
+needData r b Pairs = Whole r (wholeWith r b (groupCount (getD b 1 0) * 2))
+needData r b Ones = pick (allFF b) (Open r) (Never opcodeUnknown)
+
+-- "14, a missing header byte needed next (12) or 15, exact length (12)"
+abbrev pub needRow : Channels → List ℕ → Row → Need
+needRow on b r =
+    pick (not (channelOn on (r .channel))) (Never channelDisabled)
+    (pick (not (cycleListed (r .cycle) (getD b 1 0)) && ltb 1 (length b)) (Never cycleUnlisted)
+    (pick (ltb (length b) (r .told)) (More (r .told - length b))
+    (needData r b (r .carries))))
+
+-- "unknown opcode" is 13
+abbrev pub needListed : Channels → List ℕ → Listed → Need
+needListed on b Unlisted = Never opcodeUnknown
+needListed on b (As r) = needRow on b r
+
+unfoldable pub needIn : Channels → List ℕ → Need
+needIn on b = pick (eqb (length b) 0) (More 1) (needListed on b (rowOf (getD b 0 0)))

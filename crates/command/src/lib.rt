@@ -1,12 +1,22 @@
-// Commands: the opcode, how many bytes a command needs, and the decoder.
+// Commands: a row an opcode, what a command's bytes need, and the decoder.
 ghost use mathlib.Core.Path.{_≡_};
-ghost use mathlib.Core.Bool.{true, _&&_, not};
-ghost use Prim.Native.Nat.{_+_, _≤_, _<_};
+ghost use Prim.Native.Nat.{_^_, _≤_, _<_};
 ghost use lib.ListN.{length, getD};
-ghost use Rattle.base.specs.Pick.{pick};
-ghost use Rattle.command.specs.Opcode.{sizeOfCode, shortOf, opcodeOf, channelOn, hasCycle, cycleListed, wideCycle, addressBytes};
-ghost use Rattle.command.specs.Needs.{lengthOf, groupCount, shortNeed, needOf, lengthRight};
-ghost use Rattle.command.specs.Decode.{address2, address4, address8, headOf, registerAddress, registerData, shortAddress, commandOf, allFF, opcodeKnown, decodeAs, decode, hasCrc, crcGood, admit};
+ghost use Rattle.command.specs.Rows.{plain, headed, sizeOfCode, short, rowOf};
+ghost use Rattle.command.specs.Needs.{channelOn, cycleListed, wideCycle, addressBytes, lengthOf, groupCount, allFF, wholeWith, needData, needRow, needIn};
+ghost use Rattle.command.specs.Decode.{highFirst, addressIn, headOf, registerAddress, registerData, commandOf, crcGood, crcWrong, checkedAs, admit};
+ghost use Rattle.command.specs.Facts.{Readable};
+
+// The numbers of the decoder's refusals.
+const LENGTH_WRONG: u8 = 12;
+
+const OPCODE_UNKNOWN: u8 = 13;
+
+const CHANNEL_DISABLED: u8 = 14;
+
+const CYCLE_UNLISTED: u8 = 15;
+
+const CRC_REFUSED: u8 = 16;
 
 pub enum Access {
     IoRead,
@@ -15,7 +25,7 @@ pub enum Access {
     MemoryWrite,
 }
 
-// What the opcode byte says; a short access has its size in bytes.
+// Which command an opcode byte is; a short access has its size in bytes.
 pub enum Opcode {
     PutPc,
     GetPc,
@@ -27,7 +37,6 @@ pub enum Opcode {
     GetStatus,
     Reset,
     Short(Access, u8),
-    Unknown,
 }
 
 // Which channels are on.
@@ -36,12 +45,60 @@ pub struct Channels {
     pub wires: bool,
 }
 
-// How many bytes a command needs in all, or how many more header bytes must come before that is known.
+// The channel that a command is for.
+pub enum Channel {
+    Peripheral,
+    Wires,
+    Independent,
+}
+
+// The cycle types that a command takes: with as many address bytes as its row says, and with 8.
+pub enum Cycle {
+    Absent,
+    Types(u8, u8),
+}
+
+// How many bytes there are between address and CRC.
+pub enum Data {
+    Fixed(u8),
+    // As many as the length in bytes 2 and 3.
+    Length,
+    // Two for each group counted in byte 1.
+    Pairs,
+    // Any number of FFh.
+    Ones,
+}
+
+// How the bytes of a command stand: a header, an address, data, a CRC byte.
+pub struct Row {
+    pub opcode: Opcode,
+    pub channel: Channel,
+    pub cycle: Cycle,
+    // So many bytes tell how many there are in all.
+    pub told: u8,
+    // Where the address begins, and its bytes.
+    pub from: u8,
+    pub address: u8,
+    pub carries: Data,
+    pub crc: bool,
+}
+
+// The row of an opcode byte, if it has one.
+pub enum Listed {
+    As(Row),
+    Unlisted,
+}
+
+// What the first bytes of a command need.
 pub enum Need {
-    Whole(u32),
+    // So many bytes in all.
+    Whole(Row, u32),
+    // So many more before that is known.
     More(u32),
     // RESET: two or more, known only at the end.
-    Open,
+    Open(Row),
+    // No command begins like this: the number of the refusal.
+    Never(u8),
 }
 
 // The header of PUT_PC and PUT_NP; wide: 8 address bytes, not 4.
@@ -89,6 +146,38 @@ pub enum Decoded {
     Refused(u8),
 }
 
+// ---- rows
+
+fn plain(opcode: Opcode, channel: Channel, address: u8, n: u8) -> Listed
+    ensures { λ r. ⌜ r ≡ plain opcode channel address n ⌝ }
+{
+    Listed::As(Row {
+        opcode,
+        channel,
+        cycle: Cycle::Absent,
+        told: 1,
+        from: 1,
+        address,
+        carries: Data::Fixed(n),
+        crc: true,
+    })
+}
+
+fn headed(opcode: Opcode, narrow: u8, wide: u8, told: u8, carries: Data) -> Listed
+    ensures { λ r. ⌜ r ≡ headed opcode narrow wide told carries ⌝ }
+{
+    Listed::As(Row {
+        opcode,
+        channel: Channel::Peripheral,
+        cycle: Cycle::Types(narrow, wide),
+        told,
+        from: 4,
+        address: 4,
+        carries,
+        crc: true,
+    })
+}
+
 fn size_of_code(c: u8) -> u8
     ensures { λ r. ⌜ r ≡ sizeOfCode c ⌝ }
 {
@@ -101,103 +190,109 @@ fn size_of_code(c: u8) -> u8
     4
 }
 
-fn short_of(a: Access, c: u8) -> Opcode
-    ensures { λ r. ⌜ r ≡ shortOf a c ⌝ }
+fn short(a: Access, address: u8, writes: bool, c: u8) -> Listed
+    ensures { λ r. ⌜ r ≡ short a address writes c ⌝ }
 {
     if c == 2 {
-        return Opcode::Unknown;
+        return Listed::Unlisted;
     }
-    Opcode::Short(a, size_of_code(c))
+    let n = size_of_code(c);
+    if writes {
+        return plain(Opcode::Short(a, n), Channel::Peripheral, address, n);
+    }
+    plain(Opcode::Short(a, n), Channel::Peripheral, address, 0)
 }
 
-pub fn opcode_of(op: u8) -> Opcode
-    ensures { λ r. ⌜ r ≡ opcodeOf op ⌝ }
+fn row_of(op: u8) -> Listed
+    ensures { λ r. ⌜ r ≡ rowOf op ⌝ }
 {
     match op {
-        0x00 => Opcode::PutPc,
-        0x01 => Opcode::GetPc,
-        0x02 => Opcode::PutNp,
-        0x04 => Opcode::PutVwire,
-        0x05 => Opcode::GetVwire,
-        0x21 => Opcode::GetConfiguration,
-        0x22 => Opcode::SetConfiguration,
-        0x25 => Opcode::GetStatus,
-        0x40..=0x43 => short_of(Access::IoRead, op % 4),
-        0x44..=0x47 => short_of(Access::IoWrite, op % 4),
-        0x48..=0x4B => short_of(Access::MemoryRead, op % 4),
-        0x4C..=0x4F => short_of(Access::MemoryWrite, op % 4),
-        0xFF => Opcode::Reset,
-        _ => Opcode::Unknown,
+        0x00 => headed(Opcode::PutPc, 0x01, 0x03, 4, Data::Length),
+        0x01 => plain(Opcode::GetPc, Channel::Peripheral, 0, 0),
+        0x02 => headed(Opcode::PutNp, 0x00, 0x02, 2, Data::Fixed(0)),
+        0x04 => Listed::As(Row {
+            opcode: Opcode::PutVwire,
+            channel: Channel::Wires,
+            cycle: Cycle::Absent,
+            told: 2,
+            from: 2,
+            address: 0,
+            carries: Data::Pairs,
+            crc: true,
+        }),
+        0x05 => plain(Opcode::GetVwire, Channel::Wires, 0, 0),
+        0x21 => plain(Opcode::GetConfiguration, Channel::Independent, 2, 0),
+        0x22 => plain(Opcode::SetConfiguration, Channel::Independent, 2, 4),
+        0x25 => plain(Opcode::GetStatus, Channel::Independent, 0, 0),
+        0x40..=0x43 => short(Access::IoRead, 2, false, op % 4),
+        0x44..=0x47 => short(Access::IoWrite, 2, true, op % 4),
+        0x48..=0x4B => short(Access::MemoryRead, 4, false, op % 4),
+        0x4C..=0x4F => short(Access::MemoryWrite, 4, true, op % 4),
+        0xFF => Listed::As(Row {
+            opcode: Opcode::Reset,
+            channel: Channel::Independent,
+            cycle: Cycle::Absent,
+            told: 1,
+            from: 1,
+            address: 0,
+            carries: Data::Ones,
+            crc: false,
+        }),
+        _ => Listed::Unlisted,
     }
 }
 
-fn channel_on(on: Channels, op: Opcode) -> bool
-    ensures { λ r. ⌜ r ≡ channelOn on op ⌝ }
+// ---- what the row says of the bytes
+
+// The byte at a place, or 0 past the end.
+fn byte_at(b: &[u8], i: usize) -> u8
+    ensures { λ r. ⌜ r ≡ getD (now (b .entry)) i 0 ⌝ }
 {
-    match op {
-        Opcode::PutPc => on.peripheral,
-        Opcode::GetPc => on.peripheral,
-        Opcode::PutNp => on.peripheral,
-        Opcode::PutVwire => on.wires,
-        Opcode::GetVwire => on.wires,
-        Opcode::GetConfiguration => true,
-        Opcode::SetConfiguration => true,
-        Opcode::GetStatus => true,
-        Opcode::Reset => true,
-        Opcode::Short(_, _) => on.peripheral,
-        Opcode::Unknown => true,
+    if i < b.len() {
+        return b[i];
+    }
+    0
+}
+
+fn channel_on(on: Channels, k: Channel) -> bool
+    ensures { λ r. ⌜ r ≡ channelOn on k ⌝ }
+{
+    match k {
+        Channel::Peripheral => on.peripheral,
+        Channel::Wires => on.wires,
+        Channel::Independent => true,
     }
 }
 
-fn has_cycle(op: Opcode) -> bool
-    ensures { λ r. ⌜ r ≡ hasCycle op ⌝ }
+fn cycle_listed(r: Row, b: &[u8]) -> bool
+    ensures { λ x. ⌜ x ≡ cycleListed (r .cycle) (getD (now (b .entry)) 1 0) ⌝ }
 {
-    match op {
-        Opcode::PutPc => true,
-        Opcode::GetPc => false,
-        Opcode::PutNp => true,
-        Opcode::PutVwire => false,
-        Opcode::GetVwire => false,
-        Opcode::GetConfiguration => false,
-        Opcode::SetConfiguration => false,
-        Opcode::GetStatus => false,
-        Opcode::Reset => false,
-        Opcode::Short(_, _) => false,
-        Opcode::Unknown => false,
+    let t = byte_at(b, 1);
+    let cycle = r.cycle;
+    match cycle {
+        Cycle::Absent => true,
+        Cycle::Types(narrow, wide) => (t == narrow) | (t == wide),
     }
 }
 
-fn cycle_listed(op: Opcode, t: u8) -> bool
-    ensures { λ r. ⌜ r ≡ cycleListed op t ⌝ }
+fn wide_cycle(r: Row, b: &[u8]) -> bool
+    ensures { λ x. ⌜ x ≡ wideCycle (r .cycle) (getD (now (b .entry)) 1 0) ⌝ }
 {
-    match op {
-        Opcode::PutPc => (t == 0x01) | (t == 0x03),
-        Opcode::GetPc => true,
-        Opcode::PutNp => (t == 0x00) | (t == 0x02),
-        Opcode::PutVwire => true,
-        Opcode::GetVwire => true,
-        Opcode::GetConfiguration => true,
-        Opcode::SetConfiguration => true,
-        Opcode::GetStatus => true,
-        Opcode::Reset => true,
-        Opcode::Short(_, _) => true,
-        Opcode::Unknown => true,
+    let t = byte_at(b, 1);
+    let cycle = r.cycle;
+    match cycle {
+        Cycle::Absent => false,
+        Cycle::Types(_, wide) => t == wide,
     }
 }
 
-fn wide_cycle(t: u8) -> bool
-    ensures { λ r. ⌜ r ≡ wideCycle t ⌝ }
+fn address_bytes(r: Row, b: &[u8]) -> u8
+    ensures { λ n. ⌜ n ≡ addressBytes r (now (b .entry)) ⌝ }
 {
-    t / 2 % 2 == 1
-}
-
-fn address_bytes(t: u8) -> u32
-    ensures { λ r. ⌜ (r ≡ addressBytes t) × (r ≤ 8) ⌝ }
-{
-    if wide_cycle(t) {
+    if wide_cycle(r, b) {
         return 8;
     }
-    4
+    r.address
 }
 
 fn length_of(hi: u8, lo: u8) -> u32
@@ -216,174 +311,6 @@ fn group_count(c: u8) -> u32
     (c as u32) % 64 + 1
 }
 
-fn need_put_pc(b: &[u8]) -> Need
-    ensures { λ r. ⌜ r ≡ needOf Opcode.PutPc (now (b .entry)) ⌝ }
-{
-    if b.len() < 4 {
-        return Need::More(4 - (b.len() as u32));
-    }
-    let a = address_bytes(b[1]);
-    let n = length_of(b[2], b[3]);
-    Need::Whole(4 + a + n + 1)
-}
-
-fn need_put_np(b: &[u8]) -> Need
-    ensures { λ r. ⌜ r ≡ needOf Opcode.PutNp (now (b .entry)) ⌝ }
-{
-    if b.len() < 2 {
-        return Need::More(2 - (b.len() as u32));
-    }
-    let a = address_bytes(b[1]);
-    Need::Whole(4 + a + 1)
-}
-
-fn need_put_vwire(b: &[u8]) -> Need
-    ensures { λ r. ⌜ r ≡ needOf Opcode.PutVwire (now (b .entry)) ⌝ }
-{
-    if b.len() < 2 {
-        return Need::More(2 - (b.len() as u32));
-    }
-    let n = group_count(b[1]);
-    Need::Whole(2 + n * 2 + 1)
-}
-
-fn short_need(a: Access, n: u8) -> u32
-    ensures { λ r. ⌜ r ≡ shortNeed a n ⌝ }
-{
-    match a {
-        Access::IoRead => 1 + 2 + 1,
-        Access::IoWrite => 1 + 2 + (n as u32) + 1,
-        Access::MemoryRead => 1 + 4 + 1,
-        Access::MemoryWrite => 1 + 4 + (n as u32) + 1,
-    }
-}
-
-fn need_of(op: Opcode, b: &[u8]) -> Need
-    ensures { λ r. ⌜ r ≡ needOf op (now (b .entry)) ⌝ }
-{
-    match op {
-        Opcode::PutPc => need_put_pc(b),
-        Opcode::GetPc => Need::Whole(2),
-        Opcode::PutNp => need_put_np(b),
-        Opcode::PutVwire => need_put_vwire(b),
-        Opcode::GetVwire => Need::Whole(2),
-        Opcode::GetConfiguration => Need::Whole(4),
-        Opcode::SetConfiguration => Need::Whole(8),
-        Opcode::GetStatus => Need::Whole(2),
-        Opcode::Reset => Need::Open,
-        Opcode::Short(a, n) => Need::Whole(short_need(a, n)),
-        Opcode::Unknown => Need::Open,
-    }
-}
-
-fn length_right(need: Need, m: usize) -> bool
-    ensures { λ r. ⌜ r ≡ lengthRight need m ⌝ }
-{
-    match need {
-        Need::Whole(n) => m == (n as usize),
-        Need::More(_) => false,
-        Need::Open => true,
-    }
-}
-
-fn address2_at(b: &[u8], at: usize) -> u32
-    requires { ⌜ at + 2 ≤ length (now b) ⌝ }
-    ensures { λ r. ⌜ (r ≡ address2 (now (b .entry)) at) × (r < 65536) ⌝ }
-{
-    base::from_high2(b[at], b[at + 1])
-}
-
-fn address4_at(b: &[u8], at: usize) -> u64
-    requires { ⌜ at + 4 ≤ length (now b) ⌝ }
-    ensures { λ r. ⌜ (r ≡ address4 (now (b .entry)) at) × (r < 4294967296) ⌝ }
-{
-    base::from_high4(b[at], b[at + 1], b[at + 2], b[at + 3])
-}
-
-fn address8_at(b: &[u8], at: usize) -> u64
-    requires { ⌜ at + 8 ≤ length (now b) ⌝ }
-    ensures { λ r. ⌜ r ≡ address8 (now (b .entry)) at ⌝ }
-{
-    base::from_high8(address4_at(b, at) as u32, address4_at(b, at + 4) as u32)
-}
-
-fn head_address(wide: bool, b: &[u8]) -> u64
-    requires { ⌜ 4 + pick wide 8 4 ≤ length (now b) ⌝ }
-    ensures { λ r. ⌜ r ≡ pick wide (address8 (now (b .entry)) 4) (address4 (now (b .entry)) 4) ⌝ }
-{
-    if wide {
-        return address8_at(b, 4);
-    }
-    address4_at(b, 4)
-}
-
-fn head_of(b: &[u8]) -> Head
-    requires { ⌜ 4 + addressBytes (getD (now b) 1 0) ≤ length (now b) ⌝ }
-    ensures { λ r. ⌜ r ≡ headOf (now (b .entry)) ⌝ }
-{
-    let wide = wide_cycle(b[1]);
-    Head {
-        wide,
-        tag: b[2] / 16,
-        length: length_of(b[2], b[3]),
-        address: head_address(wide, b),
-    }
-}
-
-fn register_address(b: &[u8]) -> u32
-    requires { ⌜ 3 ≤ length (now b) ⌝ }
-    ensures { λ r. ⌜ r ≡ registerAddress (now (b .entry)) ⌝ }
-{
-    address2_at(b, 1) / 4 % 1024 * 4
-}
-
-fn register_data(b: &[u8]) -> u32
-    requires { ⌜ 7 ≤ length (now b) ⌝ }
-    ensures { λ r. ⌜ r ≡ registerData (now (b .entry)) ⌝ }
-{
-    base::join4(b[3], b[4], b[5], b[6])
-}
-
-fn short_address(a: Access, b: &[u8]) -> u64
-    requires { ⌜ shortNeed a 0 ≤ length (now b) ⌝ }
-    ensures { λ r. ⌜ r ≡ shortAddress a (now (b .entry)) ⌝ }
-{
-    match a {
-        Access::IoRead => address2_at(b, 1) as u64,
-        Access::IoWrite => address2_at(b, 1) as u64,
-        Access::MemoryRead => address4_at(b, 1),
-        Access::MemoryWrite => address4_at(b, 1),
-    }
-}
-
-fn command_of(op: Opcode, b: &[u8]) -> Command
-    requires { ⌜ lengthRight (needOf op (now b)) (length (now b)) ≡ true ⌝ }
-    ensures { λ r. ⌜ r ≡ commandOf op (now (b .entry)) ⌝ }
-{
-    match op {
-        Opcode::PutPc => Command::Peripheral(PeripheralCommand::PutPc(head_of(b))),
-        Opcode::GetPc => Command::Peripheral(PeripheralCommand::GetPc),
-        Opcode::PutNp => Command::Peripheral(PeripheralCommand::PutNp(head_of(b))),
-        Opcode::PutVwire => Command::Wires(WiresCommand::PutVwire(group_count(b[1]))),
-        Opcode::GetVwire => Command::Wires(WiresCommand::GetVwire),
-        Opcode::GetConfiguration => Command::GetConfiguration(register_address(b)),
-        Opcode::SetConfiguration => Command::SetConfiguration(
-            register_address(b),
-            register_data(b),
-        ),
-        Opcode::GetStatus => Command::GetStatus,
-        Opcode::Reset => Command::Reset,
-        Opcode::Short(a, n) => Command::Peripheral(PeripheralCommand::Short(
-            a,
-            Span {
-                address: short_address(a, b),
-                size: n,
-            },
-        )),
-        Opcode::Unknown => Command::Reset,
-    }
-}
-
 fn all_ff(b: &[u8]) -> bool
     ensures { λ r. ⌜ r ≡ allFF (now (b .entry)) ⌝ }
 {
@@ -397,76 +324,138 @@ fn all_ff(b: &[u8]) -> bool
     true
 }
 
-fn opcode_known(op: Opcode, b: &[u8]) -> bool
-    ensures { λ r. ⌜ r ≡ opcodeKnown op (now (b .entry)) ⌝ }
+// ---- how many bytes
+
+fn whole_with(r: Row, b: &[u8], n: u32) -> u32
+    requires { ⌜ n ≤ 4096 ⌝ }
+    ensures { λ m. ⌜ m ≡ wholeWith r (now (b .entry)) n ⌝ }
 {
-    match op {
-        Opcode::PutPc => true,
-        Opcode::GetPc => true,
-        Opcode::PutNp => true,
-        Opcode::PutVwire => true,
-        Opcode::GetVwire => true,
-        Opcode::GetConfiguration => true,
-        Opcode::SetConfiguration => true,
-        Opcode::GetStatus => true,
-        Opcode::Reset => (2 <= b.len()) & all_ff(b),
-        Opcode::Short(_, _) => true,
-        Opcode::Unknown => false,
+    (r.from as u32) + (address_bytes(r, b) as u32) + n + (base::bit_of(r.crc) as u32)
+}
+
+fn need_data(r: Row, b: &[u8]) -> Need
+    ensures { λ n. ⌜ n ≡ needData r (now (b .entry)) (r .carries) ⌝ }
+{
+    let carries = r.carries;
+    match carries {
+        Data::Fixed(n) => Need::Whole(r, whole_with(r, b, n as u32)),
+        Data::Length => Need::Whole(r, whole_with(r, b, length_of(byte_at(b, 2), byte_at(b, 3)))),
+        Data::Pairs => Need::Whole(r, whole_with(r, b, group_count(byte_at(b, 1)) * 2)),
+        Data::Ones => {
+            if all_ff(b) {
+                return Need::Open(r);
+            }
+            Need::Never(OPCODE_UNKNOWN)
+        }
     }
 }
 
-// The byte at a place, or 0 past the end.
-fn byte_at(b: &[u8], i: usize) -> u8
-    ensures { λ r. ⌜ r ≡ getD (now (b .entry)) i 0 ⌝ }
+fn need_row(on: Channels, b: &[u8], r: Row) -> Need
+    ensures { λ n. ⌜ n ≡ needRow on (now (b .entry)) r ⌝ }
 {
-    if i < b.len() {
-        return b[i];
+    let channel = r.channel;
+    if !channel_on(on, channel) {
+        return Need::Never(CHANNEL_DISABLED);
     }
-    0
+    if !cycle_listed(r, b) & (1 < b.len()) {
+        return Need::Never(CYCLE_UNLISTED);
+    }
+    if b.len() < (r.told as usize) {
+        return Need::More((r.told as u32) - (b.len() as u32));
+    }
+    need_data(r, b)
 }
 
-fn decode_as(on: Channels, b: &[u8], op: Opcode) -> Decoded
-    ensures { λ r. ⌜ r ≡ decodeAs on (now (b .entry)) op ⌝ }
-{
-    if !opcode_known(op, b) {
-        return Decoded::Refused(13);
-    }
-    if !channel_on(on, op) {
-        return Decoded::Refused(14);
-    }
-    if has_cycle(op) & (b.len() < 2) {
-        return Decoded::Refused(12);
-    }
-    if !cycle_listed(op, byte_at(b, 1)) {
-        return Decoded::Refused(15);
-    }
-    if !length_right(need_of(op, b), b.len()) {
-        return Decoded::Refused(12);
-    }
-    Decoded::Known(command_of(op, b))
-}
-
-fn decode(on: Channels, b: &[u8]) -> Decoded
-    ensures { λ r. ⌜ r ≡ decode on (now (b .entry)) ⌝ }
+// What the first bytes of a command need.
+pub fn need_in(on: Channels, b: &[u8]) -> Need
+    ensures { λ n. ⌜ n ≡ needIn on (now (b .entry)) ⌝ }
 {
     if b.len() == 0 {
-        return Decoded::Refused(12);
+        return Need::More(1);
     }
-    decode_as(on, b, opcode_of(b[0]))
+    let listed = row_of(b[0]);
+    match listed {
+        Listed::As(r) => need_row(on, b, r),
+        Listed::Unlisted => Need::Never(OPCODE_UNKNOWN),
+    }
 }
 
-fn has_crc(c: Command) -> bool
-    ensures { λ r. ⌜ r ≡ hasCrc c ⌝ }
+// ---- the fields of a command
+
+fn high_first(n: u8, at: u8, b: &[u8]) -> u64
+    requires { ⌜ n ≤ 8 ⌝ }
+    ensures { λ r. ⌜ (r ≡ highFirst n at (now (b .entry))) × (r < 256 ^ n) ⌝ }
 {
-    match c {
-        Command::Peripheral(_) => true,
-        Command::Wires(_) => true,
-        Command::GetConfiguration(_) => true,
-        Command::SetConfiguration(_, _) => true,
-        Command::GetStatus => true,
-        Command::Reset => false,
+    let mut v: u64 = 0;
+    let mut i: u8 = 0;
+    while i < n {
+        v = v * 256 + (byte_at(b, (at as usize) + (i as usize)) as u64);
+        i += 1;
+    }
+    v
+}
+
+fn address_in(r: Row, b: &[u8]) -> u64
+    requires { ⌜ Readable r ⌝ }
+    ensures { λ a. ⌜ a ≡ addressIn r (now (b .entry)) ⌝ }
+{
+    high_first(address_bytes(r, b), r.from, b)
+}
+
+fn head_of(r: Row, b: &[u8]) -> Head
+    requires { ⌜ Readable r ⌝ }
+    ensures { λ h. ⌜ h ≡ headOf r (now (b .entry)) ⌝ }
+{
+    Head {
+        wide: wide_cycle(r, b),
+        tag: byte_at(b, 2) / 16,
+        length: length_of(byte_at(b, 2), byte_at(b, 3)),
+        address: address_in(r, b),
     }
 }
+
+fn register_address(r: Row, b: &[u8]) -> u32
+    requires { ⌜ Readable r ⌝ }
+    ensures { λ a. ⌜ a ≡ registerAddress r (now (b .entry)) ⌝ }
+{
+    (high_first(r.address, r.from, b) as u32) / 4 % 1024 * 4
+}
+
+fn register_data(b: &[u8]) -> u32
+    ensures { λ v. ⌜ v ≡ registerData (now (b .entry)) ⌝ }
+{
+    base::join4(byte_at(b, 3), byte_at(b, 4), byte_at(b, 5), byte_at(b, 6))
+}
+
+fn command_of(r: Row, b: &[u8]) -> Command
+    requires { ⌜ Readable r ⌝ }
+    ensures { λ c. ⌜ c ≡ commandOf r (now (b .entry)) ⌝ }
+{
+    let opcode = r.opcode;
+    match opcode {
+        Opcode::PutPc => Command::Peripheral(PeripheralCommand::PutPc(head_of(r, b))),
+        Opcode::GetPc => Command::Peripheral(PeripheralCommand::GetPc),
+        Opcode::PutNp => Command::Peripheral(PeripheralCommand::PutNp(head_of(r, b))),
+        Opcode::PutVwire => Command::Wires(WiresCommand::PutVwire(group_count(byte_at(b, 1)))),
+        Opcode::GetVwire => Command::Wires(WiresCommand::GetVwire),
+        Opcode::GetConfiguration => Command::GetConfiguration(register_address(r, b)),
+        Opcode::SetConfiguration => Command::SetConfiguration(
+            register_address(r, b),
+            register_data(b),
+        ),
+        Opcode::GetStatus => Command::GetStatus,
+        Opcode::Reset => Command::Reset,
+        Opcode::Short(a, n) => Command::Peripheral(PeripheralCommand::Short(
+            a,
+            Span {
+                address: address_in(r, b),
+                size: n,
+            },
+        )),
+    }
+}
+
+// ---- the decoder
 
 fn crc_good(b: &[u8]) -> bool
     requires { ⌜ 1 ≤ length (now b) ⌝ }
@@ -476,29 +465,48 @@ fn crc_good(b: &[u8]) -> bool
     crc::crc_first(b, n) == b[n]
 }
 
-fn crc_wrong(checked: bool, c: Command, b: &[u8]) -> bool
+fn crc_wrong(checked: bool, has: bool, b: &[u8]) -> bool
     requires { ⌜ 1 ≤ length (now b) ⌝ }
-    ensures { λ r. ⌜ r ≡ (checked && (hasCrc c && not (crcGood (now (b .entry))))) ⌝ }
+    ensures { λ r. ⌜ r ≡ crcWrong checked has (now (b .entry)) ⌝ }
 {
     if !checked {
         return false;
     }
-    if !has_crc(c) {
+    if !has {
         return false;
     }
     !crc_good(b)
+}
+
+fn checked_as(checked: bool, b: &[u8], r: Row) -> Decoded
+    requires { ⌜ (1 ≤ length (now b)) × Readable r ⌝ }
+    ensures { λ d. ⌜ d ≡ checkedAs checked (now (b .entry)) r ⌝ }
+{
+    if crc_wrong(checked, r.crc, b) {
+        return Decoded::Refused(CRC_REFUSED);
+    }
+    Decoded::Known(command_of(r, b))
 }
 
 // The command that the bytes are, or the number of the refusal: 12 to 16 in document 01's order.
 pub fn admit(on: Channels, checked: bool, b: &[u8]) -> Decoded
     ensures { λ r. ⌜ r ≡ admit on checked (now (b .entry)) ⌝ }
 {
-    let d = decode(on, b);
-    let Decoded::Known(c) = d else {
-        return d;
-    };
-    if crc_wrong(checked, c, b) {
-        return Decoded::Refused(16);
+    let need = need_in(on, b);
+    match need {
+        Need::Whole(r, n) => {
+            if b.len() != (n as usize) {
+                return Decoded::Refused(LENGTH_WRONG);
+            }
+            checked_as(checked, b, r)
+        }
+        Need::More(_) => Decoded::Refused(LENGTH_WRONG),
+        Need::Open(r) => {
+            if b.len() < 2 {
+                return Decoded::Refused(OPCODE_UNKNOWN);
+            }
+            checked_as(checked, b, r)
+        }
+        Need::Never(n) => Decoded::Refused(n),
     }
-    d
 }

@@ -2,4 +2,5 @@
 pub mod Tests
 pub mod Peripheral
 pub mod Wires
+pub mod Stored
 pub mod Exchange

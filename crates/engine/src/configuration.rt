@@ -1,4 +1,5 @@
 // The configuration, above all channels: each channel gets the edge of its enable bit.
+use crate::Outgoing;
 use crate::peripheral_channel;
 use crate::wires_channel;
 use command::Channels;
@@ -6,13 +7,14 @@ use registers::Config;
 use registers::Reg008;
 use rules::Body;
 use rules::Kept;
-use rules::Plan;
 use rules::Reply;
 use rules::Response;
 use state::State;
 ghost use mathlib.Core.Path.{_≡_};
-ghost use Rattle.rules.specs.Rules.Lift.{nonFatal, acceptThen};
+ghost use Rattle.rules.specs.Rules.Calls.{kept};
+ghost use Rattle.rules.specs.Rules.Lift.{nonFatal};
 ghost use Rattle.rules.specs.Rules.Exchange.{channelsOf, reconfigured, setConfiguration, reset008h};
+ghost use Rattle.engine.specs.Carried.{Packs, carried, carriedBy, outgoing};
 
 // Which channels are on.
 pub(crate) fn channels(c: Config) -> Channels
@@ -26,67 +28,53 @@ pub(crate) fn channels(c: Config) -> Channels
     }
 }
 
-fn reconfigure(s: State, c: Config) -> State
-    ensures { λ r. ⌜ r ≡ reconfigured s c ⌝ }
+// The registers' bytes, and those of a channel whose enable bit has an edge.
+fn reconfigure(s: State, c: Config, state: &mut [u8])
+    requires { ⌜ Packs s (now state) ⌝ }
+    ensures { λ _. ⌜ now (state .exit) ≡ kept (reconfigured s c) (now (state .entry)) ⌝ }
 {
     let was = channels(s.config);
     let is = channels(c);
-    State {
-        config: c,
-        peripheral: peripheral_channel::edge(was.peripheral, is.peripheral, s.peripheral),
-        wires: wires_channel::edge(was.wires, is.wires, s.wires),
-    }
+    c.pack(state);
+    peripheral_channel::store_edge(was.peripheral, is.peripheral, s.peripheral, state);
+    wires_channel::store_edge(was.wires, is.wires, s.wires, state);
 }
 
-fn non_fatally(s: State) -> Plan
-    ensures { λ r. ⌜ r ≡ nonFatal s ⌝ }
+fn non_fatally(s: State) -> Outgoing
+    ensures { λ r. ⌜ r ≡ outgoing (nonFatal s) ⌝ }
 {
-    Plan {
+    Outgoing {
         number: rules::NON_FATAL,
         reply: Reply::Said(Response::NonFatal, Body::Nothing, s.status()),
-        next: s,
         kept: Kept::Nothing,
     }
 }
 
-// The reply shows the status before the write.
-fn accept_then(old: State, new: State) -> Plan
-    ensures { λ r. ⌜ r ≡ acceptThen old new ⌝ }
-{
-    Plan {
-        number: 0,
-        reply: Reply::Said(Response::Accept, Body::Nothing, old.status()),
-        next: new,
-        kept: Kept::Nothing,
-    }
-}
-
-pub(crate) fn set(s: State, address: u32, val: u32) -> Plan
-    ensures { λ r. ⌜ r ≡ setConfiguration s address val ⌝ }
+pub(crate) fn set(s: State, address: u32, val: u32, state: &mut [u8]) -> Outgoing
+    requires { ⌜ Packs s (now state) ⌝ }
+    ensures { λ r. ⌜ carried r (now (state .exit)) ≡ carriedBy (setConfiguration s address val) (now (state .entry)) ⌝ }
 {
     if registers::forbidden(address, val) {
         return non_fatally(s);
     }
     let c = s.config;
-    accept_then(s, reconfigure(s, c.write(address, val)))
+    reconfigure(s, c.write(address, val), state);
+    // The reply shows the status before the write.
+    crate::shown(Body::Nothing, s)
 }
 
 // RESET: register 008h and nothing else.
-pub(crate) fn reset_008(s: State) -> State
-    ensures { λ r. ⌜ r ≡ reset008h s ⌝ }
+pub(crate) fn reset_008(s: State, state: &mut [u8])
+    requires { ⌜ Packs s (now state) ⌝ }
+    ensures { λ _. ⌜ now (state .exit) ≡ kept (reset008h s) (now (state .entry)) ⌝ }
 {
     let c = s.config;
     let r010 = c.r010;
     let r020 = c.r020;
-    let peripheral = s.peripheral;
-    let wires = s.wires;
-    State {
-        config: Config {
-            r008: Reg008::fresh(),
-            r010,
-            r020,
-        },
-        peripheral,
-        wires,
-    }
+    let next = Config {
+        r008: Reg008::fresh(),
+        r010,
+        r020,
+    };
+    next.pack(state);
 }

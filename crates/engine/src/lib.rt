@@ -1,4 +1,4 @@
-// Every command and board call by value, a state in and a plan out: the channel decides over its own part, and a lift puts that back.
+// Every command and board call on the bytes of a loaded state: the channel decides over its own part by value, and a lift stores that part at its place.
 mod configuration;
 mod out;
 mod peripheral_channel;
@@ -12,7 +12,6 @@ use registers::Reg010;
 use rules::Body;
 use rules::Kept;
 use rules::PeripheralChange;
-use rules::Plan;
 use rules::Reply;
 use rules::Response;
 use rules::Say;
@@ -20,140 +19,138 @@ use rules::WiresChange;
 use state::State;
 use wires::Wires;
 ghost use mathlib.Core.Path.{_≡_};
-ghost use mathlib.Core.Bool.{true};
+ghost use Prim.Native.Nat.{_+_};
+ghost use lib.ListN.{length};
+ghost use Rattle.wires.specs.Groups.{wiresStatus};
 ghost use Rattle.command.specs.Facts.{CommandFits};
-ghost use Rattle.state.specs.Status.{status};
-ghost use Rattle.state.specs.Sound.{sound};
+ghost use Rattle.peripheral.specs.Status.{peripheralStatus};
 ghost use Rattle.rules.specs.Rules.Reset.{espiReset, platformReset};
-ghost use Rattle.rules.specs.Rules.Peripheral.{answerTo, taken};
+ghost use Rattle.rules.specs.Rules.Peripheral.{succeeded, answerTo, taken};
 ghost use Rattle.rules.specs.Rules.Wires.{setting};
 ghost use Rattle.rules.specs.Rules.Channel.{peripheral, wires};
-ghost use Rattle.rules.specs.Rules.Lift.{withStatus, lift, silent, show};
+ghost use Rattle.rules.specs.Rules.Lift.{withStatus, lift, show};
 ghost use Rattle.rules.specs.Rules.Exchange.{wasReset, decide, exchange};
-ghost use Rattle.engine.specs.Laws.Exchange.{refusedBy};
+ghost use Rattle.engine.specs.Carried.{Packs, Stays, carried, carriedBy, outgoing, quiet, refusedBy};
+
+// A plan without its next state, which stands in the state's bytes.
+pub struct Outgoing {
+    pub number: u8,
+    pub reply: Reply,
+    pub kept: Kept,
+}
 
 // ---- a channel's change put back into the whole
 
-// Only a reply has a status: the state's after the command.
-fn reply_with(say: Say, s: State) -> Reply
-    ensures { λ r. ⌜ r ≡ withStatus say (status s) ⌝ }
+// Only a reply has a status: that of the parts after the command.
+fn reply_with(say: Say, p: Peripheral, w: Wires) -> Reply
+    ensures { λ r. ⌜ r ≡ withStatus say (peripheralStatus p + wiresStatus w) ⌝ }
 {
     match say {
         Say::Silent => Reply::Silent,
-        Say::Said(response, body) => Reply::Said(response, body, s.status()),
+        Say::Said(response, body) => Reply::Said(response, body, p.status() + w.status()),
     }
 }
 
-fn lift_peripheral(s: State, x: PeripheralChange) -> Plan
-    ensures { λ r. ⌜ r ≡ lift peripheral s x ⌝ }
+fn lift_peripheral(s: State, x: PeripheralChange, state: &mut [u8]) -> Outgoing
+    requires { ⌜ Packs s (now state) × Stays s (lift peripheral s x) ⌝ }
+    ensures { λ r. ⌜ carried r (now (state .exit)) ≡ carriedBy (lift peripheral s x) (now (state .entry)) ⌝ }
 {
-    let config = s.config;
-    let peripheral = x.next;
-    let wires = s.wires;
-    let next = State {
-        config,
-        peripheral,
-        wires,
-    };
+    let next = x.next;
     let out = x.out;
     let say = out.say;
     let kept = out.kept;
-    Plan {
+    peripheral_channel::store(out.number, next, state);
+    Outgoing {
         number: out.number,
-        reply: reply_with(say, next),
-        next,
+        reply: reply_with(say, next, s.wires),
         kept,
     }
 }
 
-fn lift_wires(s: State, x: WiresChange) -> Plan
-    ensures { λ r. ⌜ r ≡ lift wires s x ⌝ }
+fn lift_wires(s: State, x: WiresChange, state: &mut [u8]) -> Outgoing
+    requires { ⌜ Packs s (now state) × Stays s (lift wires s x) ⌝ }
+    ensures { λ r. ⌜ carried r (now (state .exit)) ≡ carriedBy (lift wires s x) (now (state .entry)) ⌝ }
 {
-    let config = s.config;
-    let peripheral = s.peripheral;
-    let wires = x.next;
-    let next = State {
-        config,
-        peripheral,
-        wires,
-    };
+    let next = x.next;
     let out = x.out;
     let say = out.say;
     let kept = out.kept;
-    Plan {
+    wires_channel::store(out.number, next, state);
+    Outgoing {
         number: out.number,
-        reply: reply_with(say, next),
-        next,
+        reply: reply_with(say, s.peripheral, next),
         kept,
     }
 }
 
 // ---- above all channels
 
-fn silently(number: u8, s: State) -> Plan
-    ensures { λ r. ⌜ r ≡ silent number s ⌝ }
+fn silently(number: u8) -> Outgoing
+    ensures { λ r. ⌜ r ≡ quiet number ⌝ }
 {
-    Plan {
+    Outgoing {
         number,
         reply: Reply::Silent,
-        next: s,
         kept: Kept::Nothing,
     }
 }
 
-fn shown(body: Body, s: State) -> Plan
-    ensures { λ r. ⌜ r ≡ show body s ⌝ }
+fn shown(body: Body, s: State) -> Outgoing
+    ensures { λ r. ⌜ r ≡ outgoing (show body s) ⌝ }
 {
-    Plan {
+    Outgoing {
         number: 0,
         reply: Reply::Said(Response::Accept, body, s.status()),
-        next: s,
         kept: Kept::Nothing,
     }
 }
 
-fn decided(s: State, o: Command, b: &[u8]) -> Plan
-    requires { ⌜ (sound s ≡ true) × CommandFits o (now b) ⌝ }
-    ensures { λ r. ⌜ r ≡ decide s o (now (b .entry)) ⌝ }
+fn decided(s: State, o: Command, b: &[u8], state: &mut [u8]) -> Outgoing
+    requires { ⌜ Packs s (now state) × CommandFits o (now b) ⌝ }
+    ensures { λ r. ⌜ carried r (now (state .exit)) ≡ carriedBy (decide s o (now (b .entry))) (now (state .entry)) ⌝ }
 {
     let c = s.config;
     match o {
         Command::Peripheral(k) => lift_peripheral(
             s,
             peripheral_channel::decide(c, s.peripheral, k, b),
+            state,
         ),
-        Command::Wires(k) => lift_wires(s, wires_channel::decide(c, s.wires, k, b)),
+        Command::Wires(k) => lift_wires(s, wires_channel::decide(c, s.wires, k, b), state),
         Command::GetConfiguration(a) => shown(Body::Word(c.read(a)), s),
-        Command::SetConfiguration(a, v) => configuration::set(s, a, v),
+        Command::SetConfiguration(a, v) => configuration::set(s, a, v, state),
         Command::GetStatus => shown(Body::Nothing, s),
-        Command::Reset => silently(0, configuration::reset_008(s)),
+        Command::Reset => {
+            configuration::reset_008(s, state);
+            silently(0)
+        }
     }
 }
 
 // ---- the exchange
 
 // A decode that gives no command ends the exchange at once.
-fn refused(d: Decoded, s: State) -> Plan
-    ensures { λ r. ⌜ r ≡ refusedBy d s ⌝ }
+fn refused(d: Decoded) -> Outgoing
+    ensures { λ r. ⌜ r ≡ refusedBy d ⌝ }
 {
     match d {
-        Decoded::Known(_) => silently(0, s),
-        Decoded::Refused(n) => silently(n, s),
+        Decoded::Known(_) => silently(0),
+        Decoded::Refused(n) => silently(n),
     }
 }
 
-// The plan of an exchange.
-pub fn exchange(s: State, b: &[u8]) -> Plan
-    requires { ⌜ sound s ≡ true ⌝ }
-    ensures { λ r. ⌜ r ≡ exchange s (now (b .entry)) ⌝ }
+// What an exchange sends and keeps; the state's bytes are the next state's after it.
+pub fn exchange(s: State, b: &[u8], state: &mut [u8]) -> Outgoing
+    requires { ⌜ Packs s (now state) ⌝ }
+    ensures { λ r. ⌜ carried r (now (state .exit)) ≡ carriedBy (exchange s (now (b .entry))) (now (state .entry)) ⌝ }
 {
     let config = s.config;
     let r008 = config.r008;
     let d = command::admit(configuration::channels(config), r008.crc_checked(), b);
     let Decoded::Known(o) = d else {
-        return refused(d, s);
+        return refused(d);
     };
-    decided(s, o, b)
+    decided(s, o, b, state)
 }
 
 // ---- the resets: each channel its own
@@ -190,29 +187,34 @@ pub fn platform_reset(s: State) -> State
 
 // ---- the board's calls
 
-// The board answers the request with this serial with n bytes, or with failure.
-pub fn answer(s: State, serial: u32, success: bool, n: usize) -> Plan
-    ensures { λ r. ⌜ r ≡ lift peripheral s (answerTo (s .peripheral) serial success n) ⌝ }
+// The board answers the request with this serial with these bytes, or with failure.
+pub fn answer(s: State, serial: u32, success: u32, bytes: &[u8], state: &mut [u8]) -> Outgoing
+    requires { ⌜ Packs s (now state) ⌝ }
+    ensures { λ r. ⌜ carried r (now (state .exit)) ≡ carriedBy (lift peripheral s (answerTo (s .peripheral) serial (succeeded success) (length (now (bytes .entry))))) (now (state .entry)) ⌝ }
 {
     lift_peripheral(
         s,
-        peripheral_channel::answer_to(s.peripheral, serial, success, n),
+        peripheral_channel::answer_to(s.peripheral, serial, success != 0, bytes.len()),
+        state,
     )
 }
 
 // The board takes the held write.
-pub fn take_write(s: State) -> Plan
-    ensures { λ r. ⌜ r ≡ lift peripheral s (taken (s .peripheral)) ⌝ }
+pub fn take_write(s: State, state: &mut [u8]) -> Outgoing
+    requires { ⌜ Packs s (now state) ⌝ }
+    ensures { λ r. ⌜ carried r (now (state .exit)) ≡ carriedBy (lift peripheral s (taken (s .peripheral))) (now (state .entry)) ⌝ }
 {
-    lift_peripheral(s, peripheral_channel::taken(s.peripheral))
+    lift_peripheral(s, peripheral_channel::taken(s.peripheral), state)
 }
 
 // The board sets one wire.
-pub fn set_wire(s: State, index: u32, bit: u32, value: u32) -> Plan
-    ensures { λ r. ⌜ r ≡ lift wires s (setting (s .config) (s .wires) index bit value) ⌝ }
+pub fn set_wire(s: State, index: u32, bit: u32, value: u32, state: &mut [u8]) -> Outgoing
+    requires { ⌜ Packs s (now state) ⌝ }
+    ensures { λ r. ⌜ carried r (now (state .exit)) ≡ carriedBy (lift wires s (setting (s .config) (s .wires) index bit value)) (now (state .entry)) ⌝ }
 {
     lift_wires(
         s,
         wires_channel::setting(s.config, s.wires, index, bit, value),
+        state,
     )
 }

@@ -23,8 +23,11 @@ ghost use Rattle.registers.specs.Registers.{reachable};
 ghost use Rattle.command.specs.declared.PeripheralCommand.the-variants.{Short};
 ghost use Rattle.command.specs.Facts.{PeripheralFits, SizeFits};
 ghost use Rattle.peripheral.specs.Sound.{soundRequest};
+ghost use Rattle.state.specs.Layout.{stateLength};
+ghost use Rattle.rules.specs.Rules.Channel.{peripheral};
 ghost use Rattle.rules.specs.Rules.Out as O;
 ghost use Rattle.rules.specs.Rules.Peripheral as P;
+ghost use Rattle.engine.specs.Carried.{storedBy, edgeStored};
 
 fn fatally(p: Peripheral) -> PeripheralChange
     ensures { λ r. ⌜ r ≡ P.change p O.fatal ⌝ }
@@ -323,14 +326,26 @@ pub(crate) fn taken(p: Peripheral) -> PeripheralChange
     }
 }
 
-// ---- configuration
+// ---- its bytes
+
+// The part of a change with this number; a refused one's stands there already.
+pub(crate) fn store(number: u8, p: Peripheral, state: &mut [u8])
+    requires { ⌜ stateLength ≤ length (now state) ⌝ }
+    ensures { λ _. ⌜ now (state .exit) ≡ storedBy peripheral number p (now (state .entry)) ⌝ }
+{
+    if number != 0 {
+        return;
+    }
+    p.pack(state);
+}
 
 // The edge from on to off drops the queues.
-pub(crate) fn edge(was: bool, is: bool, p: Peripheral) -> Peripheral
-    ensures { λ r. ⌜ r ≡ P.edge was is p ⌝ }
+pub(crate) fn store_edge(was: bool, is: bool, p: Peripheral, state: &mut [u8])
+    requires { ⌜ stateLength ≤ length (now state) ⌝ }
+    ensures { λ _. ⌜ now (state .exit) ≡ edgeStored peripheral was is p (now (state .entry)) ⌝ }
 {
     if was & !is {
-        return p.dropped();
+        let q = p.dropped();
+        q.pack(state);
     }
-    p
 }

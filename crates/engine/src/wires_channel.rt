@@ -13,8 +13,11 @@ ghost use lib.ListN.{length, take, drop};
 ghost use Rattle.registers.specs.Registers.{reachable, on1};
 ghost use Rattle.wires.specs.Groups.{soundWires};
 ghost use Rattle.command.specs.Facts.{WiresFits};
+ghost use Rattle.state.specs.Layout.{stateLength};
+ghost use Rattle.rules.specs.Rules.Channel.{wires};
 ghost use Rattle.rules.specs.Rules.Out as O;
 ghost use Rattle.rules.specs.Rules.Wires as W;
+ghost use Rattle.engine.specs.Carried.{storedBy, edgeStored};
 
 fn fatally(w: Wires) -> WiresChange
     ensures { λ r. ⌜ r ≡ W.change w O.fatal ⌝ }
@@ -85,14 +88,30 @@ pub(crate) fn setting(c: Config, w: Wires, index: u32, bit: u32, value: u32) -> 
     }
 }
 
-pub(crate) fn edge(was: bool, is: bool, w: Wires) -> Wires
-    ensures { λ r. ⌜ r ≡ W.edge was is w ⌝ }
+// ---- their bytes
+
+// The part of a change with this number; a refused one's stands there already.
+pub(crate) fn store(number: u8, w: Wires, state: &mut [u8])
+    requires { ⌜ stateLength ≤ length (now state) ⌝ }
+    ensures { λ _. ⌜ now (state .exit) ≡ storedBy wires number w (now (state .entry)) ⌝ }
+{
+    if number != 0 {
+        return;
+    }
+    w.pack(state);
+}
+
+pub(crate) fn store_edge(was: bool, is: bool, w: Wires, state: &mut [u8])
+    requires { ⌜ stateLength ≤ length (now state) ⌝ }
+    ensures { λ _. ⌜ now (state .exit) ≡ edgeStored wires was is w (now (state .entry)) ⌝ }
 {
     if was & !is {
-        return w.disabled();
+        let q = w.disabled();
+        q.pack(state);
+        return;
     }
     if !was & is {
-        return w.enabled();
+        let q = w.enabled();
+        q.pack(state);
     }
-    w
 }

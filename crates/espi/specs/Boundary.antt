@@ -15,6 +15,7 @@ use Rattle.peripheral.specs.declared.Np.{Np}
 use Rattle.state.specs.declared.State.{State}
 use Rattle.state.specs.Sound.{sound}
 use Rattle.state.specs.Layout.{stateLength, packed, unpacked, holds, loaded}
+use Rattle.state.specs.Packing.{holds-bytes}
 use Rattle.state.specs.declared.Loaded.{Loaded}
 use Rattle.rules.specs.Rules.Peripheral as P
 use Rattle.rules.specs.Rules.Wires as W
@@ -22,12 +23,35 @@ use Rattle.rules.specs.Rules.Channel.{peripheral}
 use Rattle.rules.specs.Rules.Lift.{lift}
 use Rattle.rules.specs.Rules.Exchange.{exchange}
 use Rattle.rules.specs.Rules.Reply.{replyBytes, keptBytes}
-use Rattle.rules.specs.Rules.Fits.{KeptFits, PlanFits}
+use Rattle.rules.specs.Rules.Fits.{ReplyFits, KeptFits}
 use Rattle.rules.specs.Rules.Calls.{Exchanged, done, exchanged, stored, looked, kept, word, exchangePlanned}
 use Rattle.rules.specs.Proofs.Fits as F
 use Rattle.rules.specs.declared.Kept.{Kept}
 use Rattle.rules.specs.declared.Kept.the-variants as K
 use Rattle.rules.specs.declared.Plan.{Plan}
+use Rattle.engine.specs.Carried.{Packs, Carried, carried, carriedBy}
+use Rattle.engine.specs.declared.Outgoing.{Outgoing}
+
+-- ---- an exchange's reply and data on the lent bytes
+
+pub record Sent : Type 0 where
+  pub word : ℕ
+  pub reply : List ℕ
+  pub write : List ℕ
+
+abbrev pub sent : ℕ → List ℕ → List ℕ → Sent
+sent n reply write = record { word = n; reply = reply; write = write }
+
+abbrev pub sentBy : Outgoing → Wires → (command reply write read : List ℕ) → Sent
+sentBy p w command reply write read =
+    sent (word (p .number) (length (replyBytes (p .reply) w read))) (over (replyBytes (p .reply) w read) reply) (over (keptBytes (p .kept) command) write)
+
+pub sent-by : (p : Outgoing) (w : Wires) (command reply reply′ write write′ read : List ℕ) (n : ℕ)
+    → reply′ ≡ over (replyBytes (p .reply) w read) reply
+    → n ≡ length (replyBytes (p .reply) w read)
+    → write′ ≡ over (keptBytes (p .kept) command) write
+    → sent (p .number + 256 * n) reply′ write′ ≡ sentBy p w command reply write read
+sent-by p w command reply reply′ write write′ read n er en ew = rw (er, en, ew)
 
 -- ---- what was loaded
 
@@ -41,36 +65,46 @@ module _ (st : List ℕ) (g : Loaded) (e : g ≡ loaded st) where
       ap (λ (y : Loaded). sound (y .state)) e
       ∙ and-left (sound (unpacked st)) (agree stateLength (packed (unpacked st)) st) (not-false (holds st) (ok-is h))
 
+  -- the bytes pack what was loaded
+  pub loaded-packs : stateLength ≤ length st → not (g .ok) ≡ false → Packs (g .state) st
+  loaded-packs n h =
+      record {
+        long = n;
+        good = loaded-sound h;
+        bytes = holds-bytes st n (not-false (holds st) (ok-is h)) ∙ ap (λ (y : Loaded). packed (y .state)) (sym e);
+      }
+
   -- a call that changes the state alone
   pub changed-by : (f : State → State) (t : State) (st′ : List ℕ) → t ≡ f (g .state) → st′ ≡ over (packed t) st → done 0 st′ ≡ done 0 (kept (f (unpacked st)) st)
   changed-by f t st′ et es = ap (done 0) (es ∙ ap (λ (z : State). kept z st) (et ∙ ap (λ (y : Loaded). f (y .state)) e))
 
-  -- a board call's plan, its state stored
-  pub settled-by : (f : State → Plan) (p : Plan) (st′ : List ℕ) → p ≡ f (g .state) → st′ ≡ over (packed (p .next)) st
+  -- a plan carried out on the state that was loaded
+  of-loaded : (f : State → Plan) (x : Carried) → x ≡ carriedBy (f (g .state)) st → x ≡ carriedBy (f (unpacked st)) st
+  of-loaded f x ex = ex ∙ ap (λ (y : Loaded). carriedBy (f (y .state)) st) e
+
+  -- a board call
+  pub settled-by : (f : State → Plan) (p : Outgoing) (st′ : List ℕ) → carried p st′ ≡ carriedBy (f (g .state)) st
       → done (p .number) st′ ≡ done (f (unpacked st) .number) (kept (f (unpacked st) .next) st)
-  settled-by f p st′ ep es =
-      ap (done (p .number)) es ∙ ap (λ (q : Plan). done (q .number) (kept (q .next) st)) (ep ∙ ap (λ (y : Loaded). f (y .state)) e)
+  settled-by f p st′ ep = ap (λ (z : Carried). done (z .goes .number) (z .state)) (of-loaded f (carried p st′) ep)
 
   -- and its data kept in a store
-  pub kept-by : (f : State → Plan) (p : Plan) (st′ bytes store store′ : List ℕ)
-      → p ≡ f (g .state)
-      → st′ ≡ over (packed (p .next)) st
+  pub kept-by : (f : State → Plan) (p : Outgoing) (st′ bytes store store′ : List ℕ)
+      → carried p st′ ≡ carriedBy (f (g .state)) st
       → store′ ≡ over (keptBytes (p .kept) bytes) store
       → stored (p .number) st′ store′ ≡ stored (f (unpacked st) .number) (kept (f (unpacked st) .next) st) (over (keptBytes (f (unpacked st) .kept) bytes) store)
-  kept-by f p st′ bytes store store′ ep es ew =
-      rw (es, ew) (ap (λ (q : Plan). stored (q .number) (kept (q .next) st) (over (keptBytes (q .kept) bytes) store)) (ep ∙ ap (λ (y : Loaded). f (y .state)) e))
+  kept-by f p st′ bytes store store′ ep ew =
+      rw ew (ap (λ (z : Carried). stored (z .goes .number) (z .state) (over (keptBytes (z .goes .kept) bytes) store)) (of-loaded f (carried p st′) ep))
 
   -- a take: the held write reported
-  pub taken-by : (f : State → Plan) (p : Plan) (st′ report report′ : List ℕ)
-      → p ≡ f (g .state)
-      → st′ ≡ over (packed (p .next)) st
+  pub taken-by : (f : State → Plan) (p : Outgoing) (st′ report report′ : List ℕ)
+      → carried p st′ ≡ carriedBy (f (g .state)) st
       → report′ ≡ over (P.takeReport (g .state .peripheral .write)) report
       → stored (p .number) st′ report′
       ≡ stored (f (unpacked st) .number) (kept (f (unpacked st) .next) st) (over (P.takeReport (unpacked st .peripheral .write)) report)
-  taken-by f p st′ report report′ ep es er =
-      rw (es, er)
-      (ap (λ (q : Plan). stored (q .number) (kept (q .next) st) (over (P.takeReport (g .state .peripheral .write)) report)) ep
-      ∙ ap (λ (y : Loaded). stored (f (y .state) .number) (kept (f (y .state) .next) st) (over (P.takeReport (y .state .peripheral .write)) report)) e)
+  taken-by f p st′ report report′ ep er =
+      rw er
+      (ap (λ (z : Carried). stored (z .goes .number) (z .state) (over (P.takeReport (g .state .peripheral .write)) report)) (of-loaded f (carried p st′) ep)
+      ∙ ap (λ (y : Loaded). stored (f (unpacked st) .number) (kept (f (unpacked st) .next) st) (over (P.takeReport (y .state .peripheral .write)) report)) e)
 
   -- a look, by the request's phase
   pub looked-by : (n : Np) (number : ℕ) (report report′ : List ℕ)
@@ -84,14 +118,17 @@ module _ (st : List ℕ) (g : Loaded) (e : g ≡ loaded st) where
       (ap (λ (z : Np). looked (P.lookNumber z) (over (P.lookReport z (g .state .peripheral .serial)) report)) (sym en)
       ∙ ap (λ (y : Loaded). looked (P.lookNumber (y .state .peripheral .request)) (over (P.lookReport (y .state .peripheral .request) (y .state .peripheral .serial)) report)) e)
 
-  -- an exchange's plan carried out
-  pub exchanged-by : (p : Plan) (command reply write read : List ℕ) (x : Exchanged)
-      → p ≡ exchange (g .state) command
-      → x ≡ exchangePlanned p (g .state .wires) st command reply write read
-      → x ≡ exchangePlanned (exchange (unpacked st) command) (unpacked st .wires) st command reply write read
-  exchanged-by p command reply write read x ep ex =
-      ex ∙ ap (λ (q : Plan). exchangePlanned q (g .state .wires) st command reply write read) ep
-      ∙ ap (λ (y : Loaded). exchangePlanned (exchange (y .state) command) (y .state .wires) st command reply write read) e
+  -- an exchange
+  pub exchanged-by : (p : Outgoing) (st′ command reply reply′ write write′ read : List ℕ) (n : ℕ)
+      → carried p st′ ≡ carriedBy (exchange (g .state) command) st
+      → sent n reply′ write′ ≡ sentBy p (g .state .wires) command reply write read
+      → exchanged n st′ reply′ write′ ≡ exchangePlanned (exchange (unpacked st) command) st command reply write read
+  unfolding exchangePlanned
+  exchanged-by p st′ command reply reply′ write write′ read n ep es =
+      let x : Outgoing → List ℕ → Wires → Exchanged = λ q l w. exchanged (word (q .number) (length (replyBytes (q .reply) w read))) l (over (replyBytes (q .reply) w read) reply) (over (keptBytes (q .kept) command) write) in
+      ap (λ (z : Sent). exchanged (z .word) st′ (z .reply) (z .write)) es
+      ∙ ap (λ (y : Loaded). x p st′ (y .state .wires)) e
+      ∙ ap (λ (z : Carried). x (z .goes) (z .state) (unpacked st .wires)) (of-loaded (λ (s : State). exchange s command) (carried p st′) ep)
 
   -- a wire read
   pub wire-by : (index bit v : ℕ) (ok : Bool) → ok ≡ definedBit index bit → not ok ≡ false → v ≡ readWire (g .state .wires) index bit
@@ -106,24 +143,20 @@ pub wire-refused : (w : Wires) (index bit : ℕ) (ok : Bool) → ok ≡ definedB
 wire-refused w index bit true eo h = let z : _≡_ {A = Bool} true false = sym h in ap (λ (b : Bool). pick b 22 (word (W.readNumber index bit) (W.readValue w index bit))) z
 wire-refused w index bit false eo h = ap (λ (b : Bool). word (pick b 0 22) (pick b (readWire w index bit) 0)) eo
 
--- ---- a plan carried out
-
-pub planned-by : (p : Plan) (w : Wires) (st st′ command reply reply′ write write′ read : List ℕ) (n : ℕ)
-    → st′ ≡ over (packed (p .next)) st
-    → reply′ ≡ over (replyBytes (p .reply) w read) reply
-    → n ≡ length (replyBytes (p .reply) w read)
-    → write′ ≡ over (keptBytes (p .kept) command) write
-    → exchanged (p .number + 256 * n) st′ reply′ write′ ≡ exchangePlanned p w st command reply write read
-unfolding exchangePlanned
-planned-by p w st st′ command reply reply′ write write′ read n es er en ew = rw (es, er, en, ew)
+-- ---- what goes out fits the lent slices
 
 -- a bigger store keeps as much
 pub kept-wider : (k : Kept) (m a b : ℕ) → a ≤ b → KeptFits k m a → KeptFits k m b
 kept-wider K.Nothing m a b h f = tt
 kept-wider (K.Data at n) m a b h f = record { there = f .there; most = omega (arith, f .most) }
 
-pub exchange-fits : (s : State) (command : List ℕ) (p : Plan) → sound s ≡ true → p ≡ exchange s command → PlanFits (length command) (s .wires) p
-exchange-fits s command p h e = subst (PlanFits (length command) (s .wires)) (sym e) (F.exchange-fits s h command)
+pub exchange-fits : (s : State) (st st′ command : List ℕ) (p : Outgoing) → sound s ≡ true → carried p st′ ≡ carriedBy (exchange s command) st
+    → ReplyFits (p .reply) (s .wires) × KeptFits (p .kept) (length command) 256
+exchange-fits s st st′ command p h e =
+    let f = F.exchange-fits s h command in
+    subst (λ (z : Carried). ReplyFits (z .goes .reply) (s .wires) × KeptFits (z .goes .kept) (length command) 256) (sym e) (f .reply, f .kept)
 
-pub answer-fits : (s : State) (serial n : ℕ) (success : Bool) (p : Plan) → sound s ≡ true → p ≡ lift peripheral s (P.answerTo (s .peripheral) serial success n) → KeptFits (p .kept) n 4096
-answer-fits s serial n success p h e = subst (λ (q : Plan). KeptFits (q .kept) n 4096) (sym e) (F.answer-fits s h serial success n)
+pub answer-fits : (s : State) (serial success : ℕ) (st st′ bytes : List ℕ) (p : Outgoing) → sound s ≡ true
+    → carried p st′ ≡ carriedBy (lift peripheral s (P.answerTo (s .peripheral) serial (P.succeeded success) (length bytes))) st → KeptFits (p .kept) (length bytes) 4096
+answer-fits s serial success st st′ bytes p h e =
+    subst (λ (z : Carried). KeptFits (z .goes .kept) (length bytes) 4096) (sym e) (F.answer-fits s h serial success bytes)

@@ -1,6 +1,6 @@
 // The C boundary: the nine calls over lent bytes, and nothing else.
+use engine::Outgoing;
 use peripheral::Np;
-use rules::Plan;
 use state::State;
 use state::load;
 use state::pack;
@@ -9,7 +9,8 @@ ghost use mathlib.Core.Path.{_≡_};
 ghost use Prim.Native.Nat.{_≤_};
 ghost use lib.ListN.{length};
 ghost use Rattle.rules.specs.Rules.Fits.{ReplyFits, KeptFits};
-ghost use Rattle.rules.specs.Rules.Calls.{done, exchanged, stored, looked, startCall, espiResetCall, platformResetCall, exchangePlanned, exchangeCall, lookCall, answerCall, takeWriteCall, setWireCall, readWireCall};
+ghost use Rattle.rules.specs.Rules.Calls.{done, exchanged, stored, looked, startCall, espiResetCall, platformResetCall, exchangeCall, lookCall, answerCall, takeWriteCall, setWireCall, readWireCall};
+ghost use Rattle.espi.specs.Boundary.{sent, sentBy};
 
 // The least lengths of the lent slices.
 const STATE: usize = 77;
@@ -72,23 +73,20 @@ pub extern "C" fn espi_platform_reset(state: &mut [u8]) -> u32
     0
 }
 
-// A plan carried out on the lent bytes; a reply that carries wires shows them as they were.
+// What goes out of an exchange: its reply, over the wires as they were, and its data on the lent bytes.
 fn commit(
-    p: Plan,
+    p: Outgoing,
     was: Wires,
-    state: &mut [u8],
     command: &[u8],
     reply: &mut [u8],
     write_store: &mut [u8],
     read_store: &[u8],
 ) -> u32
-    requires { ⌜ (77 ≤ length (now state)) × (263 ≤ length (now reply)) × (256 ≤ length (now «write_store»)) × (4096 ≤ length (now «read_store»)) × ReplyFits (p .reply) was × KeptFits (p .kept) (length (now command)) 256 ⌝ }
-    ensures { λ r. ⌜ exchanged r (now (state .exit)) (now (reply .exit)) (now («write_store» .exit)) ≡ exchangePlanned p was (now (state .entry)) (now (command .entry)) (now (reply .entry)) (now («write_store» .entry)) (now («read_store» .entry)) ⌝ }
+    requires { ⌜ (263 ≤ length (now reply)) × (256 ≤ length (now «write_store»)) × (4096 ≤ length (now «read_store»)) × ReplyFits (p .reply) was × KeptFits (p .kept) (length (now command)) 256 ⌝ }
+    ensures { λ r. ⌜ sent r (now (reply .exit)) (now («write_store» .exit)) ≡ sentBy p was (now (command .entry)) (now (reply .entry)) (now («write_store» .entry)) (now («read_store» .entry)) ⌝ }
 {
-    let next = p.next;
     let r = p.reply;
     let k = p.kept;
-    pack(next, state);
     let n = reply::put_reply(reply, r, was, read_store);
     reply::keep(write_store, k, command);
     (p.number as u32) + 256 * n
@@ -121,9 +119,8 @@ pub extern "C" fn espi_exchange(
         return rules::STATE_NOT_SOUND;
     }
     let s = got.state;
-    let was = s.wires;
-    let p = engine::exchange(s, command);
-    commit(p, was, state, command, reply, write_store, read_store)
+    let p = engine::exchange(s, command, state);
+    commit(p, s.wires, command, reply, write_store, read_store)
 }
 
 #[no_mangle]
@@ -175,10 +172,8 @@ pub extern "C" fn espi_answer(
         return rules::STATE_NOT_SOUND;
     }
     let s = got.state;
-    let p = engine::answer(s, serial, success != 0, bytes.len());
-    let next = p.next;
+    let p = engine::answer(s, serial, success, bytes, state);
     let k = p.kept;
-    pack(next, state);
     reply::keep(read_store, k, bytes);
     p.number as u32
 }
@@ -203,9 +198,7 @@ pub extern "C" fn espi_take_write(state: &mut [u8], write_store: &[u8], report: 
     let s = got.state;
     let h = s.peripheral;
     let w = h.write;
-    let p = engine::take_write(s);
-    let next = p.next;
-    pack(next, state);
+    let p = engine::take_write(s, state);
     reply::put_write(report, w);
     p.number as u32
 }
@@ -222,9 +215,7 @@ pub extern "C" fn espi_set_wire(state: &mut [u8], index: u32, bit: u32, value: u
         return rules::STATE_NOT_SOUND;
     }
     let s = got.state;
-    let p = engine::set_wire(s, index, bit, value);
-    let next = p.next;
-    pack(next, state);
+    let p = engine::set_wire(s, index, bit, value, state);
     p.number as u32
 }
 

@@ -1,8 +1,11 @@
 -- The channel's bytes in those of a state, as docs/STATE.md lays them out.
 use Prim.Native.Nat.{ℕ, zero, suc}
+use mathlib.Core.Bool.{Bool, true, false, _&&_}
 use mathlib.Core.List.{List, _∷_, _++_}
+use lib.Dec.{eqb, leb}
 use lib.ListN.{getD}
 use Rattle.base.specs.Bytes.{low4, low8, number4, number8}
+use Rattle.peripheral.specs.Sound.{soundRequest, soundWrite, soundPeripheral}
 use Rattle.peripheral.specs.declared.Kind.{Kind}
 use Rattle.peripheral.specs.declared.Kind.the-variants.{MemoryRead, IoRead, IoWrite}
 use Rattle.peripheral.specs.declared.Request.{Request}
@@ -77,10 +80,50 @@ npOf (suc zero) q sent = Waiting q
 npOf (suc (suc zero)) q sent = Ready q sent
 npOf (suc (suc (suc n))) q sent = Failed q
 
+abbrev pub writeIn : List ℕ → Write
+writeIn l = writeOf (getD l 12 0) (postedIn l)
+
+abbrev pub npIn : List ℕ → Np
+npIn l = npOf (getD l 29 0) (requestIn l) (number4 56 l)
+
 abbrev pub peripheralIn : List ℕ → Peripheral
-peripheralIn l =
-    record {
-      write = writeOf (getD l 12 0) (postedIn l);
-      request = npOf (getD l 29 0) (requestIn l) (number4 56 l);
-      serial = number4 60 l;
-    }
+peripheralIn l = record { write = writeIn l; request = npIn l; serial = number4 60 l }
+
+-- ---- the canonical form (docs/STATE.md), by the bytes as they stand: 0 where nothing is held, and no byte that says nothing
+
+abbrev pub tidyWrite : ℕ → Posted → Bool
+tidyWrite zero w = eqb (w .address) 0 && (eqb (w .length) 0 && eqb (w .payload) 0)
+tidyWrite (suc zero) w = true
+tidyWrite (suc (suc n)) w = false
+
+abbrev pub blank : (kind : ℕ) → Request → ℕ → Bool
+blank kind q sent =
+    eqb kind 0
+    && (eqb (q .tag) 0
+    && (eqb (q .address) 0
+    && ((eqb (q .length) 0 && eqb (q .payload) 0) && ((eqb (q .readsize) 0 && eqb (q .bytes) 0) && eqb sent 0))))
+
+-- by phase; bytes are sent of an answer with success alone
+abbrev pub tidyRequest : (phase kind : ℕ) → Request → ℕ → Bool
+tidyRequest zero kind q sent = blank kind q sent
+tidyRequest (suc zero) kind q sent = leb kind 2 && eqb sent 0
+tidyRequest (suc (suc zero)) kind q sent = leb kind 2
+tidyRequest (suc (suc (suc zero))) kind q sent = leb kind 2 && eqb sent 0
+tidyRequest (suc (suc (suc (suc n)))) kind q sent = false
+
+abbrev pub tidyPeripheral : List ℕ → Bool
+tidyPeripheral l = tidyWrite (getD l 12 0) (postedIn l) && tidyRequest (getD l 29 0) (getD l 30 0) (requestIn l) (number4 56 l)
+
+-- ---- the bytes pack a sound write, a sound request, a sound channel that is on or off
+
+abbrev pub blankIn : List ℕ → Bool
+blankIn l = blank (getD l 30 0) (requestIn l) (number4 56 l)
+
+abbrev pub holdsWrite : List ℕ → Bool
+holdsWrite l = tidyWrite (getD l 12 0) (postedIn l) && soundWrite (writeIn l)
+
+abbrev pub holdsRequest : List ℕ → Bool
+holdsRequest l = tidyRequest (getD l 29 0) (getD l 30 0) (requestIn l) (number4 56 l) && soundRequest (npIn l)
+
+abbrev pub holdsPeripheral : Bool → List ℕ → Bool
+holdsPeripheral on l = tidyPeripheral l && soundPeripheral on (peripheralIn l)

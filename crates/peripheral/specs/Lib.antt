@@ -6,3 +6,4 @@ pub mod Facts
 pub mod Layout
 pub mod Coded
 pub mod Packing
+pub mod Tidy

@@ -21,7 +21,7 @@ use Rattle.peripheral.specs.declared.Write.the-variants.{Empty, Held}
 use Rattle.peripheral.specs.declared.Peripheral.{Peripheral}
 use Rattle.peripheral.specs.Sound.{soundRequest, soundWrite, fitsRequest, fitsWrite, fitsPeripheral}
 use Rattle.peripheral.specs.Facts.{MadeRequest, waiting-request, failed-request, ready-request, held-write}
-use Rattle.peripheral.specs.Layout.{writeBytes, kindNumber, requestBytes, npBytes, peripheralBytes, writeOf, kindOf, npOf, postedIn, requestIn, peripheralIn}
+use Rattle.peripheral.specs.Layout.{writeBytes, kindNumber, requestBytes, npBytes, peripheralBytes, writeOf, kindOf, npOf, postedIn, requestIn, writeIn, npIn, peripheralIn}
 
 -- ---- lengths
 
@@ -43,10 +43,10 @@ peripheral-length p =
 -- ---- parts that stand behind others
 
 module _ (p l : List ℕ) where
-  posted-at : length p ≡ 12 → postedIn (p ++ l) ≡ record { address = number8 1 l; length = number4 9 l; payload = number4 13 l }
+  pub posted-at : length p ≡ 12 → postedIn (p ++ l) ≡ record { address = number8 1 l; length = number4 9 l; payload = number4 13 l }
   posted-at h = rw (number8-past p l 13 1 (omega arith), number4-past p l 21 9 (omega arith), number4-past p l 25 13 (omega arith))
 
-  request-at : length p ≡ 29
+  pub request-at : length p ≡ 29
       → requestIn (p ++ l)
       ≡ record { kind = kindOf (getD l 1 0); tag = getD l 2 0; address = number8 3 l; length = number4 11 l; payload = number4 15 l; readsize = number4 19 l; bytes = number4 23 l }
   request-at h =
@@ -67,9 +67,6 @@ kind-back MemoryRead = refl
 kind-back IoRead = refl
 kind-back IoWrite = refl
 
-abbrev writeIn : List ℕ → Write
-writeIn l = writeOf (getD l 12 0) (postedIn l)
-
 write-back : (p t : List ℕ) (w : Write) → length p ≡ 12 → soundWrite w ≡ true → fitsWrite w ≡ true → writeIn (p ++ (writeBytes w ++ t)) ≡ w
 write-back p t Empty h s f = ap (λ (n : ℕ). writeOf n (postedIn (p ++ (writeBytes Empty ++ t)))) (past p (writeBytes Empty ++ t) 12 0 (omega arith))
 write-back p t (Held w) h s f =
@@ -83,9 +80,6 @@ write-back p t (Held w) h s f =
       back4 (w .length) (omega (arith, m .most)),
       back4 (w .payload) (omega (arith, m .payload .most)),
     ))
-
-abbrev npIn : List ℕ → Np
-npIn l = npOf (getD l 29 0) (requestIn l) (number4 56 l)
 
 module _ (p t : List ℕ) (h : length p ≡ 29) where
   request-back : (phase : ℕ) (q : Request) (sent : ℕ) → MadeRequest q → q .address < 2 ^ 64 → requestIn (p ++ (requestBytes phase q sent ++ t)) ≡ q

@@ -2,16 +2,17 @@
 ghost use mathlib.Core.Path.{_≡_};
 ghost use mathlib.Core.Bool.{true, _&&_};
 ghost use Prim.Native.Nat.{_+_, _*_, _^_, _≤_, _<_};
-ghost use lib.Dec.{ltb};
+ghost use lib.Dec.{eqb, ltb, leb};
 ghost use lib.ListN.{length};
+ghost use Rattle.base.specs.Bytes.{put};
 ghost use Rattle.registers.specs.Registers.{payloadLegal, readLegal};
 ghost use Rattle.peripheral.specs.declared.Kind.the-variants.{MemoryRead, IoRead, IoWrite};
 ghost use Rattle.peripheral.specs.declared.Write.the-variants.{Held};
 ghost use Rattle.peripheral.specs.Queues.{idle, dropped};
 ghost use Rattle.peripheral.specs.Status.{pcFree, npFree, pcAvail, peripheralStatus};
 ghost use Rattle.peripheral.specs.Upward.{bare, pieceOf, successOf, upward, firstOf, afterPiece, afterSuccess, handed};
-ghost use Rattle.peripheral.specs.Sound.{within, shortSize, ioMade, madeAs, requestMade, writeMade, sentRight, soundRequest, soundWrite, soundPeripheral};
-ghost use Rattle.peripheral.specs.Layout.{writeBytes, kindNumber, numberBytes, requestBytes, npBytes, postedIn, writeOf, kindOf, requestIn, npOf, peripheralIn};
+ghost use Rattle.peripheral.specs.Sound.{within, shortSize, ioMade, madeAs, requestMade, writeMade, sentRight, soundRequest};
+ghost use Rattle.peripheral.specs.Layout.{writeBytes, kindNumber, numberBytes, requestBytes, npBytes, peripheralBytes, postedIn, writeIn, kindOf, requestIn, npIn, peripheralIn, holdsWrite, blankIn, holdsRequest, holdsPeripheral};
 
 pub enum Kind {
     MemoryRead,
@@ -332,26 +333,6 @@ fn ready_made(q: Request, sent: u32) -> bool
     sent_right(q, sent)
 }
 
-fn sound_request(n: Np) -> bool
-    ensures { λ r. ⌜ r ≡ soundRequest n ⌝ }
-{
-    match n {
-        Np::Free => true,
-        Np::Waiting(q) => request_made(q),
-        Np::Ready(q, sent) => ready_made(q, sent),
-        Np::Failed(q) => request_made(q),
-    }
-}
-
-fn sound_write(w: Write) -> bool
-    ensures { λ r. ⌜ r ≡ soundWrite w ⌝ }
-{
-    match w {
-        Write::Empty => true,
-        Write::Held(p) => write_made(p),
-    }
-}
-
 // ---- the bytes (docs/STATE.md)
 
 fn posted_bytes(w: Posted) -> [u8; 17]
@@ -378,7 +359,7 @@ fn posted_bytes(w: Posted) -> [u8; 17]
     ]
 }
 
-pub fn write_bytes(w: Write) -> [u8; 17]
+fn write_bytes(w: Write) -> [u8; 17]
     ensures { λ r. ⌜ r ≡ writeBytes w ⌝ }
 {
     match w {
@@ -442,7 +423,7 @@ fn request_bytes(phase: u8, q: Request, sent: u32) -> [u8; 31]
     number_bytes(phase, kind_number(k), q, sent)
 }
 
-pub fn np_bytes(n: Np) -> [u8; 31]
+fn np_bytes(n: Np) -> [u8; 31]
     ensures { λ r. ⌜ r ≡ npBytes n ⌝ }
 {
     match n {
@@ -464,12 +445,14 @@ fn posted_in(b: &[u8]) -> Posted
     }
 }
 
-fn write_of(n: u8, w: Posted) -> Write
-    ensures { λ r. ⌜ r ≡ writeOf n w ⌝ }
+fn write_in(b: &[u8]) -> Write
+    requires { ⌜ 64 ≤ length (now b) ⌝ }
+    ensures { λ r. ⌜ r ≡ writeIn (now (b .entry)) ⌝ }
 {
+    let n = b[12];
     match n {
         0 => Write::Empty,
-        _ => Write::Held(w),
+        _ => Write::Held(posted_in(b)),
     }
 }
 
@@ -499,14 +482,64 @@ fn request_in(b: &[u8]) -> Request
     }
 }
 
-fn np_of(n: u8, q: Request, sent: u32) -> Np
-    ensures { λ r. ⌜ r ≡ npOf n q sent ⌝ }
+fn np_in(b: &[u8]) -> Np
+    requires { ⌜ 64 ≤ length (now b) ⌝ }
+    ensures { λ r. ⌜ r ≡ npIn (now (b .entry)) ⌝ }
 {
+    let n = b[29];
     match n {
         0 => Np::Free,
-        1 => Np::Waiting(q),
-        2 => Np::Ready(q, sent),
-        _ => Np::Failed(q),
+        1 => Np::Waiting(request_in(b)),
+        2 => Np::Ready(request_in(b), base::get4(b, 56)),
+        _ => Np::Failed(request_in(b)),
+    }
+}
+
+// ---- the bytes tested as they stand: in their one form, and of a sound write or request
+
+fn write_holds(b: &[u8]) -> bool
+    requires { ⌜ 64 ≤ length (now b) ⌝ }
+    ensures { λ r. ⌜ r ≡ holdsWrite (now (b .entry)) ⌝ }
+{
+    let n = b[12];
+    let w = posted_in(b);
+    match n {
+        0 => (w.address == 0) & ((w.length == 0) & (w.payload == 0)),
+        1 => write_made(w),
+        _ => false,
+    }
+}
+
+// Two fields of four bytes are tested as one word.
+fn blank(b: &[u8]) -> bool
+    requires { ⌜ 64 ≤ length (now b) ⌝ }
+    ensures { λ r. ⌜ r ≡ blankIn (now (b .entry)) ⌝ }
+{
+    let address = base::get8(b, 32);
+    let sizes = base::get8(b, 40);
+    let more = base::get8(b, 48);
+    let sent = base::get4(b, 56);
+    (b[30] == 0) & ((b[31] == 0) & ((address == 0) & ((sizes == 0) & ((more == 0) & (sent == 0)))))
+}
+
+// A kind, and no byte sent.
+fn unsent(kind: u8, sent: u32) -> bool
+    ensures { λ r. ⌜ r ≡ (leb kind 2 && eqb sent 0) ⌝ }
+{
+    (kind <= 2) & (sent == 0)
+}
+
+fn request_holds(b: &[u8]) -> bool
+    requires { ⌜ 64 ≤ length (now b) ⌝ }
+    ensures { λ r. ⌜ r ≡ holdsRequest (now (b .entry)) ⌝ }
+{
+    let n = b[29];
+    match n {
+        0 => blank(b),
+        1 => unsent(b[30], base::get4(b, 56)) & request_made(request_in(b)),
+        2 => (b[30] <= 2) & ready_made(request_in(b), base::get4(b, 56)),
+        3 => unsent(b[30], base::get4(b, 56)) & request_made(request_in(b)),
+        _ => false,
     }
 }
 
@@ -543,13 +576,19 @@ impl Peripheral {
         )
     }
 
-    // The channel's part of soundness, it being on or off.
-    pub fn sound(self, on: bool) -> bool
-        ensures { λ r. ⌜ r ≡ soundPeripheral on self ⌝ }
+    // Its bytes at their place in `dst`; what is beside them stays.
+    pub fn pack(self, dst: &mut [u8])
+        requires { ⌜ 64 ≤ length (now dst) ⌝ }
+        ensures { λ _. ⌜ now (dst .exit) ≡ put 12 (peripheralBytes self) (now (dst .entry)) ⌝ }
     {
         let w = self.write;
         let n = self.request;
-        (on | (pc_free(w) & np_free(n))) & (sound_request(n) & sound_write(w))
+        let write = write_bytes(w);
+        let request = np_bytes(n);
+        let serial = base::bytes4(self.serial);
+        base::put_at(dst, 12, &write);
+        base::put_at(dst, 29, &request);
+        base::put_at(dst, 60, &serial);
     }
 
     // The channel whose bytes stand at their place in `b`, sound or not.
@@ -557,12 +596,21 @@ impl Peripheral {
         requires { ⌜ 64 ≤ length (now b) ⌝ }
         ensures { λ r. ⌜ r ≡ peripheralIn (now (b .entry)) ⌝ }
     {
-        let write = write_of(b[12], posted_in(b));
-        let request = np_of(b[29], request_in(b), base::get4(b, 56));
+        let write = write_in(b);
+        let request = np_in(b);
         Peripheral {
             write,
             request,
             serial: base::get4(b, 60),
         }
+    }
+
+    // Whether its bytes in `b` pack a sound channel, it being on or off.
+    pub fn holds(b: &[u8], on: bool) -> bool
+        requires { ⌜ 64 ≤ length (now b) ⌝ }
+        ensures { λ r. ⌜ r ≡ holdsPeripheral on (now (b .entry)) ⌝ }
+    {
+        let nothing = (b[12] == 0) & (b[29] == 0);
+        (on | nothing) & (request_holds(b) & write_holds(b))
     }
 }

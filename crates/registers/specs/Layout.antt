@@ -9,7 +9,7 @@ use lib.ListN.{getD}
 use borrow.Author.Tests.{ltb-true, lt-ltb}
 use Rattle.base.specs.Pick.{and-left, and-right, and-true}
 use Rattle.base.specs.Bytes.{low4, number4}
-use Rattle.base.specs.Numbers.{back4, four-same, number4-lt}
+use Rattle.base.specs.Numbers.{join, back4, four-same, listed, low4-number4, number4-lt}
 use Rattle.base.specs.AllBytes.{AllBytes, all-low4, then4}
 use Rattle.registers.specs.Laws.{Fitting}
 use Rattle.registers.specs.declared.Config.{Config}
@@ -44,6 +44,10 @@ config-back c t f = rw (back4 (c .r008 .value) (f .fit008), back4 (c .r010 .valu
 
 pub all-config : (c : Config) → AllBytes (configBytes c)
 all-config c = then4 (c .r008 .value) (then4 (c .r010 .value) (all-low4 (c .r020 .value)))
+
+-- any bytes are those of registers
+pub config-again : (l : List ℕ) → ((k : ℕ) → getD l k 0 < 256) → configBytes (configIn l) ≡ listed 12 0 l
+config-again l byte = join (low4-number4 l byte 0) (join (low4-number4 l byte 4) (low4-number4 l byte 8))
 
 pub config-in-fits : (l : List ℕ) → ((k : ℕ) → getD l k 0 < 256) → Fitting (configIn l)
 config-in-fits l byte = record { fit008 = number4-lt l byte 0; fit010 = number4-lt l byte 4; fit020 = number4-lt l byte 8 }

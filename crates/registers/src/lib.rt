@@ -3,6 +3,7 @@ ghost use mathlib.Core.Path.{_≡_};
 ghost use Prim.Native.Nat.{_%_, _<_, _≤_};
 ghost use lib.Dec.{eqb};
 ghost use lib.ListN.{length};
+ghost use Rattle.base.specs.Bytes.{put};
 ghost use Rattle.registers.specs.Registers.{masked, forbidden008, forbidden010, forbidden020, write008, write010, write020, readied, fresh004, fresh008, fresh010, fresh020, sizeOf, crcChecked, on0, on1, payloadSize, readSize, operatingCount, freshConfig, readAt, forbiddenAt, writeAt, reachable008, reachable010, reachable020, reachable};
 ghost use Rattle.registers.specs.Layout.{configBytes, configIn};
 
@@ -279,7 +280,7 @@ impl Config {
         reachable_008(a) & reachable_010(b) & reachable_020(c)
     }
 
-    pub fn bytes(self) -> [u8; 12]
+    fn bytes(self) -> [u8; 12]
         ensures { λ r. ⌜ r ≡ configBytes self ⌝ }
     {
         let a = self.r008.value;
@@ -299,6 +300,15 @@ impl Config {
             (c / 65536 % 256) as u8,
             (c / 16777216 % 256) as u8,
         ]
+    }
+
+    // Their bytes at their place in `dst`; what is beside them stays.
+    pub fn pack(self, dst: &mut [u8])
+        requires { ⌜ 12 ≤ length (now dst) ⌝ }
+        ensures { λ _. ⌜ now (dst .exit) ≡ put 0 (configBytes self) (now (dst .entry)) ⌝ }
+    {
+        let bytes = self.bytes();
+        base::put_at(dst, 0, &bytes);
     }
 
     // The registers whose bytes stand at their place in `b`, sound or not.

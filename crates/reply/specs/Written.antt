@@ -10,7 +10,7 @@ use borrow.Rule.Slice.PartMut.{midOf, putMid}
 use Rattle.base.specs.Pick.{pick}
 use Rattle.base.specs.Bytes.{low2, put, over, copied, put-over, put-first, take-over, over-over, tail-lent, tail-back, over-take, drop-over, over-parts, copied-over}
 use Rattle.crc.specs.Crc.{crc}
-use Rattle.wires.specs.Table.{senders, groupAt}
+use Rattle.wires.specs.Table.{groupAt, senderOf, isUp}
 use Rattle.wires.specs.Groups.{groupByte, pairOf, pairBytes, packetBytes}
 use Rattle.wires.specs.Sending.{begun, turnOf, takes, past, nowTaken, step, turn-over, begun-turn}
 use Rattle.wires.specs.Sent.{packet-length}
@@ -19,7 +19,7 @@ use Rattle.wires.specs.declared.Going.{Going}
 use Rattle.wires.specs.declared.Packet.{Packet}
 use Rattle.peripheral.specs.declared.Completion.{Completion}
 use Rattle.rules.specs.Rules.Reply.{headerBytes, bodyBytes, closed, replyBytes, keptBytes}
-use Rattle.rules.specs.Proofs.Fits.{closed-length}
+use Rattle.rules.specs.Proofs.Reply.{closed-length}
 use Rattle.rules.specs.declared.Body.{Body}
 use Rattle.rules.specs.declared.Body.the-variants as B
 use Rattle.rules.specs.declared.Reply.{Reply}
@@ -106,14 +106,14 @@ pub pair-passed : (w : Wires) (g : Going) (at : ℕ) (l : List ℕ) → takes w 
     → (l ≡ put at (pairBytes w (nowTaken w g)) l) × (at ≡ at + length (pairBytes w (nowTaken w g)))
 unfolding pairBytes
 pair-passed w g at l e =
-    let z : nowTaken w g ≡ [] = ap (λ (b : Bool). pick b (g .k ∷ []) []) e in
+    let z : nowTaken w g ≡ [] = ap (λ (b : Bool). pick b (senderOf (g .group) ∷ []) []) e in
     (sym (ap (λ (ks : List ℕ). put at (pairBytes w ks) l) z ∙ put-none l at), omega (arith, ap (λ (ks : List ℕ). length (pairBytes w ks)) z))
 
-pub pair-taken : (w : Wires) (g : Going) (at : ℕ) (l l₁ pair : List ℕ) → takes w g ≡ true → pair ≡ pairOf w (g .k) → l₁ ≡ put at pair l
+pub pair-taken : (w : Wires) (g : Going) (at : ℕ) (l l₁ pair : List ℕ) → takes w g ≡ true → pair ≡ pairOf w (senderOf (g .group)) → l₁ ≡ put at pair l
     → (l₁ ≡ put at (pairBytes w (nowTaken w g)) l) × (at + 2 ≡ at + length (pairBytes w (nowTaken w g)))
 unfolding pairBytes
 pair-taken w g at l l₁ pair e ep h =
-    let z : nowTaken w g ≡ g .k ∷ [] = ap (λ (b : Bool). pick b (g .k ∷ []) []) e in
+    let z : nowTaken w g ≡ senderOf (g .group) ∷ [] = ap (λ (b : Bool). pick b (senderOf (g .group) ∷ []) []) e in
     (h ∙ ap (λ (p : List ℕ). put at p l) (ep ∙ sym (ap (pairBytes w) z)), omega (arith, ap (λ (ks : List ℕ). length (pairBytes w ks)) z))
 
 -- so far written: with the pairs that still come it is the packet
@@ -135,7 +135,7 @@ pub pairs-small : (w : Wires) (p : Packet) (g : Going) → g ≡ begun (p .place
 pairs-small w p g eg h =
     omega (arith, ap (λ (ks : List ℕ). length (pairBytes w ks)) (ap (turnOf w) eg ∙ begun-turn w (p .place) (p .count)), packet-length w p)
 
-pub written-next : (w : Wires) (g g′ : Going) (at at′ n : ℕ) (l l′ whole : List ℕ) → g .k < senders → 0 < g .left → at ≤ length l
+pub written-next : (w : Wires) (g g′ : Going) (at at′ n : ℕ) (l l′ whole : List ℕ) → isUp (g .group) ≡ true → 0 < g .left → at ≤ length l
     → l′ ≡ put at (pairBytes w (nowTaken w g)) l → at′ ≡ at + length (pairBytes w (nowTaken w g)) → g′ ≡ past w g
     → Written w g at l whole n → Written w g′ at′ l′ whole n
 written-next w g g′ at at′ n l l′ whole small more h e ea eg s =

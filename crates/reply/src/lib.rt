@@ -11,11 +11,12 @@ use wires::Going;
 use wires::Packet;
 use wires::Wires;
 ghost use mathlib.Core.Path.{_≡_};
+ghost use mathlib.Core.Bool.{true};
 ghost use mathlib.Core.List.{_∷_, _++_};
 ghost use Prim.Native.Nat.{_+_, _*_, _≤_, _<_};
 ghost use lib.ListN.{length, take, drop};
 ghost use Rattle.base.specs.Bytes.{put, over};
-ghost use Rattle.wires.specs.Table.{senders, groupAt};
+ghost use Rattle.wires.specs.Table.{isUp};
 ghost use Rattle.wires.specs.Groups.{levelAt, pairBytes, packetBytes};
 ghost use Rattle.wires.specs.Sending.{nowTaken, PacketFits};
 ghost use Rattle.rules.specs.Rules.Out.{responseByte};
@@ -61,13 +62,13 @@ fn put_piece(reply: &mut [u8], code: u8, c: Completion, reads: &[u8]) -> usize
 
 // The pair of the sender that is asked now, if the packet takes it; where the next pair goes.
 fn put_pair(reply: &mut [u8], at: usize, w: Wires, g: Going) -> usize
-    requires { ⌜ (at + 2 ≤ length (now reply)) × (g .k < senders) × (levelAt w (groupAt (g .k)) < 16) ⌝ }
+    requires { ⌜ (at + 2 ≤ length (now reply)) × (isUp (g .group) ≡ true) × (levelAt w (g .group) < 16) ⌝ }
     ensures { λ r. ⌜ (now (reply .exit) ≡ put at (pairBytes w (nowTaken w g)) (now (reply .entry))) × (r ≡ at + length (pairBytes w (nowTaken w g))) ⌝ }
 {
     if !w.takes(g) {
         return at;
     }
-    let pair = w.pair(g.k);
+    let pair = w.pair(g.group);
     base::put_at(reply, at, &pair);
     at + 2
 }

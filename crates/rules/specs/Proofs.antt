@@ -17,9 +17,9 @@ pub mod Plans
 pub mod Lift
 pub mod Refusals
 pub mod WholeRefusals
-pub mod Both
 pub mod Reply
 pub mod Whose
+pub mod Stores
 pub mod Apart
 pub mod Shape
 pub mod SoundBytes
@@ -44,3 +44,5 @@ pub mod Sizes
 pub mod Status
 pub mod StatusSays
 pub mod PostedWrites
+pub mod WholeRows
+pub mod WholeCalls

@@ -4,8 +4,8 @@ use mathlib.Core.Bool.{Bool, _&&_}
 use mathlib.Core.List.{List, _++_}
 use Rattle.base.specs.Bytes.{agree}
 use Rattle.registers.specs.Layout.{configBytes, configIn}
-use Rattle.wires.specs.Layout.{wiresBytes, wiresIn}
-use Rattle.peripheral.specs.Layout.{peripheralBytes, peripheralIn}
+use Rattle.wires.specs.Layout.{wiresBytes, wiresIn, tidyWires}
+use Rattle.peripheral.specs.Layout.{peripheralBytes, peripheralIn, tidyPeripheral}
 use Rattle.state.specs.Sound.{sound}
 use Rattle.state.specs.declared.State.{State}
 use Rattle.state.specs.declared.Loaded.{Loaded}
@@ -24,6 +24,10 @@ unpacked l = record { config = configIn l; peripheral = peripheralIn l; wires = 
 -- the bytes pack a sound state: number 11 where they do not
 unfoldable pub holds : List ℕ → Bool
 holds l = sound (unpacked l) && agree stateLength (packed (unpacked l)) l
+
+-- the canonical form, by the bytes as they stand: the same as `agree` above (`tidy-is` of Tidy.antt); any bytes are those of registers
+unfoldable pub tidy : List ℕ → Bool
+tidy l = tidyPeripheral l && tidyWires l
 
 abbrev pub loaded : List ℕ → Loaded
 loaded l = record { ok = holds l; state = unpacked l }

@@ -4,4 +4,6 @@ pub mod Sound
 pub mod Facts
 pub mod Layout
 pub mod Packing
+pub mod Tidy
+pub mod Stored
 pub mod Coded

@@ -1,7 +1,7 @@
 -- P3, packing: sound states and their 77 bytes, there and back; nothing past them matters.
 use Prim.Native.Nat.{ℕ, zero, suc, _<_, _≤_}
 use mathlib.Core.Bool.{true}
-use mathlib.Core.List.{List, _++_, append-assoc}
+use mathlib.Core.List.{List, [], _++_, append-assoc}
 use mathlib.Core.Logic.{_↔_}
 use mathlib.Core.Path.{_≡_, refl, sym, ap, subst, _∙_}
 use native.Mathlib.Nat.{le-of-eq}
@@ -46,7 +46,7 @@ round s w =
       config-back (s .config) (b ++ d) (config-fitting (s .config) (and-left (fitsConfig (s .config)) _ (w .isFit))),
       peripheral-back a d (s .peripheral) refl (g .request) (g .write) (and-left (fitsPeripheral (s .peripheral)) _ f),
       ap wiresIn (sym (append-assoc a b d))
-          ∙ wires-back (a ++ b) (s .wires) (length-join a b 12 52 refl (peripheral-length (s .peripheral))) (whole-level (s .wires) whole) (whole-marks (s .wires) whole),
+          ∙ wires-back (a ++ b) [] (s .wires) (length-join a b 12 52 refl (peripheral-length (s .peripheral))) (whole-level (s .wires) whole) (whole-marks (s .wires) whole),
     )
 
 -- a sound state packs to bytes
@@ -84,6 +84,16 @@ unfolding agree
 agree-self zero a = refl
 agree-self (suc n) a = rw (agree-self n a, eq-eqb (getD a n 0) (getD a n 0) refl)
 
+pub packed-agree : (s : State) (l : List ℕ) → take stateLength l ≡ packed s → agree stateLength (packed s) l ≡ true
+packed-agree s l e =
+    let same : take stateLength l ≡ take stateLength (packed s) = e ∙ sym (take-all stateLength (packed s) (le-of-eq (packed-length s))) in
+    agree-each stateLength (packed s) l (packed s) (each l (packed s) stateLength same) ∙ agree-self stateLength (packed s)
+
+pub agree-packed : (s : State) (l : List ℕ) → stateLength ≤ length l → agree stateLength (packed s) l ≡ true → take stateLength l ≡ packed s
+agree-packed s l h e =
+    let n = packed-length s in
+    sym (agree-take stateLength (packed s) l (le-of-eq (sym n)) h e) ∙ take-all stateLength (packed s) (le-of-eq n)
+
 pub unpacked-same : (a b : List ℕ) → take stateLength a ≡ take stateLength b → unpacked a ≡ unpacked b
 unpacked-same a b e = unpacked-at a b (each a b stateLength e)
 
@@ -98,10 +108,7 @@ packed-found s l w e = unpacked-same l (packed s) (e ∙ sym (take-all stateLeng
 
 pub packed-holds : (s : State) (l : List ℕ) → Sound s → take stateLength l ≡ packed s → holds l ≡ true
 unfolding holds
-packed-holds s l w e =
-    let same : take stateLength l ≡ take stateLength (packed s) = e ∙ sym (take-all stateLength (packed s) (le-of-eq (packed-length s))) in
-    rw (packed-found s l w e)
-    (and-true (w .isSound) (agree-each stateLength (packed s) l (packed s) (each l (packed s) stateLength same) ∙ agree-self stateLength (packed s)))
+packed-holds s l w e = rw (packed-found s l w e) (and-true (w .isSound) (packed-agree s l e))
 
 pub unpacked-over : (s : State) (l : List ℕ) → Sound s → unpacked (over (packed s) l) ≡ s
 unpacked-over s l w = packed-found s (over (packed s) l) w (take-over (packed s) l stateLength (packed-length s))
@@ -116,10 +123,7 @@ packed-injective s t v w e = sym (round s v) ∙ ap unpacked e ∙ round t w
 
 pub holds-bytes : (l : List ℕ) → stateLength ≤ length l → holds l ≡ true → take stateLength l ≡ packed (unpacked l)
 unfolding holds
-holds-bytes l h e =
-    let u = unpacked l in
-    let n = packed-length u in
-    sym (agree-take stateLength (packed u) l (le-of-eq (sym n)) h (and-right (sound u) _ e)) ∙ take-all stateLength (packed u) (le-of-eq n)
+holds-bytes l h e = agree-packed (unpacked l) l h (and-right (sound (unpacked l)) _ e)
 
 -- a refusal that commits the state it got changes no byte
 pub stored-same : (l : List ℕ) → stateLength ≤ length l → holds l ≡ true → over (packed (unpacked l)) l ≡ l

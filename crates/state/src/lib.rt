@@ -8,7 +8,6 @@ ghost use lib.ListN.{length};
 ghost use Rattle.base.specs.Bytes.{over};
 ghost use Rattle.state.specs.Fresh.{freshState};
 ghost use Rattle.state.specs.Status.{status};
-ghost use Rattle.state.specs.Sound.{sound};
 ghost use Rattle.state.specs.Layout.{stateLength, packed, unpacked, loaded};
 
 pub struct State {
@@ -41,15 +40,6 @@ impl State {
     }
 }
 
-pub fn sound(s: State) -> bool
-    ensures { λ r. ⌜ r ≡ sound s ⌝ }
-{
-    let c = s.config;
-    let p = s.peripheral;
-    let w = s.wires;
-    c.reachable() & (p.sound(c.r010.on()) & w.sound(c.r020.on()))
-}
-
 // The state's 77 bytes at the start of `dst`; what is past them stays.
 pub fn pack(s: State, dst: &mut [u8])
     requires { ⌜ stateLength ≤ length (now dst) ⌝ }
@@ -58,18 +48,9 @@ pub fn pack(s: State, dst: &mut [u8])
     let c = s.config;
     let p = s.peripheral;
     let w = s.wires;
-    let held = p.write;
-    let np = p.request;
-    let config = c.bytes();
-    let write = peripheral::write_bytes(held);
-    let request = peripheral::np_bytes(np);
-    let serial = base::bytes4(p.serial);
-    let wires = w.bytes();
-    base::put_at(dst, 0, &config);
-    base::put_at(dst, 12, &write);
-    base::put_at(dst, 29, &request);
-    base::put_at(dst, 60, &serial);
-    base::put_at(dst, 64, &wires);
+    c.pack(dst);
+    p.pack(dst);
+    w.pack(dst);
 }
 
 // The state whose bytes stand at the start of `b`, sound or not.
@@ -87,18 +68,17 @@ fn unpack(b: &[u8]) -> State
     }
 }
 
-// The state that the bytes pack, and whether they pack a sound one: it is packed again and compared.
+// The state that the bytes pack, and whether they pack a sound one: the bytes are tested as they stand.
 pub fn load(b: &[u8]) -> Loaded
     requires { ⌜ stateLength ≤ length (now b) ⌝ }
     ensures { λ r. ⌜ r ≡ loaded (now (b .entry)) ⌝ }
 {
     let state = unpack(b);
-    let sound = sound(state);
-    let mut again: [u8; 77] = [0; 77];
-    pack(state, &mut again);
-    let same = base::same(&again, b, 77);
+    let c = state.config;
+    let peripheral = Peripheral::holds(b, c.r010.on());
+    let wires = Wires::holds(b, c.r020.on());
     Loaded {
-        ok: sound & same,
+        ok: c.reachable() & (peripheral & wires),
         state,
     }
 }

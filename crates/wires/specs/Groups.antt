@@ -93,6 +93,10 @@ sentFrom w p capacity = turn senderSize (waiting w) senders senders capacity (se
 abbrev pub sent : Wires → ℕ → List ℕ
 sent w capacity = sentFrom w (w .place) capacity
 
+-- the next group that goes up, going round
+abbrev pub groupAfter : ℕ → ℕ
+groupAfter i = groupAt (after senders (senderOf i))
+
 -- "and their pending marks go"; the place follows the one just sent
 abbrev pub leftBy : Wires → ℕ → Wires
 leftBy w k = withGroup w (groupAt k) (levelAt w (groupAt k)) false (groupAt (after senders k))
@@ -154,8 +158,11 @@ platformWires w = resetGroup (resetGroup w 6) 7
 -- ---- soundness (01, Sound state), clause by clause
 
 -- "undefined wire bits are 0"
+abbrev pub inRow : ℕ → ℕ → Bool
+inRow k level = eqb (bitAnd level (15 - rowAt k .defined)) 0 && ltb level 16
+
 abbrev pub onlyDefined : Wires → ℕ → Bool
-onlyDefined w i = eqb (bitAnd (levelAt w i) (15 - rowAt (i - 2) .defined)) 0 && ltb (levelAt w i) 16
+onlyDefined w i = inRow (i - 2) (levelAt w i)
 
 -- "up groups alone are pending, and none while channel 1 is off"
 abbrev pub markRight : Bool → Wires → ℕ → Bool

@@ -247,12 +247,10 @@ pub sound-platform : (on : Bool) (w : Wires) → soundWires on w ≡ true → so
 sound-platform on w e = sound-test on _ (platform-kept w (sound-view on w e))
 
 -- what a packet's bytes ask of the levels
-pub sound-levels : (on : Bool) (w : Wires) → soundWires on w ≡ true → (k : ℕ) → k < senders → levelAt w (groupAt k) < 16
-sound-levels on w e k h =
-    let g = sender-group k h in
-    let a : 2 ≤ groupAt k = omega (arith, g .from) in
-    let b : groupAt k ≤ 7 = omega (arith, g .upto) in
-    clean-view (rowAt (groupAt k - 2) .defined) (levelAt w (groupAt k)) (small-row (groupAt k) a b) (sound-view on w e .clean (groupAt k) a b) .small
+pub sound-levels : (on : Bool) (w : Wires) → soundWires on w ≡ true → (i : ℕ) → isUp i ≡ true → levelAt w i < 16
+sound-levels on w e i u =
+    let t = in-table i (and-left (isGroup i) _ u) in
+    clean-view (rowAt (i - 2) .defined) (levelAt w i) (small-row i (t .from) (t .upto)) (sound-view on w e .clean i (t .from) (t .upto)) .small
 
 -- ---- the laws: six groups stay six
 

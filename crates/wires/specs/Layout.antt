@@ -1,11 +1,11 @@
 -- The wires' bytes in those of a state (docs/STATE.md), there and back.
 use Prim.Native.Nat.{ℕ, _-_, _<_, _≤_}
-use mathlib.Core.Bool.{Bool, true, false}
+use mathlib.Core.Bool.{Bool, true, false, _&&_, _||_}
 use mathlib.Core.List.{List, [], _∷_, _++_}
 use mathlib.Core.Path.{_≡_, refl}
 use native.Mathlib.Omega.{arith}
 use lib.Bits.{bitAnd}
-use lib.Dec.{eqb}
+use lib.Dec.{eqb, leb}
 use lib.ListN.{getD, length}
 use borrow.Author.Tests.{ltb-true}
 use Rattle.base.specs.Pick.{and-right}
@@ -13,7 +13,7 @@ use Rattle.base.specs.Bytes.{bit, bit-below}
 use Rattle.base.specs.Numbers.{past}
 use Rattle.base.specs.AllBytes.{AllBytes, all-none, all-cons}
 use Rattle.wires.specs.Table.{rowAt}
-use Rattle.wires.specs.Groups.{levelAt, markAt, onlyDefined, soundWires}
+use Rattle.wires.specs.Groups.{levelAt, markAt, inRow, onlyDefined, soundWires}
 use Rattle.wires.specs.Kept.{sound-view}
 use Rattle.wires.specs.declared.Wires.{Wires}
 
@@ -32,6 +32,28 @@ wiresIn l =
       place = getD l 76 0;
     }
 
+-- the canonical form, by the bytes as they stand: a mark is 0 or 1
+abbrev pub tidyWires : List ℕ → Bool
+tidyWires l =
+    leb (getD l 70 0) 1
+    && (leb (getD l 71 0) 1 && (leb (getD l 72 0) 1 && (leb (getD l 73 0) 1 && (leb (getD l 74 0) 1 && leb (getD l 75 0) 1))))
+
+-- the bytes pack sound wires, the channel being on or off
+abbrev pub holdsWires : Bool → List ℕ → Bool
+holdsWires on l = tidyWires l && soundWires on (wiresIn l)
+
+-- the same of the levels' six bytes, and of the marks' behind them
+abbrev pub levelsFit : List ℕ → Bool
+levelsFit l =
+    inRow 0 (getD l 0 0) && inRow 1 (getD l 1 0) && inRow 2 (getD l 2 0) && inRow 3 (getD l 3 0) && inRow 4 (getD l 4 0) && inRow 5 (getD l 5 0)
+
+abbrev pub marksFit : Bool → (a b c d e f : ℕ) → Bool
+marksFit on a b c d e f =
+    eqb a 0 && (eqb b 0 && (eqb f 0 && (leb c 1 && (leb d 1 && (leb e 1 && (on || (eqb c 0 && (eqb d 0 && eqb e 0))))))))
+
+abbrev pub marksIn : Bool → List ℕ → Bool
+marksIn on l = marksFit on (getD l 6 0) (getD l 7 0) (getD l 8 0) (getD l 9 0) (getD l 10 0) (getD l 11 0)
+
 -- ---- laws
 
 mark-back : (b : Bool) → eqb (bit b) 1 ≡ b
@@ -49,9 +71,9 @@ six d (a ∷ b ∷ c ∷ e ∷ []) h = absurd (omega arith)
 six d (a ∷ b ∷ c ∷ e ∷ f ∷ []) h = absurd (omega arith)
 six d (a ∷ b ∷ c ∷ e ∷ f ∷ g ∷ x ∷ l) h = absurd (omega arith)
 
-pub wires-back : (p : List ℕ) (w : Wires) → length p ≡ 64 → length (w .level) ≡ 6 → length (w .pending) ≡ 6 → wiresIn (p ++ wiresBytes w) ≡ w
-wires-back p w h a b =
-    let l = wiresBytes w in
+pub wires-back : (p r : List ℕ) (w : Wires) → length p ≡ 64 → length (w .level) ≡ 6 → length (w .pending) ≡ 6 → wiresIn (p ++ (wiresBytes w ++ r)) ≡ w
+wires-back p r w h a b =
+    let l = wiresBytes w ++ r in
     rw (
       past p l 64 0 (omega arith),
       past p l 65 1 (omega arith),

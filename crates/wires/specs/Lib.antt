@@ -10,3 +10,4 @@ pub mod Kept
 pub mod Changes
 pub mod Sent
 pub mod Layout
+pub mod Tidy

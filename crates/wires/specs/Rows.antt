@@ -1,19 +1,21 @@
 -- P18: the six rows of the wire table and the senders among them, by computed tests, and what the tests on an index, a bit and a value say.
-use Prim.Native.Nat.{ℕ, _+_, _-_, _*_, _/_, _%_, _^_, _≤_, _<_}
-use mathlib.Core.Bool.{Bool, true, false, _&&_, not}
+use Prim.Native.Nat.{ℕ, zero, suc, _+_, _-_, _*_, _/_, _%_, _^_, _≤_, _<_}
+use mathlib.Core.Bool.{Bool, true, false, _&&_, _||_, not}
 use mathlib.Core.Path.{_≡_, refl, sym, subst, _∙_}
 use native.Mathlib.Omega.{arith}
 use native.Mathlib.Nat.{one-mul}
 use lib.Bits.{bitAnd}
 use lib.Pow.{shl-exact}
 use lib.Dec.{eqb, ltb, leb}
-use lib.ListN.{length}
-use borrow.Author.Tests.{leb-true, ltb-true, eqb-true, le-leb, lt-leb, not-true}
-use Rattle.base.specs.Pick.{pick, and-left, and-right}
+use lib.ListN.{getD, length}
+use borrow.Author.Tests.{leb-true, ltb-true, eqb-true, le-leb, not-true}
+use Rattle.base.specs.Pick.{pick, and-left, and-right, and-true}
 use Rattle.base.specs.Bytes.{bit}
-use Rattle.wires.specs.Below.{every, at-every, at-both}
+use Rattle.wires.specs.Below.{every, some, at-every, at-both}
 use Rattle.wires.specs.Table.{table, rowAt, isGroup, upsBefore, senders, groupAt, senderOf, isUp}
-use Rattle.wires.specs.Groups.{definedBit, settable, firstPlace}
+use Rattle.wires.specs.Turn.{after}
+use Rattle.wires.specs.Groups.{definedBit, settable, firstPlace, waiting, anyPending, groupAfter}
+use Rattle.wires.specs.declared.Wires.{Wires}
 
 -- ---- the rows
 
@@ -73,8 +75,12 @@ up-group i u =
       upto = leb-true i 6 (and-right (leb 4 i) _ e₂);
     }
 
+-- the going-round place is an up group
+pub place-group : (p : ℕ) → 4 ≤ p → p ≤ 6 → isUp p ≡ true
+place-group p h l = where-holds 7 (leb 4) isUp refl p (omega arith) (le-leb 4 p h)
+
 pub place-up : (p : ℕ) → 4 ≤ p → p ≤ 6 → UpGroup p
-place-up p h l = up-group p (where-holds 7 (leb 4) isUp refl p (omega arith) (le-leb 4 p h))
+place-up p h l = up-group p (place-group p h l)
 
 pub first-sender : groupAt 0 ≡ firstPlace
 first-sender = refl
@@ -97,23 +103,50 @@ sender-group k h = up-group (groupAt k) (sender k h .up)
 pub ups-next : (i : ℕ) → i < 6 → upsBefore (i + 1) ≡ upsBefore i + bit (not (rowAt i .down))
 ups-next i h = eqb-true _ _ (at-every (length table) (λ (k : ℕ). eqb (upsBefore (k + 1)) (upsBefore k + bit (not (rowAt k .down)))) refl i h)
 
--- sender k's row is the first with more than k up rows up to it; n is how many a row that is not past it has
-module _ (k at n : ℕ) (small : k < senders) (before : at ≤ groupAt k - 2) (counted : n ≡ upsBefore (at + 1)) where
-  abbrev Search : ℕ → ℕ → ℕ → Bool
-  Search j a m = pick (leb m j) (ltb a (groupAt j - 2)) (leb (groupAt j - 2) a)
+or-none : (b : Bool) → b ≡ (b || false)
+or-none true = refl
+or-none false = refl
 
-  searched : Search k at n ≡ true
-  searched =
-      subst (λ (m : ℕ). Search k at m ≡ true) (sym counted)
-      (at-both senders (length table) (λ (j a : ℕ). Search j a (upsBefore (a + 1))) refl k at small (omega (arith, sender-group k small .upto)))
+-- those that wait, row by row
+pub some-next : (w : Wires) (i : ℕ) → i < 6
+    → some (upsBefore (i + 1)) (waiting w) ≡ (some (upsBefore i) (waiting w) || (not (rowAt i .down) && getD (w .pending) i false))
+some-next w zero h = refl
+some-next w (suc zero) h = refl
+some-next w (suc (suc zero)) h = refl
+some-next w (suc (suc (suc zero))) h = refl
+some-next w (suc (suc (suc (suc zero)))) h = refl
+some-next w (suc (suc (suc (suc (suc zero))))) h = or-none (anyPending w)
+some-next w (suc (suc (suc (suc (suc (suc i)))))) h = absurd (omega arith)
 
-  pub row-later : n ≤ k → at < groupAt k - 2
-  row-later h = ltb-true _ _ (subst (λ (b : Bool). pick b (ltb at (groupAt k - 2)) (leb (groupAt k - 2) at) ≡ true) (le-leb n k h) searched)
+-- how many rows it is from a place of the table to the next group that goes up after group i
+abbrev pub toGo : ℕ → ℕ → ℕ
+toGo i at = (groupAfter i - 2 + 6 - at) % 6
 
-  pub row-here : k < n → at + 2 ≡ groupAt k
-  row-here h =
-      let e = leb-true (groupAt k - 2) at (subst (λ (b : Bool). pick b (ltb at (groupAt k - 2)) (leb (groupAt k - 2) at) ≡ true) (lt-leb n k h) searched) in
-      omega (arith, e, sender-group k small .from)
+-- on the way there: a down row is passed, and the first up row is that group's
+abbrev Walk : ℕ → ℕ → Bool
+Walk i at =
+    pick (isUp i && leb (toGo i at) (toGo i (after 6 (i - 2))))
+    (pick (rowAt at .down) (ltb (toGo i (after 6 at)) (toGo i at)) (eqb (rowAt at .index) (groupAfter i)))
+    true
+
+walk-table : every 8 (λ (i : ℕ). every 6 (Walk i)) ≡ true
+unfolding after
+walk-table = refl
+
+module _ (i at : ℕ) (up : isUp i ≡ true) (small : at < 6) (way : toGo i at ≤ toGo i (after 6 (i - 2))) where
+  abbrev Step : Bool → Bool
+  Step b = pick b (ltb (toGo i (after 6 at)) (toGo i at)) (eqb (rowAt at .index) (groupAfter i))
+
+  walked : Step (rowAt at .down) ≡ true
+  walked =
+      subst (λ (b : Bool). pick b (Step (rowAt at .down)) true ≡ true) (and-true up (le-leb (toGo i at) (toGo i (after 6 (i - 2))) way))
+      (at-both 8 6 Walk walk-table i at (omega (arith, up-group i up .upto)) small)
+
+  pub down-nearer : rowAt at .down ≡ true → toGo i (after 6 at) < toGo i at
+  down-nearer e = ltb-true _ _ (subst (λ (b : Bool). Step b ≡ true) e walked)
+
+  pub up-there : rowAt at .down ≡ false → rowAt at .index ≡ groupAfter i
+  up-there e = eqb-true _ _ (subst (λ (b : Bool). Step b ≡ true) e walked)
 
 -- ---- the tests on an index, a bit and a value
 

@@ -1,13 +1,15 @@
 // Virtual wires: the table of six rows, and the six groups by value.
 ghost use mathlib.Core.Path.{_≡_};
-ghost use mathlib.Core.Bool.{true};
+ghost use mathlib.Core.Bool.{true, false};
 ghost use Prim.Native.Nat.{_+_, _-_, _*_, _≤_, _<_};
 ghost use lib.ListN.{length, take};
+ghost use mathlib.Core.List.{_++_};
+ghost use Rattle.base.specs.Bytes.{put, low4, low8};
 ghost use Rattle.wires.specs.Turn.{after};
-ghost use Rattle.wires.specs.Table.{upsBefore, senders, groupAt};
+ghost use Rattle.wires.specs.Table.{senders, senderOf, isUp};
 ghost use Rattle.wires.specs.Sending.{begun, takes, past, sending};
-ghost use Rattle.wires.specs.Groups.{senderSize, waiting, leftBy, pairOf, freshWires, withGroup, levelAt, nibble, putPair, putPairs, definedBit, settable, setWire, readWire, anyPending, wiresStatus, remarked, enabled, disabled, resetGroup, platformWires, groupRight, soundWires};
-ghost use Rattle.wires.specs.Layout.{wiresBytes, wiresIn};
+ghost use Rattle.wires.specs.Groups.{senderSize, groupAfter, pairOf, freshWires, withGroup, levelAt, nibble, putPair, putPairs, definedBit, settable, setWire, readWire, anyPending, wiresStatus, remarked, enabled, disabled, resetGroup, platformWires, inRow};
+ghost use Rattle.wires.specs.Layout.{wiresBytes, wiresIn, holdsWires, levelsFit, marksIn};
 
 pub struct WireRow {
     pub index: u8,
@@ -77,9 +79,9 @@ pub struct Sending {
     pub next: Wires,
 }
 
-// Going round: the sender to be asked now, how many are still to be asked, and the room left in the packet.
+// Going round: the group to be asked now, how many are still to be asked, and the room left in the packet.
 pub struct Going {
-    pub k: u8,
+    pub group: u8,
     pub left: u8,
     pub room: u32,
 }
@@ -92,57 +94,63 @@ fn nibble_of(old: u8, val: u8, mask: u8) -> u8
     (old & (15 - mask)) | (val & mask)
 }
 
-// How many up rows stand before a place of the table.
-fn ups_before(at: usize) -> u8
-    requires { ⌜ at ≤ 6 ⌝ }
-    ensures { λ r. ⌜ (r ≡ upsBefore at) × (r ≤ at) ⌝ }
+// How many groups go up.
+fn senders() -> u8
+    ensures { λ r. ⌜ r ≡ senders ⌝ }
 {
     let mut ups: u8 = 0;
     let mut i: usize = 0;
-    while i < at {
+    while i < 6 {
         ups += base::bit_of(!TABLE[i].down);
         i += 1;
     }
     ups
 }
 
-// The place in the table of sender k: the first with more than k up rows up to it.
-fn up_row(k: u8) -> usize
-    requires { ⌜ k < senders ⌝ }
-    ensures { λ r. ⌜ (r + 2 ≡ groupAt k) × (r < 6) ⌝ }
+// The place in the table of a group that goes up.
+fn row_of(group: u8) -> usize
+    requires { ⌜ isUp group ≡ true ⌝ }
+    ensures { λ r. ⌜ (r ≡ group - 2) × (2 ≤ group) × (r < 6) ⌝ }
 {
-    let mut at: usize = 0;
-    while ups_before(at + 1) <= k {
-        at += 1;
-    }
-    at
+    (group - 2) as usize
 }
 
-fn after_sender(k: u8) -> u8
-    requires { ⌜ k < senders ⌝ }
-    ensures { λ r. ⌜ (r ≡ after senders k) × (r < senders) ⌝ }
+fn row_after(at: usize) -> usize
+    requires { ⌜ at < 6 ⌝ }
+    ensures { λ r. ⌜ (r ≡ after 6 at) × (r < 6) ⌝ }
 {
-    if k + 1 < ups_before(6) {
-        return k + 1;
+    if at + 1 < 6 {
+        return at + 1;
     }
     0
 }
 
+// The next group that goes up, going round.
+fn group_after(group: u8) -> u8
+    requires { ⌜ isUp group ≡ true ⌝ }
+    ensures { λ r. ⌜ r ≡ groupAfter group ⌝ }
+{
+    let mut at = row_after(row_of(group));
+    while TABLE[at].down {
+        at = row_after(at);
+    }
+    TABLE[at].index
+}
+
 // A group is one entry of a packet.
-fn sender_size(k: u8) -> u32
-    ensures { λ r. ⌜ r ≡ senderSize k ⌝ }
+fn sender_size(group: u8) -> u32
+    ensures { λ r. ⌜ r ≡ senderSize (senderOf group) ⌝ }
 {
     1
 }
 
 // Every sender is to be asked, from the group at the place on.
 pub fn go_round(place: u8, capacity: u32) -> Going
-    requires { ⌜ (4 ≤ place) × (place ≤ 6) ⌝ }
     ensures { λ r. ⌜ r ≡ begun place capacity ⌝ }
 {
     Going {
-        k: ups_before((place - 2) as usize),
-        left: ups_before(6),
+        group: place,
+        left: senders(),
         room: capacity,
     }
 }
@@ -258,67 +266,61 @@ impl Wires {
         ((self.level[at] >> bit) % 2) as u32
     }
 
-    fn waits(self, k: u8) -> bool
-        requires { ⌜ k < senders ⌝ }
-        ensures { λ r. ⌜ r ≡ waiting self k ⌝ }
-    {
-        self.pending[up_row(k)]
-    }
-
-    // Whether the sender asked now is taken: it waits, and it fits.
+    // Whether the group asked now is taken: it waits, and it fits.
     pub fn takes(self, g: Going) -> bool
-        requires { ⌜ g .k < senders ⌝ }
+        requires { ⌜ isUp (g .group) ≡ true ⌝ }
         ensures { λ r. ⌜ r ≡ takes self g ⌝ }
     {
-        self.waits(g.k) & (sender_size(g.k) <= g.room)
+        let at = row_of(g.group);
+        self.pending[at] & (sender_size(g.group) <= g.room)
     }
 
-    // The next sender is asked; at the first that does not fit the packet closes.
+    // The next group is asked; at the first that does not fit the packet closes.
     pub fn past(self, g: Going) -> Going
-        requires { ⌜ (g .k < senders) × (0 < g .left) ⌝ }
+        requires { ⌜ (isUp (g .group) ≡ true) × (0 < g .left) ⌝ }
         ensures { λ r. ⌜ r ≡ past self g ⌝ }
     {
-        let next = after_sender(g.k);
-        if !self.waits(g.k) {
+        let at = row_of(g.group);
+        let next = group_after(g.group);
+        if !self.pending[at] {
             return Going {
-                k: next,
+                group: next,
                 left: g.left - 1,
                 room: g.room,
             };
         }
-        let size = sender_size(g.k);
+        let size = sender_size(g.group);
         if g.room < size {
             return Going {
-                k: g.k,
+                group: g.group,
                 left: 0,
                 room: g.room,
             };
         }
         Going {
-            k: next,
+            group: next,
             left: g.left - 1,
             room: g.room - size,
         }
     }
 
-    // Index and data of a sender, "with all defined bits valid".
-    pub fn pair(self, k: u8) -> [u8; 2]
-        requires { ⌜ (k < senders) × (levelAt self (groupAt k) < 16) ⌝ }
-        ensures { λ r. ⌜ r ≡ pairOf self k ⌝ }
+    // Index and data of a group, "with all defined bits valid".
+    pub fn pair(self, group: u8) -> [u8; 2]
+        requires { ⌜ (isUp group ≡ true) × (levelAt self group < 16) ⌝ }
+        ensures { λ r. ⌜ r ≡ pairOf self (senderOf group) ⌝ }
     {
-        let at = up_row(k);
+        let at = row_of(group);
         let valid = TABLE[at].defined;
-        [TABLE[at].index, valid * 16 + self.level[at]]
+        [group, valid * 16 + self.level[at]]
     }
 
-    // Sender k is sent: its mark goes, and the place moves behind it.
-    fn left_by(self, k: u8) -> Wires
-        requires { ⌜ k < senders ⌝ }
-        ensures { λ r. ⌜ r ≡ leftBy self k ⌝ }
+    // A group is sent: its mark goes, and the place moves on.
+    fn left_by(self, group: u8, place: u8) -> Wires
+        requires { ⌜ isUp group ≡ true ⌝ }
+        ensures { λ r. ⌜ r ≡ withGroup self group (levelAt self group) false place ⌝ }
     {
-        let at = up_row(k);
-        let next = up_row(after_sender(k));
-        self.with(at + 2, self.level[at], false, TABLE[next].index)
+        let at = row_of(group);
+        self.with(group as usize, self.level[at], false, place)
     }
 
     pub fn send(self, capacity: u32) -> Sending
@@ -329,10 +331,11 @@ impl Wires {
         let mut next = self;
         let mut g = go_round(place, capacity);
         while 0 < g.left {
+            let on = self.past(g);
             if self.takes(g) {
-                next = next.left_by(g.k);
+                next = next.left_by(g.group, on.group);
             }
-            g = self.past(g);
+            g = on;
         }
         let count = (capacity - g.room) as u8;
         Sending {
@@ -344,12 +347,11 @@ impl Wires {
     pub fn any_pending(self) -> bool
         ensures { λ r. ⌜ r ≡ anyPending self ⌝ }
     {
-        let n = ups_before(6);
         let mut any = false;
-        let mut k: u8 = 0;
-        while k < n {
-            any = any | self.waits(k);
-            k += 1;
+        let mut i: usize = 0;
+        while i < 6 {
+            any = any | (!TABLE[i].down & self.pending[i]);
+            i += 1;
         }
         any
     }
@@ -401,30 +403,7 @@ impl Wires {
         self.reset_group(6).reset_group(7)
     }
 
-    // A group's undefined bits are 0, and it is pending only where it may be.
-    fn group_right(self, on: bool, index: usize) -> bool
-        requires { ⌜ (2 ≤ index) × (index ≤ 7) ⌝ }
-        ensures { λ r. ⌜ r ≡ groupRight on self index ⌝ }
-    {
-        let at = index - 2;
-        let level = self.level[at];
-        let clean = (level & (15 - TABLE[at].defined) == 0) & (level < 16);
-        clean & (!self.pending[at] | (on & !TABLE[at].down))
-    }
-
-    pub fn sound(self, on: bool) -> bool
-        ensures { λ r. ⌜ r ≡ soundWires on self ⌝ }
-    {
-        let mut ok = true;
-        let mut i: usize = 0;
-        while i < 6 {
-            ok = self.group_right(on, i + 2) & ok;
-            i += 1;
-        }
-        ok & ((4 <= self.place) & (self.place <= 6))
-    }
-
-    pub fn bytes(self) -> [u8; 13]
+    fn bytes(self) -> [u8; 13]
         ensures { λ r. ⌜ r ≡ wiresBytes self ⌝ }
     {
         [
@@ -442,6 +421,15 @@ impl Wires {
             base::bit_of(self.pending[5]),
             self.place,
         ]
+    }
+
+    // Their bytes at their place in `dst`; what is beside them stays.
+    pub fn pack(self, dst: &mut [u8])
+        requires { ⌜ 77 ≤ length (now dst) ⌝ }
+        ensures { λ _. ⌜ now (dst .exit) ≡ put 64 (wiresBytes self) (now (dst .entry)) ⌝ }
+    {
+        let bytes = self.bytes();
+        base::put_at(dst, 64, &bytes);
     }
 
     // The wires whose bytes stand at their place in `b`, sound or not.
@@ -462,4 +450,50 @@ impl Wires {
             place: b[76],
         }
     }
+
+    // Whether their bytes in `b` pack sound wires, the channel being on or off: eight bytes are tested at a time.
+    pub fn holds(b: &[u8], on: bool) -> bool
+        requires { ⌜ 77 ≤ length (now b) ⌝ }
+        ensures { λ r. ⌜ r ≡ holdsWires on (now (b .entry)) ⌝ }
+    {
+        let low = base::get8(b, 64);
+        let high = base::get4(b, 72);
+        let place = b[76];
+        levels_fit(low) & (marks_fit(on, low, high) & ((4 <= place) & (place <= 6)))
+    }
+}
+
+fn in_row(k: usize, level: u8) -> bool
+    requires { ⌜ k < 6 ⌝ }
+    ensures { λ r. ⌜ r ≡ inRow k level ⌝ }
+{
+    (level & (15 - TABLE[k].defined) == 0) & (level < 16)
+}
+
+// The levels are the low six bytes.
+fn levels_fit(low: u64) -> bool
+    ensures { λ r. ⌜ r ≡ levelsFit (low8 low) ⌝ }
+{
+    in_row(0, (low % 256) as u8)
+        & in_row(1, (low / 256 % 256) as u8)
+        & in_row(2, (low / 65536 % 256) as u8)
+        & in_row(3, (low / 16777216 % 256) as u8)
+        & in_row(4, (low / 4294967296 % 256) as u8)
+        & in_row(5, (low / 1099511627776 % 256) as u8)
+}
+
+// The marks are the two bytes above them, and four more.
+fn marks_fit(on: bool, low: u64, high: u32) -> bool
+    ensures { λ r. ⌜ r ≡ marksIn on (low8 low ++ low4 high) ⌝ }
+{
+    let a = low / 281474976710656 % 256;
+    let b = low / 72057594037927936 % 256;
+    let c = high % 256;
+    let d = high / 256 % 256;
+    let e = high / 65536 % 256;
+    let f = high / 16777216 % 256;
+    (a == 0)
+        & ((b == 0)
+            & ((f == 0)
+                & ((c <= 1) & ((d <= 1) & ((e <= 1) & (on | ((c == 0) & ((d == 0) & (e == 0)))))))))
 }

@@ -2,7 +2,7 @@ use Prim.Native.Nat.{_≤_, _-_}
 use mathlib.Core.Path.{_≡_, refl, sym, _∙_}
 use borrow.Author.Needs.{needs}
 use lib.ListN.{length, drop}
-use Rattle.command.specs.Decode.{allFF}
+use Rattle.command.specs.Needs.{allFF}
 use Rattle.command.specs.Laws.{allFF-end, allFF-next, allFF-stop}
 use Rattle.command.proofs.all_ff.Statement.{statement}
 use Rattle.command.proofs.all_ff.Tie as tie

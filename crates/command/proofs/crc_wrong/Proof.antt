@@ -1,4 +1,3 @@
-use mathlib.Core.Path.{sym, _∙_}
 use borrow.Author.Tests.{not-true, not-false}
 use borrow.Author.Needs.{needs}
 use Rattle.command.proofs.crc_wrong.Statement.{statement}
@@ -7,18 +6,14 @@ use Rattle.command.proofs.crc_wrong.Tie as tie
 returns : tie.Need-returns
 returns c = simp (not-true (c .before .before .args .checked) (c .if1 .taken))
 
-has-crc-requires : tie.Need-has-crc-requires
-has-crc-requires c κs = search needs
-
 returns-2 : tie.Need-returns-2
-returns-2 c = simp (not-false (c .before .before .before .before .args .checked) (c .before .before .if1 .left), sym (c .before .has-crc .ensures) ∙ not-true (c .before .has-crc .result) (c .if2 .taken))
+returns-2 c = simp (not-false (c .before .before .before .args .checked) (c .before .if1 .left), not-true (c .before .before .before .args .has) (c .if2 .taken))
 
 crc-good-requires : tie.Need-crc-good-requires
 crc-good-requires c κs = search needs
 
 returns-3 : tie.Need-returns-3
-returns-3 c = simp (not-false (c .before .before .before .before .before .args .checked) (c .before .before .before .if1 .left), sym (c .before .before .has-crc .ensures) ∙ not-false (c .before .before .has-crc .result) (c .before .if2 .left), c .crc-good .ensures)
+returns-3 c = simp (not-false (c .before .before .before .before .args .checked) (c .before .before .if1 .left), not-false (c .before .before .before .before .args .has) (c .before .if2 .left), c .crc-good .ensures)
 
 pub crc-wrong-spec : {M : Type 1} → statement M
-crc-wrong-spec =
-    tie.close (tie.spec returns has-crc-requires returns-2 crc-good-requires returns-3)
+crc-wrong-spec = tie.close (tie.spec returns returns-2 crc-good-requires returns-3)

@@ -7,9 +7,14 @@ use Rattle.state.specs.Facts.{sound-config, sound-request, sound-wires}
 use Rattle.rules.specs.Rules.Peripheral as P
 use Rattle.rules.specs.Rules.Wires as W
 use Rattle.rules.specs.Rules.Channel.{peripheral, wires}
-use Rattle.rules.specs.Rules.Lift.{lift, silent, show}
+use Rattle.rules.specs.Rules.Lift.{lift, show}
 use Rattle.rules.specs.Rules.Exchange.{decide}
 use Rattle.rules.specs.declared.Body.the-variants as B
+use Rattle.rules.specs.declared.PeripheralChange.{PeripheralChange}
+use Rattle.rules.specs.declared.WiresChange.{WiresChange}
+use Rattle.engine.specs.Carried.{carriedBy}
+use Rattle.engine.specs.Laws.Exchange.{shown-decided, reset-decided}
+use Rattle.engine.specs.Laws.Stored.{acting-stays}
 use borrow.Author.Needs.{needs}
 use Rattle.engine.proofs.decided.Statement.{statement}
 use Rattle.engine.proofs.decided.Tie as tie
@@ -18,19 +23,21 @@ enum-known-o : tie.Need-enum-known-o
 enum-known-o c = search needs
 
 decide-requires : tie.Need-decide-requires
-decide-requires c κs = let a = c .before .before .before .before .before .args in let p = c .before .before .before .before .before .pre in (sound-config (a .s) (p .0), sound-request (a .s) (p .0), subst (λ (z : Command). CommandFits z (now (a .b))) (c .before .o .given .1) (p .1))
+decide-requires c κs = let a = c .before .before .before .before .before .before .args in let p = c .before .before .before .before .before .before .pre in (sound-config (a .s) (p .0 .good), sound-request (a .s) (p .0 .good), subst (λ (z : Command). CommandFits z (now (a .b))) (c .before .o .given .1) (p .1))
 
 lift-peripheral-requires : tie.Need-lift-peripheral-requires
-lift-peripheral-requires c κs = search needs
+unfolding P.decide W.decide
+lift-peripheral-requires c κs = let a = c .before .before .before .before .before .before .before .before .args in (c .before .before .before .before .before .before .before .before .pre .0, acting-stays peripheral (a .s) (P.actOf (a .s .config) (c .before .before .before .o .given .0 .0) (now (a .b))) _ (c .before .decide .ensures))
 
 enum-known-o-2 : tie.Need-enum-known-o-2
 enum-known-o-2 c = search needs
 
 decide-requires-2 : tie.Need-decide-requires-2
-decide-requires-2 c κs = let a = c .before .before .before .before .before .args in let p = c .before .before .before .before .before .pre in (sound-config (a .s) (p .0), sound-wires (a .s) (p .0), subst (λ (z : Command). CommandFits z (now (a .b))) (c .before .o2 .given .1) (p .1))
+decide-requires-2 c κs = let a = c .before .before .before .before .before .before .args in let p = c .before .before .before .before .before .before .pre in (sound-config (a .s) (p .0 .good), sound-wires (a .s) (p .0 .good), subst (λ (z : Command). CommandFits z (now (a .b))) (c .before .o2 .given .1) (p .1))
 
 lift-wires-requires : tie.Need-lift-wires-requires
-lift-wires-requires c κs = search needs
+unfolding P.decide W.decide
+lift-wires-requires c κs = let a = c .before .before .before .before .before .before .before .before .args in (c .before .before .before .before .before .before .before .before .pre .0, acting-stays wires (a .s) (W.actOf (c .before .before .before .o2 .given .0 .0) (now (a .b))) _ (c .before .decide2 .ensures))
 
 enum-known-o-3 : tie.Need-enum-known-o-3
 enum-known-o-3 c = search needs
@@ -62,29 +69,41 @@ reset-008-requires c κs = search needs
 silently-requires : tie.Need-silently-requires
 silently-requires c κs = search needs
 
+same-length : tie.Need-same-length
+same-length c = search needs
+
 returns : tie.Need-returns
 unfolding decide P.decide W.decide
-returns c = let a = c .before .before .before .before .before .before .before .args in c .lift-peripheral .ensures ∙ ap (lift peripheral (a .s)) (c .before .decide .ensures) ∙ ap (λ (z : Command). decide (a .s) z (now (a .b))) (sym (c .before .before .before .o .given .1))
+returns c = let a = c .before .before .before .before .before .before .before .before .before .before .before .args in c .before .before .lift-peripheral .ensures ∙ ap (λ (x : PeripheralChange). carriedBy (lift peripheral (a .s) x) (now (a .state))) (c .before .before .before .before .decide .ensures) ∙ ap (λ (z : Command). carriedBy (decide (a .s) z (now (a .b))) (now (a .state))) (sym (c .before .before .before .before .before .before .o .given .1))
+
+same-length-2 : tie.Need-same-length-2
+same-length-2 c = search needs
 
 returns-2 : tie.Need-returns-2
 unfolding decide P.decide W.decide
-returns-2 c = let a = c .before .before .before .before .before .before .before .args in c .lift-wires .ensures ∙ ap (lift wires (a .s)) (c .before .decide2 .ensures) ∙ ap (λ (z : Command). decide (a .s) z (now (a .b))) (sym (c .before .before .before .o2 .given .1))
+returns-2 c = let a = c .before .before .before .before .before .before .before .before .before .before .before .args in c .before .before .lift-wires .ensures ∙ ap (λ (x : WiresChange). carriedBy (lift wires (a .s) x) (now (a .state))) (c .before .before .before .before .decide2 .ensures) ∙ ap (λ (z : Command). carriedBy (decide (a .s) z (now (a .b))) (now (a .state))) (sym (c .before .before .before .before .before .before .o2 .given .1))
 
 returns-3 : tie.Need-returns-3
 unfolding decide P.decide W.decide
-returns-3 c = let a = c .before .before .before .before .before .before .before .args in c .shown .ensures ∙ ap (λ (z : ℕ). show (B.Word z) (a .s)) (c .before .read .ensures) ∙ ap (λ (z : Command). decide (a .s) z (now (a .b))) (sym (c .before .before .before .o3 .given .1))
+returns-3 c = let a = c .before .before .before .before .before .before .before .before .args in shown-decided (a .s) (now (a .b)) (now (a .state)) (a .o) _ _ (c .before .before .before .before .before .before .before .before .pre .0) (ap (λ (z : Command). decide (a .s) z (now (a .b))) (c .before .before .before .o3 .given .1) ∙ ap (λ (z : ℕ). show (B.Word z) (a .s)) (sym (c .before .read .ensures))) (c .shown .ensures)
+
+same-length-3 : tie.Need-same-length-3
+same-length-3 c = search needs
 
 returns-4 : tie.Need-returns-4
 unfolding decide P.decide W.decide
-returns-4 c = let a = c .before .before .before .before .before .before .args in c .set .ensures ∙ ap (λ (z : Command). decide (a .s) z (now (a .b))) (sym (c .before .before .o4 .given .1))
+returns-4 c = let a = c .before .before .before .before .before .before .before .before .before .before .args in c .before .before .set .ensures ∙ ap (λ (z : Command). carriedBy (decide (a .s) z (now (a .b))) (now (a .state))) (sym (c .before .before .before .before .before .o4 .given .1))
 
 returns-5 : tie.Need-returns-5
 unfolding decide P.decide W.decide
-returns-5 c = let a = c .before .before .before .before .before .args in c .shown2 .ensures ∙ ap (λ (z : Command). decide (a .s) z (now (a .b))) (sym (c .before .enum-told .given .1))
+returns-5 c = let a = c .before .before .before .before .before .before .args in shown-decided (a .s) (now (a .b)) (now (a .state)) (a .o) _ _ (c .before .before .before .before .before .before .pre .0) (ap (λ (z : Command). decide (a .s) z (now (a .b))) (c .before .enum-told .given .1)) (c .shown2 .ensures)
+
+same-length-4 : tie.Need-same-length-4
+same-length-4 c = search needs
 
 returns-6 : tie.Need-returns-6
 unfolding decide P.decide W.decide
-returns-6 c = let a = c .before .before .before .before .before .before .args in c .silently .ensures ∙ ap (silent 0) (c .before .reset-008 .ensures) ∙ ap (λ (z : Command). decide (a .s) z (now (a .b))) (sym (c .before .before .enum-told2 .given .1))
+returns-6 c = let a = c .before .before .before .before .before .before .before .before .before .before .args in reset-decided (a .s) (now (a .b)) (now (a .state)) (a .o) _ _ (c .before .before .before .before .before .enum-told2 .given .1) (c .before .before .before .reset-008 .ensures) (c .silently .ensures)
 
 pub decided-spec : {M : Type 1} → statement M
 decided-spec =
@@ -106,9 +125,13 @@ decided-spec =
     enum-told-2
     reset-008-requires
     silently-requires
+    same-length
     returns
+    same-length-2
     returns-2
     returns-3
+    same-length-3
     returns-4
     returns-5
+    same-length-4
     returns-6)

@@ -24,13 +24,16 @@ refused-requires : tie.Need-refused-requires
 refused-requires c κs = search needs
 
 returns : tie.Need-returns
-returns c = let a = c .before .before .before .before .before .before .before .before .before .args in exchange-silent (a .s) (now (a .b)) _ _ _ _ _ (c .before .before .before .before .before .channels .ensures) (c .before .before .before .before .crc-checked .ensures) (c .before .before .before .admit .ensures) (c .before .enum-told .given .1) (c .refused .ensures)
+returns c = let a = c .before .before .before .before .before .before .before .before .before .before .args in exchange-silent (a .s) (now (a .b)) (now (a .state)) _ _ _ _ _ (c .before .before .before .before .before .before .before .before .before .before .pre) (c .before .before .before .before .before .channels .ensures) (c .before .before .before .before .crc-checked .ensures) (c .before .before .before .admit .ensures) (c .before .enum-told .given .1) (c .refused .ensures)
 
 decided-requires : tie.Need-decided-requires
-decided-requires c κs = let a = c .before .before .before .before .before .before .before .before .before .args in (c .before .before .before .before .before .before .before .before .before .pre, command-fits _ _ (now (a .b)) _ _ (λ i. omega (arith, c .before .before .before .before .before .before .before .before .shared-slice-known .given i)) (c .before .before .before .admit .ensures) (c .before .d .given .1))
+decided-requires c κs = let a = c .before .before .before .before .before .before .before .before .before .before .before .args in (c .before .before .before .before .before .before .before .before .before .before .before .pre, command-fits _ _ (now (a .b)) _ _ (λ i. omega (arith, c .before .before .before .before .before .before .before .before .before .before .shared-slice-known .given i)) (c .before .before .before .before .admit .ensures) (c .before .before .d .given .1))
+
+same-length : tie.Need-same-length
+same-length c = search needs
 
 returns-2 : tie.Need-returns-2
-returns-2 c = let a = c .before .before .before .before .before .before .before .before .before .before .args in exchange-decided (a .s) (now (a .b)) _ _ _ _ _ (c .before .before .before .before .before .before .channels .ensures) (c .before .before .before .before .before .crc-checked .ensures) (c .before .before .before .before .admit .ensures) (c .before .before .d .given .1) (c .decided .ensures)
+returns-2 c = let a = c .before .before .before .before .before .before .before .before .before .before .before .before .before .before .args in exchange-decided (a .s) (now (a .b)) (now (a .state)) _ _ _ _ _ (c .before .before .before .before .before .before .before .before .before .channels .ensures) (c .before .before .before .before .before .before .before .before .crc-checked .ensures) (c .before .before .before .before .before .before .before .admit .ensures) (c .before .before .before .before .before .d .given .1) (c .before .before .decided .ensures)
 
 pub exchange-spec : {M : Type 1} → statement M
 exchange-spec =
@@ -44,4 +47,5 @@ exchange-spec =
     refused-requires
     returns
     decided-requires
+    same-length
     returns-2)

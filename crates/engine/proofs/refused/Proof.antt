@@ -1,6 +1,5 @@
 use mathlib.Core.Path.{sym, ap, _∙_}
-use Rattle.command.specs.declared.Decoded.{Decoded}
-use Rattle.engine.specs.Laws.Exchange.{refusedBy}
+use Rattle.engine.specs.Carried.{refusedBy}
 use borrow.Author.Needs.{needs}
 use Rattle.engine.proofs.refused.Statement.{statement}
 use Rattle.engine.proofs.refused.Tie as tie
@@ -18,10 +17,10 @@ silently-requires-2 : tie.Need-silently-requires-2
 silently-requires-2 c κs = search needs
 
 returns : tie.Need-returns
-returns c = c .silently .ensures ∙ ap (λ (z : Decoded). refusedBy z (c .before .before .before .args .s)) (sym (c .before .enum-told .given .1))
+returns c = c .silently .ensures ∙ ap refusedBy (sym (c .before .enum-told .given .1))
 
 returns-2 : tie.Need-returns-2
-returns-2 c = c .silently2 .ensures ∙ ap (λ (z : Decoded). refusedBy z (c .before .before .before .before .args .s)) (sym (c .before .before .d .given .1))
+returns-2 c = c .silently2 .ensures ∙ ap refusedBy (sym (c .before .before .d .given .1))
 
 pub refused-spec : {M : Type 1} → statement M
 refused-spec =

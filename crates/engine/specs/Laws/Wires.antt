@@ -18,7 +18,7 @@ use Rattle.wires.specs.Kept.{sound-view}
 use Rattle.wires.specs.declared.Wires.{Wires}
 use Rattle.wires.specs.declared.Sending.{Sending}
 use Rattle.rules.specs.Rules.Out.{fatal, accept, number, keep}
-use Rattle.rules.specs.Rules.Wires.{change, putVwire, sending, getVwire, setting}
+use Rattle.rules.specs.Rules.Wires.{change, putVwire, sentOut, getVwire, setting}
 use Rattle.rules.specs.declared.Body.the-variants as B
 use Rattle.rules.specs.declared.Kept.the-variants as K
 use Rattle.rules.specs.declared.Out.{Out}
@@ -44,7 +44,7 @@ module _ (c : Config) (w : Wires) where
   put-done n count b part next out e h ep en k =
       passed _ _ (ap (λ (z : ℕ). ltb z n) (sym e) ∙ h) (changed (en ∙ ap (λ (z : List ℕ). putPairs w (take (n * 2) z)) ep) k)
 
-  send-list : (ks : List ℕ) → 1 ≤ length ks → change (afterSent w ks) (accept (B.Groups (packetOf w ks)) K.Nothing) ≡ sending w ks
+  send-list : (ks : List ℕ) → 1 ≤ length ks → change (afterSent w ks) (accept (B.Groups (packetOf w ks)) K.Nothing) ≡ sentOut w ks
   send-list [] h = absurd (omega arith)
   send-list (k ∷ ks) h = refl
 
@@ -52,7 +52,7 @@ module _ (c : Config) (w : Wires) where
   unfolding getVwire
   send-none any r sd e h k =
       let z = sound-view (on1 (c .r020)) w sd in
-      k ∙ ap (sending w) (sym (sent-none w (operatingCount (c .r020)) (z .from) (z .upto) (not-true _ (denied e h))))
+      k ∙ ap (sentOut w) (sym (sent-none w (operatingCount (c .r020)) (z .from) (z .upto) (not-true _ (denied e h))))
 
   pub send-done : (any : Bool) (count : ℕ) (o : Sending) (out : Out)
       → reachable c ≡ true

@@ -1,18 +1,15 @@
 use denote.Ref.{now}
 use lib.ListN.{length}
-use Rattle.espi.specs.Boundary.{planned-by, kept-wider}
+use Rattle.espi.specs.Boundary.{sent-by, kept-wider}
 use borrow.Author.Needs.{needs}
 use Rattle.espi.proofs.commit.Statement.{statement}
 use Rattle.espi.proofs.commit.Tie as tie
-
-pack-requires : tie.Need-pack-requires
-pack-requires c κs = search needs
 
 put-reply-requires : tie.Need-put-reply-requires
 put-reply-requires c κs = search needs
 
 keep-requires : tie.Need-keep-requires
-keep-requires c κs = let a = c .before .before .before .before .before .before .before .before .before .before .before .before .before .before .before .args in let p = c .before .before .before .before .before .before .before .before .before .before .before .before .before .before .before .pre in kept-wider (a .p .kept) (length (now (a .command))) 256 (length (now (a .write-store))) (p .2) (p .5)
+keep-requires c κs = let a = c .before .before .before .before .before .before .before .before .before .args in let p = c .before .before .before .before .before .before .before .before .before .pre in kept-wider (a .p .kept) (length (now (a .command))) 256 (length (now (a .write-store))) (p .1) (p .4)
 
 cast-result : tie.Need-cast-result
 cast-result c = search needs
@@ -29,17 +26,13 @@ same-length c = search needs
 same-length-2 : tie.Need-same-length-2
 same-length-2 c = search needs
 
-same-length-3 : tie.Need-same-length-3
-same-length-3 c = search needs
-
 returns : tie.Need-returns
-returns c = let a = c .before .before .before .before .before .before .before .before .before .before .before .before .before .before .before .before .before .before .before .args in planned-by (a .p) (a .was) (now (a .state)) _ (now (a .command)) (now (a .reply)) _ (now (a .write-store)) _ (now (a .read-store)) _ (c .before .before .before .before .before .before .before .before .before .before .before .pack .ensures) (c .before .before .before .before .before .before .before .put-reply .ensures .0) (c .before .before .before .before .before .before .before .put-reply .ensures .1) (c .before .before .before .keep .ensures)
+returns c = let a = c .before .before .before .before .before .before .before .before .before .before .before .before .before .args in sent-by (a .p) (a .was) (now (a .command)) (now (a .reply)) _ (now (a .write-store)) _ (now (a .read-store)) _ (c .before .before .before .before .before .before .before .put-reply .ensures .0) (c .before .before .before .before .before .before .before .put-reply .ensures .1) (c .before .before .before .keep .ensures)
 
 pub commit-spec : {M : Type 1} → statement M
 commit-spec =
     tie.close
     (tie.spec
-    pack-requires
     put-reply-requires
     keep-requires
     cast-result
@@ -47,5 +40,4 @@ commit-spec =
     add-result
     same-length
     same-length-2
-    same-length-3
     returns)

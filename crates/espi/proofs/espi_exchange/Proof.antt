@@ -2,10 +2,9 @@ use Rattle.base.specs.Pick.{taken, passed}
 use borrow.Author.Tests.{lt-ltb, le-ltb}
 use mathlib.Core.Path.{refl}
 use denote.Ref.{now}
-use Rattle.espi.specs.Boundary.{ok-is, exchanged-by, exchange-fits, loaded-sound}
 use native.Mathlib.Omega.{arith}
+use Rattle.espi.specs.Boundary.{ok-is, loaded-sound, loaded-packs, exchanged-by, exchange-fits}
 use Rattle.rules.specs.Rules.Calls.{exchangeCall}
-use native.Mathlib.Omega.{arith}
 use borrow.Author.Needs.{needs}
 use Rattle.espi.proofs.espi_exchange.Statement.{statement}
 use Rattle.espi.proofs.espi_exchange.Tie as tie
@@ -37,10 +36,10 @@ unfolding exchangeCall
 returns-5 c = passed _ _ (le-ltb _ _ (c .before .before .before .before .before .before .before .if1 .left)) (passed _ _ (le-ltb _ _ (c .before .before .before .before .before .before .if2 .left)) (passed _ _ (le-ltb _ _ (c .before .before .before .before .before .if3 .left)) (passed _ _ (le-ltb _ _ (c .before .before .before .before .if4 .left)) (taken _ _ (ok-is _ (c .before .before .load .result) (c .before .before .load .ensures) (c .if5 .taken)) refl))))
 
 exchange-requires : tie.Need-exchange-requires
-exchange-requires c κs = loaded-sound (now (c .before .before .before .before .before .before .before .before .before .before .before .before .before .before .before .args .state)) (c .before .before .before .before .load .result) (c .before .before .before .before .load .ensures) (c .before .before .if5 .left)
+exchange-requires c κs = loaded-packs (now (c .before .before .before .before .before .before .before .before .before .before .before .before .before .before .before .args .state)) (c .before .before .before .before .load .result) (c .before .before .before .before .load .ensures) (omega arith) (c .before .before .if5 .left)
 
 commit-requires : tie.Need-commit-requires
-commit-requires c κs = let a = c .before .before .before .before .before .before .before .before .before .before .before .before .before .before .before .before .before .before .before .args in let f = exchange-fits (c .before .before .before .before .before .before .before .before .load .result .state) (now (a .command)) _ (loaded-sound (now (a .state)) (c .before .before .before .before .before .before .before .before .load .result) (c .before .before .before .before .before .before .before .before .load .ensures) (c .before .before .before .before .before .before .if5 .left)) (c .before .before .before .exchange .ensures) in (omega arith, omega arith, omega arith, omega arith, f .reply, f .kept)
+commit-requires c κs = let a = c .before .before .before .before .before .before .before .before .before .before .before .before .before .before .before .before .before .before .before .before .args in let f = exchange-fits (c .before .before .before .before .before .before .before .before .before .load .result .state) (now (a .state)) _ (now (a .command)) _ (loaded-sound (now (a .state)) (c .before .before .before .before .before .before .before .before .before .load .result) (c .before .before .before .before .before .before .before .before .before .load .ensures) (c .before .before .before .before .before .before .before .if5 .left)) (c .before .before .before .before .exchange .ensures) in (omega arith, omega arith, omega arith, f .0, f .1)
 
 same-length-2 : tie.Need-same-length-2
 same-length-2 c = search needs
@@ -53,7 +52,7 @@ same-length-4 c = search needs
 
 returns-6 : tie.Need-returns-6
 unfolding exchangeCall
-returns-6 c = let a = c .before .before .before .before .before .before .before .before .before .before .before .before .before .before .before .before .before .before .before .before .before .before .before .before .before .before .args in passed _ _ (le-ltb _ _ (c .before .before .before .before .before .before .before .before .before .before .before .before .before .before .before .before .before .before .before .before .if1 .left)) (passed _ _ (le-ltb _ _ (c .before .before .before .before .before .before .before .before .before .before .before .before .before .before .before .before .before .before .before .if2 .left)) (passed _ _ (le-ltb _ _ (c .before .before .before .before .before .before .before .before .before .before .before .before .before .before .before .before .before .before .if3 .left)) (passed _ _ (le-ltb _ _ (c .before .before .before .before .before .before .before .before .before .before .before .before .before .before .before .before .before .if4 .left)) (passed _ _ (ok-is _ (c .before .before .before .before .before .before .before .before .before .before .before .before .before .before .before .load .result) (c .before .before .before .before .before .before .before .before .before .before .before .before .before .before .before .load .ensures) (c .before .before .before .before .before .before .before .before .before .before .before .before .before .if5 .left)) (exchanged-by (now (a .state)) (c .before .before .before .before .before .before .before .before .before .before .before .before .before .before .before .load .result) (c .before .before .before .before .before .before .before .before .before .before .before .before .before .before .before .load .ensures) (c .before .before .before .before .before .before .before .before .before .before .exchange .result) (now (a .command)) (now (a .reply)) (now (a .write-store)) (now (a .read-store)) _ (c .before .before .before .before .before .before .before .before .before .before .exchange .ensures) (c .before .before .before .before .before .before .commit .ensures))))))
+returns-6 c = let a = c .before .before .before .before .before .before .before .before .before .before .before .before .before .before .before .before .before .before .before .before .before .before .before .before .before .args in passed _ _ (le-ltb _ _ (c .before .before .before .before .before .before .before .before .before .before .before .before .before .before .before .before .before .before .before .if1 .left)) (passed _ _ (le-ltb _ _ (c .before .before .before .before .before .before .before .before .before .before .before .before .before .before .before .before .before .before .if2 .left)) (passed _ _ (le-ltb _ _ (c .before .before .before .before .before .before .before .before .before .before .before .before .before .before .before .before .before .if3 .left)) (passed _ _ (le-ltb _ _ (c .before .before .before .before .before .before .before .before .before .before .before .before .before .before .before .before .if4 .left)) (passed _ _ (ok-is _ (c .before .before .before .before .before .before .before .before .before .before .before .before .before .before .load .result) (c .before .before .before .before .before .before .before .before .before .before .before .before .before .before .load .ensures) (c .before .before .before .before .before .before .before .before .before .before .before .before .if5 .left)) (exchanged-by (now (a .state)) (c .before .before .before .before .before .before .before .before .before .before .before .before .before .before .load .result) (c .before .before .before .before .before .before .before .before .before .before .before .before .before .before .load .ensures) (c .before .before .before .before .before .before .before .before .before .exchange .result) _ (now (a .command)) (now (a .reply)) _ (now (a .write-store)) _ (now (a .read-store)) _ (c .before .before .before .before .before .before .before .before .before .exchange .ensures) (c .before .before .before .before .commit .ensures))))))
 
 pub espi-exchange-spec : {M : Type 1} → statement M
 espi-exchange-spec =

@@ -2,18 +2,19 @@ use Rattle.base.specs.Pick.{taken, passed}
 use borrow.Author.Tests.{lt-ltb, le-ltb}
 use mathlib.Core.Path.{refl}
 use denote.Ref.{now}
-use Rattle.espi.specs.Boundary.{ok-is, settled-by}
-use Rattle.rules.specs.Rules.Calls.{setWireCall}
-use Rattle.rules.specs.Rules.Wires.{setting, settle}
+use native.Mathlib.Omega.{arith}
+use Rattle.espi.specs.Boundary.{ok-is, loaded-packs, settled-by}
+use Rattle.rules.specs.Rules.Wires as W
 use Rattle.rules.specs.Rules.Channel.{wires}
 use Rattle.rules.specs.Rules.Lift.{lift}
+use Rattle.rules.specs.Rules.Calls.{setWireCall}
 use Rattle.state.specs.declared.State.{State}
 use borrow.Author.Needs.{needs}
 use Rattle.espi.proofs.espi_set_wire.Statement.{statement}
 use Rattle.espi.proofs.espi_set_wire.Tie as tie
 
 returns : tie.Need-returns
-unfolding setWireCall
+unfolding setWireCall W.settle
 returns c = taken _ _ (lt-ltb _ _ (c .if1 .taken)) refl
 
 load-requires : tie.Need-load-requires
@@ -23,14 +24,11 @@ same-length : tie.Need-same-length
 same-length c = search needs
 
 returns-2 : tie.Need-returns-2
-unfolding setWireCall
+unfolding setWireCall W.settle
 returns-2 c = passed _ _ (le-ltb _ _ (c .before .before .before .before .if1 .left)) (taken _ _ (ok-is _ (c .before .before .load .result) (c .before .before .load .ensures) (c .if2 .taken)) refl)
 
 set-wire-requires : tie.Need-set-wire-requires
-set-wire-requires c κs = search needs
-
-pack-requires : tie.Need-pack-requires
-pack-requires c κs = search needs
+set-wire-requires c κs = loaded-packs (now (c .before .before .before .before .before .before .before .before .args .state)) (c .before .before .before .before .load .result) (c .before .before .before .before .load .ensures) (omega arith) (c .before .before .if2 .left)
 
 cast-result : tie.Need-cast-result
 cast-result c = search needs
@@ -39,8 +37,8 @@ same-length-2 : tie.Need-same-length-2
 same-length-2 c = search needs
 
 returns-3 : tie.Need-returns-3
-unfolding setWireCall settle
-returns-3 c = let a = c .before .before .before .before .before .before .before .before .before .before .before .before .before .before .args in passed _ _ (le-ltb _ _ (c .before .before .before .before .before .before .before .before .before .before .before .before .if1 .left)) (passed _ _ (ok-is _ (c .before .before .before .before .before .before .before .before .before .before .load .result) (c .before .before .before .before .before .before .before .before .before .before .load .ensures) (c .before .before .before .before .before .before .before .before .if2 .left)) (settled-by (now (a .state)) (c .before .before .before .before .before .before .before .before .before .before .load .result) (c .before .before .before .before .before .before .before .before .before .before .load .ensures) (λ (s : State). lift wires s (setting (s .config) (s .wires) (a .index) (a .bit) (a .value))) _ _ (c .before .before .before .before .before .before .set-wire .ensures) (c .before .before .before .pack .ensures)))
+unfolding setWireCall W.settle
+returns-3 c = let a = c .before .before .before .before .before .before .before .before .before .before .before .before .args in passed _ _ (le-ltb _ _ (c .before .before .before .before .before .before .before .before .before .before .if1 .left)) (passed _ _ (ok-is _ (c .before .before .before .before .before .before .before .before .load .result) (c .before .before .before .before .before .before .before .before .load .ensures) (c .before .before .before .before .before .before .if2 .left)) (settled-by (now (a .state)) (c .before .before .before .before .before .before .before .before .load .result) (c .before .before .before .before .before .before .before .before .load .ensures) (λ (s : State). lift wires s (W.setting (s .config) (s .wires) (a .index) (a .bit) (a .value))) (c .before .before .before .set-wire .result) _ (c .before .before .before .set-wire .ensures)))
 
 pub espi-set-wire-spec : {M : Type 1} → statement M
 espi-set-wire-spec =
@@ -51,7 +49,6 @@ espi-set-wire-spec =
     same-length
     returns-2
     set-wire-requires
-    pack-requires
     cast-result
     same-length-2
     returns-3)

@@ -2,7 +2,8 @@ use Rattle.base.specs.Pick.{taken, passed}
 use borrow.Author.Tests.{lt-ltb, le-ltb}
 use mathlib.Core.Path.{refl}
 use denote.Ref.{now}
-use Rattle.espi.specs.Boundary.{ok-is, taken-by}
+use native.Mathlib.Omega.{arith}
+use Rattle.espi.specs.Boundary.{ok-is, loaded-packs, taken-by}
 use Rattle.rules.specs.Rules.Peripheral as P
 use Rattle.rules.specs.Rules.Channel.{peripheral}
 use Rattle.rules.specs.Rules.Lift.{lift}
@@ -13,15 +14,15 @@ use Rattle.espi.proofs.espi_take_write.Statement.{statement}
 use Rattle.espi.proofs.espi_take_write.Tie as tie
 
 returns : tie.Need-returns
-unfolding takeWriteCall
+unfolding takeWriteCall P.settle
 returns c = taken _ _ (lt-ltb _ _ (c .if1 .taken)) refl
 
 returns-2 : tie.Need-returns-2
-unfolding takeWriteCall
+unfolding takeWriteCall P.settle
 returns-2 c = passed _ _ (le-ltb _ _ (c .before .if1 .left)) (taken _ _ (lt-ltb _ _ (c .if2 .taken)) refl)
 
 returns-3 : tie.Need-returns-3
-unfolding takeWriteCall
+unfolding takeWriteCall P.settle
 returns-3 c = passed _ _ (le-ltb _ _ (c .before .before .if1 .left)) (passed _ _ (le-ltb _ _ (c .before .if2 .left)) (taken _ _ (lt-ltb _ _ (c .if3 .taken)) refl))
 
 load-requires : tie.Need-load-requires
@@ -31,14 +32,11 @@ same-length : tie.Need-same-length
 same-length c = search needs
 
 returns-4 : tie.Need-returns-4
-unfolding takeWriteCall
+unfolding takeWriteCall P.settle
 returns-4 c = passed _ _ (le-ltb _ _ (c .before .before .before .before .before .before .if1 .left)) (passed _ _ (le-ltb _ _ (c .before .before .before .before .before .if2 .left)) (passed _ _ (le-ltb _ _ (c .before .before .before .before .if3 .left)) (taken _ _ (ok-is _ (c .before .before .load .result) (c .before .before .load .ensures) (c .if4 .taken)) refl)))
 
 take-write-requires : tie.Need-take-write-requires
-take-write-requires c κs = search needs
-
-pack-requires : tie.Need-pack-requires
-pack-requires c κs = search needs
+take-write-requires c κs = loaded-packs (now (c .before .before .before .before .before .before .before .before .before .before .before .before .before .args .state)) (c .before .before .before .before .before .load .result) (c .before .before .before .before .before .load .ensures) (omega arith) (c .before .before .before .if4 .left)
 
 put-write-requires : tie.Need-put-write-requires
 put-write-requires c κs = search needs
@@ -54,7 +52,7 @@ same-length-3 c = search needs
 
 returns-5 : tie.Need-returns-5
 unfolding takeWriteCall P.settle
-returns-5 c = passed _ _ (le-ltb _ _ (c .before .before .before .before .before .before .before .before .before .before .before .before .before .before .before .before .before .before .before .if1 .left)) (passed _ _ (le-ltb _ _ (c .before .before .before .before .before .before .before .before .before .before .before .before .before .before .before .before .before .before .if2 .left)) (passed _ _ (le-ltb _ _ (c .before .before .before .before .before .before .before .before .before .before .before .before .before .before .before .before .before .if3 .left)) (passed _ _ (ok-is _ (c .before .before .before .before .before .before .before .before .before .before .before .before .before .before .before .load .result) (c .before .before .before .before .before .before .before .before .before .before .before .before .before .before .before .load .ensures) (c .before .before .before .before .before .before .before .before .before .before .before .before .before .if4 .left)) (taken-by (now (c .before .before .before .before .before .before .before .before .before .before .before .before .before .before .before .before .before .before .before .before .before .before .before .args .state)) (c .before .before .before .before .before .before .before .before .before .before .before .before .before .before .before .load .result) (c .before .before .before .before .before .before .before .before .before .before .before .before .before .before .before .load .ensures) (λ (s : State). lift peripheral s (P.taken (s .peripheral))) (c .before .before .before .before .before .before .before .before .before .before .take-write .result) _ _ _ (c .before .before .before .before .before .before .before .before .before .before .take-write .ensures) (c .before .before .before .before .before .before .before .pack .ensures) (c .before .before .before .put-write .ensures)))))
+returns-5 c = passed _ _ (le-ltb _ _ (c .before .before .before .before .before .before .before .before .before .before .before .before .before .before .before .before .before .if1 .left)) (passed _ _ (le-ltb _ _ (c .before .before .before .before .before .before .before .before .before .before .before .before .before .before .before .before .if2 .left)) (passed _ _ (le-ltb _ _ (c .before .before .before .before .before .before .before .before .before .before .before .before .before .before .before .if3 .left)) (passed _ _ (ok-is _ (c .before .before .before .before .before .before .before .before .before .before .before .before .before .load .result) (c .before .before .before .before .before .before .before .before .before .before .before .before .before .load .ensures) (c .before .before .before .before .before .before .before .before .before .before .before .if4 .left)) (taken-by (now (c .before .before .before .before .before .before .before .before .before .before .before .before .before .before .before .before .before .before .before .before .before .args .state)) (c .before .before .before .before .before .before .before .before .before .before .before .before .before .load .result) (c .before .before .before .before .before .before .before .before .before .before .before .before .before .load .ensures) (λ (s : State). lift peripheral s (P.taken (s .peripheral))) (c .before .before .before .before .before .before .before .take-write .result) _ _ _ (c .before .before .before .before .before .before .before .take-write .ensures) (c .before .before .before .put-write .ensures)))))
 
 pub espi-take-write-spec : {M : Type 1} → statement M
 espi-take-write-spec =
@@ -67,7 +65,6 @@ espi-take-write-spec =
     same-length
     returns-4
     take-write-requires
-    pack-requires
     put-write-requires
     cast-result
     same-length-2

@@ -31,9 +31,11 @@ use Rattle.rules.specs.Rules.Calls as X
 use Rattle.rules.specs.Rules.Calls.{word, kept, Exchanged, Stored, Looked}
 use Rattle.rules.specs.Proofs.Peripheral.{look-is}
 use Rattle.rules.specs.Proofs.Wires.{read-is}
-use Rattle.rules.specs.Proofs.Sound.{exchange-sound, board-sound, reset-sound, fresh-sound}
+use Rattle.state.specs.Facts.{fresh-sound}
+use Rattle.rules.specs.Proofs.Sound.{exchange-sound, board-sound, reset-sound}
 use Rattle.rules.specs.Proofs.Refusals.{SettledAs, exchange-turned, board-settled}
-use Rattle.rules.specs.Proofs.WholeRefusals.{number-word, planned-small}
+use Rattle.rules.specs.Proofs.WholeCalls.{number-word}
+use Rattle.rules.specs.Proofs.WholeRefusals.{planned-small}
 use Rattle.rules.specs.declared.Kept.{Kept}
 use Rattle.rules.specs.declared.Kept.the-variants as K
 use Rattle.rules.specs.declared.Plan.{Plan}
@@ -144,7 +146,7 @@ module _ (v : ByteWorld) (h : Holding v) where
   short reply report = meets refl refl (sym (over-none reply)) refl (sym (over-none report)) refl same
 
   exchange-lifts : (command reply : List ℕ) → S.areBytes command ≡ true → Agrees v (S.exchange command reply)
-  unfolding byteStep step X.exchangeCall X.exchangePlanned S.exchanged
+  unfolding byteStep step X.exchangeCall X.exchangePlanned S.performed
   exchange-lifts command reply b =
       let p = E.exchange (unpacked st) command in
       let r = replyBytes (p .reply) (unpacked st .wires) (v .read) in
@@ -168,7 +170,7 @@ module _ (v : ByteWorld) (h : Holding v) where
   small k o = let p = L.settled k (unpacked st) o in settled-small (p .number) (unpacked st) p (board-settled k (unpacked st) o)
 
   look-lifts : (report : List ℕ) → Agrees v (S.board peripheral (P.look report))
-  unfolding byteStep step X.lookCall S.settled L.lift
+  unfolding byteStep step X.lookCall S.served L.lift
   look-lifts report =
       let q = unpacked st .peripheral in
       rw (long, pass, look-is (unpacked st .config) q report)
@@ -184,7 +186,7 @@ module _ (v : ByteWorld) (h : Holding v) where
       by-request (Failed q) = refl
 
   answer-lifts : (serial success : ℕ) (bytes : List ℕ) → Agrees v (S.board peripheral (P.answer serial success bytes))
-  unfolding byteStep step X.answerCall S.settled over
+  unfolding byteStep step X.answerCall S.served over
   answer-lifts serial success bytes =
       let o = P.answer serial success bytes in
       let p = L.settled peripheral (unpacked st) o in
@@ -195,7 +197,7 @@ module _ (v : ByteWorld) (h : Holding v) where
       (ltb (length (v .read)) S.readLength))
 
   take-lifts : (report : List ℕ) → Agrees v (S.board peripheral (P.takeWrite report))
-  unfolding byteStep step X.takeWriteCall S.settled
+  unfolding byteStep step X.takeWriteCall S.served
   take-lifts report =
       let o = P.takeWrite report in
       let p = L.settled peripheral (unpacked st) o in
@@ -206,7 +208,7 @@ module _ (v : ByteWorld) (h : Holding v) where
       (ltb (length (v .write)) S.writeLength) (ltb (length report) S.takeLength))
 
   set-lifts : (index bit value : ℕ) → Agrees v (S.board wires (W.setWire index bit value))
-  unfolding byteStep step X.setWireCall S.settled over
+  unfolding byteStep step X.setWireCall S.served over
   set-lifts index bit value =
       let o = W.setWire index bit value in
       let p = L.settled wires (unpacked st) o in
@@ -214,7 +216,7 @@ module _ (v : ByteWorld) (h : Holding v) where
       (board st (h .long) (v .write) (v .read) [] [] (p .number) (p .next) (small wires o) (board-sound good wires o))
 
   read-lifts : (index bit : ℕ) → Agrees v (S.board wires (W.readWire index bit))
-  unfolding byteStep step X.readWireCall S.settled L.lift over
+  unfolding byteStep step X.readWireCall S.served L.lift over
   read-lifts index bit =
       let value = W.readValue (unpacked st .wires) index bit in
       rw (long, pass, read-is (unpacked st .config) (unpacked st .wires) index bit)

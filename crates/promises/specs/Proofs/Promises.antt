@@ -192,7 +192,7 @@ before v b r xs a = waits a
 -- ---- a board call's word is its number alone
 
 peripheral-value : (w : World) (o : B.Board) → step w (board peripheral o) .value ≡ 0
-unfolding step S.settled
+unfolding step S.served
 peripheral-value w o = pick-ind (λ (x : Outcome). x .value ≡ 0) (S.shortFor peripheral o w) (λ _. refl) (λ _. refl)
 
 word-alone : {x n value : ℕ} (m : ℕ) → x ≡ word n value → n ≡ m → value ≡ 0 → x ≡ m

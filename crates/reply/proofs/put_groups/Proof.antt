@@ -1,10 +1,11 @@
 use Prim.Native.Nat.{_+_, _≤_, _<_}
+use mathlib.Core.Bool.{true}
 use mathlib.Core.Path.{_≡_, refl, ap, _∙_}
 use native.Mathlib.Omega.{arith}
 use lib.ListN.{length}
 use Rattle.base.specs.Bytes.{put}
-use Rattle.wires.specs.Table.{senders}
-use Rattle.wires.specs.Rows.{place-up}
+use Rattle.wires.specs.Table.{isUp}
+use Rattle.wires.specs.Rows.{place-group}
 use Rattle.wires.specs.Groups.{pairBytes}
 use Rattle.wires.specs.Sending.{turnOf, step}
 use Rattle.wires.specs.declared.Going.{Going}
@@ -14,7 +15,7 @@ use Rattle.reply.proofs.put_groups.Statement.{statement}
 use Rattle.reply.proofs.put_groups.Tie as tie
 
 abbrev Inv-loop : tie.InvT-loop
-Inv-loop reply₀ code w at₀ g₀ reply at g = (g .k < senders) × (length reply ≡ length reply₀)
+Inv-loop reply₀ code w at₀ g₀ reply at g = (isUp (g .group) ≡ true) × (length reply ≡ length reply₀)
     × Written w g at reply (put at₀ (pairBytes w (turnOf w g₀)) reply₀) (at₀ + length (pairBytes w (turnOf w g₀)))
 
 abbrev μ-loop : tie.MeasureT-loop
@@ -33,11 +34,11 @@ cast-go-round : tie.Need-cast-go-round Inv-loop μ-loop
 cast-go-round c = search needs
 
 go-round-requires : tie.Need-go-round-requires Inv-loop μ-loop
-go-round-requires c κs = (c .before .before .before .before .before .before .before .before .pre .1 .from, c .before .before .before .before .before .before .before .before .pre .1 .upto)
+go-round-requires c κs = search needs
 
 loop-holds : tie.Need-loop-holds Inv-loop μ-loop
 loop-holds c = let s = c .before .before .before .before .before .before .before .before .before in (
-  omega (arith, ap (λ (g : Going). g .k) (c .go-round .ensures), place-up (s .args .p .place) (s .pre .1 .from) (s .pre .1 .upto) .below),
+  ap (λ (g : Going). isUp (g .group)) (c .go-round .ensures) ∙ place-group (s .args .p .place) (s .pre .1 .from) (s .pre .1 .upto),
   refl,
   record { rest = refl; end = refl },
 )
@@ -47,7 +48,7 @@ put-pair-requires c κs = let s = c .before .before .before .before .before .bef
     let l = c .before .before .before .loop in (
       omega (arith, s .pre .0, l .inv .1, l .inv .2 .end, pairs-small (s .args .w) (s .args .p) (c .before .before .before .before .go-round .result) (c .before .before .before .before .go-round .ensures) (s .pre .1 .most)),
       l .inv .0,
-      s .pre .1 .small (l .g .k) (l .inv .0),
+      s .pre .1 .small (l .g .group) (l .inv .0),
     )
 
 past-requires : tie.Need-past-requires Inv-loop μ-loop
@@ -64,7 +65,7 @@ loop-again c = let s = c .before .before .before .before .before .before .before
     let w = c .before .before .before .put-pair .ensures in
     let fit = pairs-small (s .args .w) (s .args .p) (c .before .before .before .before .before .before .before .before .go-round .result) (c .before .before .before .before .before .before .before .before .go-round .ensures) (s .pre .1 .most) in
     let room : l .at ≤ length (l .reply) = omega (arith, s .pre .0, l .inv .1, l .inv .2 .end, fit) in (
-      omega (arith, ap (λ (g : Going). g .k) (c .past .ensures), step (s .args .w) (l .g) (l .inv .0) m .k),
+      ap (λ (g : Going). isUp (g .group)) (c .past .ensures) ∙ step (s .args .w) (l .g) (l .inv .0) m .up,
       search needs,
       written-next (s .args .w) (l .g) _ (l .at) _ _ _ _ _ (l .inv .0) m room (w .0) (w .1) (c .past .ensures) (l .inv .2),
     )

@@ -2,7 +2,7 @@ use denote.Ref.{now}
 use mathlib.Core.Path.{sym, ap, _∙_}
 use Prim.Native.Nat.{ℕ, _+_}
 use native.Mathlib.Omega.{arith}
-use Rattle.rules.specs.Proofs.Fits.{closed-length}
+use Rattle.rules.specs.Proofs.Reply.{closed-length}
 use Rattle.reply.specs.Written.{said-by}
 use native.Mathlib.Omega.{arith}
 use borrow.Author.Needs.{needs}

@@ -20,7 +20,7 @@ use Rattle.peripheral.specs.declared.Request.{Request}
 use Rattle.rules.specs.Rules.Peripheral.{succeeded, answer}
 use Rattle.rules.specs.Rules.Channel.{peripheral}
 use Rattle.rules.specs.Rules.Lift.{lift}
-use Rattle.rules.specs.Rules.Step.{World, Call, reset, exchange, board, short, lend, Outcome, step, run, settled, readLength}
+use Rattle.rules.specs.Rules.Step.{World, Call, reset, exchange, board, short, lend, Outcome, step, run, served, readLength}
 use Rattle.rules.specs.Statements.Peripheral as P
 use Rattle.rules.specs.Statements.Peripheral.{unanswered}
 use Rattle.rules.specs.Statements.Events as E
@@ -88,7 +88,7 @@ none-named never (P.fails e f g h) = absurd (never _ e f)
 
 refused-20 : (w : World) (serial success : ℕ) (d : List ℕ) → readLength ≤ length (w .read) → ((q : Request) → held w ≡ Waiting q → serial ≡ serialOf w → ⊥)
     → step w (answersWith serial success d) .number ≡ 20
-unfolding settled lift
+unfolding served lift
 refused-20 w serial success d l never =
     ap (λ (o : Outcome). o .number) (board-long peripheral w (answer serial success d) (le-ltb _ _ l))
     ∙ none-named never (L.settles (w .state .config) (w .state .peripheral) (answer serial success d))

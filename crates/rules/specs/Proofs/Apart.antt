@@ -1,6 +1,6 @@
 -- No channel tells on another: one argument for every channel. A call of x's own leaves all that is not x's; any other call goes the same way in two
 -- worlds that are alike but for x, for its channel sees its own part and stores alone. So a run shows what it shows without x's calls.
-use Prim.Native.Nat.{ℕ, _+_, _-_, _/_, _%_}
+use Prim.Native.Nat.{ℕ, _+_, _-_, _*_, _/_, _%_}
 use mathlib.Core.Bool.{Bool, true, false, _||_, true≢false}
 use mathlib.Core.List.{List, [], _∷_, _++_}
 use mathlib.Core.Path.{_≡_, refl, sym, ap, subst, _∙_}
@@ -9,24 +9,21 @@ use lib.Dec.{ltb}
 use lib.ListN.{getD, length, take, length-append}
 use lib.Seq.{take-at, getD-at, getD-append-add}
 use borrow.Author.Tests.{ne-eqb}
+use Rattle.base.specs.Pick.{pick}
 use Rattle.base.specs.Bytes.{low2, over}
 use Rattle.crc.specs.Crc.{crc}
 use Rattle.registers.specs.Registers.{fresh008, readAt, writeAt}
 use Rattle.registers.specs.declared.Config.{Config}
-use Rattle.wires.specs.Groups.{wiresStatus}
-use Rattle.wires.specs.declared.Wires.{Wires}
 use Rattle.command.specs.declared.Command as C₀
-use Rattle.peripheral.specs.Status.{peripheralStatus}
-use Rattle.peripheral.specs.declared.Peripheral.{Peripheral}
 use Rattle.state.specs.Status.{status}
 use Rattle.state.specs.declared.State.{State}
 use Rattle.rules.specs.Rules.Out.{responseByte}
-use Rattle.rules.specs.Rules.Channel.{Channel, peripheral, wires, Part, Command, Act, Board, Change, change, nextOf, outOf, actOf, acting, settle, reportOf, valueOf, given, ownBody, ownKept, part, put, each, on, edge, same}
+use Rattle.rules.specs.Rules.Channel.{Channel, peripheral, wires, Part, Command, Act, Board, Change, change, nextOf, outOf, actOf, acting, settle, reportOf, valueOf, given, bits, ownKept, part, put, each, on, enableEdge, same}
 use Rattle.rules.specs.Rules.Channel as N
 use Rattle.rules.specs.Rules.Lift.{lift, withStatus, show}
 use Rattle.rules.specs.Rules.Exchange.{reconfigured, configReset}
-use Rattle.rules.specs.Rules.Reply.{closed, replyBytes, bodyBytes, keptBytes}
-use Rattle.rules.specs.Rules.Step.{World, Call, Outcome, exchange, board, reset, short, lend, step, run, exchanged, settled, shortStores, shortFor, writeLength, readLength, replyLength}
+use Rattle.rules.specs.Rules.Reply.{closed, replyBytes, keptBytes}
+use Rattle.rules.specs.Rules.Step.{World, Call, Outcome, exchange, board, reset, short, lend, step, run, performed, served, shortStores, shortFor, writeLength, readLength, replyLength}
 use Rattle.rules.specs.Statements.Plans.{Settled, Admits}
 use Rattle.rules.specs.Statements.Channels.{Acts, Settles}
 use Rattle.rules.specs.Statements.Channels as L
@@ -39,13 +36,13 @@ use Rattle.rules.specs.Proofs.Plans as Q
 use Rattle.rules.specs.Proofs.Channels as L₁
 use Rattle.rules.specs.Proofs.Peripheral.Apart as P₁
 use Rattle.rules.specs.Proofs.Wires.Apart as W₁
+use Rattle.rules.specs.Proofs.Stores.{lacks, SameLack, bodyIn, Owns, kept-other}
 use Rattle.rules.specs.Proofs.Whose.{begins, own-command}
 use Rattle.rules.specs.Proofs.Effects.{above}
-use Rattle.rules.specs.Proofs.Both.{both}
-use Rattle.rules.specs.Proofs.Lift.{out-change, part-stays, lift-change, put-config, put-both, part-each, same-is, planned}
+use Rattle.rules.specs.Proofs.Cases.{both}
+use Rattle.rules.specs.Proofs.Lift.{out-change, part-stays, lift-change, put-config, put-both, part-each, same-is, same-turned, planned}
 use Rattle.rules.specs.Proofs.Reads.{reads}
 use Rattle.rules.specs.Proofs.Reply.{closed-as, closed-length, status-bits, status-small, over-long}
-use Rattle.rules.specs.declared.Body.{Body}
 use Rattle.rules.specs.declared.Body.the-variants as B
 use Rattle.rules.specs.declared.Say.{Say}
 use Rattle.rules.specs.declared.Say.the-variants as Y
@@ -57,44 +54,59 @@ use Rattle.rules.specs.declared.Response.the-variants.{Accept, NonFatal}
 
 -- ---- the status without x's bits: the others' are left
 
-abbrev left : Channel → State → ℕ
-left peripheral s = wiresStatus (s .wires)
-left wires s = peripheralStatus (s .peripheral) + 4
+abbrev sum : (Channel → ℕ) → ℕ
+sum f = f peripheral + f wires
 
-cleared : (x : Channel) (s : State) → clear x (status s % 256) ≡ left x s
+sum-as : (f g : Channel → ℕ) → ((k : Channel) → f k ≡ g k) → sum f ≡ sum g
+sum-as f g h = rw (h peripheral, h wires)
+
+-- the bits that never change: VWIRE_FREE
+abbrev fixed : Channel → ℕ
+fixed peripheral = 0
+fixed wires = 4
+
+abbrev left : Channel → State → ℕ
+left x s = sum (λ k. pick (same x k) (fixed k) (bits k (part k s)))
+
+cleared : (x : Channel) (s : State) → clear x (status s) ≡ left x s
 unfolding status
 cleared peripheral s = omega (arith, status-bits s)
 cleared wires s = omega (arith, status-bits s)
 
 left-alike : (x : Channel) (s t : State) → StatesAlike x s t → left x s ≡ left x t
-left-alike peripheral s t h = ap wiresStatus (h .parts wires refl)
-left-alike wires s t h = ap (λ (p : Peripheral). peripheralStatus p + 4) (h .parts peripheral refl)
+left-alike x s t h = sum-as _ _ (λ k. go k (same x k) refl)
+  where
+    go : (k : Channel) (u : Bool) → same x k ≡ u → pick u (fixed k) (bits k (part k s)) ≡ pick u (fixed k) (bits k (part k t))
+    go k true e = refl
+    go k false e = ap (bits k) (h .parts k e)
 
-status-alike : (x : Channel) (s t : State) → StatesAlike x s t → clear x (status s % 256) ≡ clear x (status t % 256)
+status-alike : (x : Channel) (s t : State) → StatesAlike x s t → clear x (status s) ≡ clear x (status t)
 status-alike x s t h = cleared x s ∙ left-alike x s t h ∙ sym (cleared x t)
 
 -- ---- a reply but for x's status bits and the CRC byte
 
-parted : (x : Channel) (l m : List ℕ) (a : ℕ) → length l ≡ length m + 3 → take (length m) l ≡ m → getD l (length m) 0 ≡ a → getD l (length m + 1) 0 ≡ 0
-    → replyBut x l ≡ m ++ (clear x a ∷ 0 ∷ [])
-parted x l m a n t f g =
+parted : (x : Channel) (l m : List ℕ) (a b : ℕ) → length l ≡ length m + 3 → take (length m) l ≡ m → getD l (length m) 0 ≡ a → getD l (length m + 1) 0 ≡ b
+    → replyBut x l ≡ m ++ (clear x (a + 256 * b) ∷ [])
+parted x l m a b n t f g =
     let z = ne-eqb (length l) 0 (λ q. omega arith) in
     let e₃ : length l - 3 ≡ length m = omega arith in
     let e₂ : length l - 2 ≡ length m + 1 = omega arith in
     rw (z, e₃, e₂, t, f, g)
 
-closed-but : (x : Channel) (m : List ℕ) (s : State) → replyBut x (closed m (status s)) ≡ m ++ (clear x (status s % 256) ∷ 0 ∷ [])
+closed-but : (x : Channel) (m : List ℕ) (s : State) → replyBut x (closed m (status s)) ≡ m ++ (clear x (status s) ∷ [])
 closed-but x m s =
     let t = status s in
     let end = t % 256 ∷ t / 256 % 256 ∷ crc (m ++ low2 t) ∷ [] in
+    let two : t % 256 + 256 * (t / 256 % 256) ≡ t = omega (arith, status-small s) in
     ap (replyBut x) (closed-as m t)
-    ∙ parted x (m ++ end) m (t % 256) (simp length-append (omega arith)) (take-at m end (length m) refl)
-    (getD-at m (t % 256) _ 0 (length m) refl) (getD-append-add m end 1 0 ∙ omega (arith, status-small s))
+    ∙ parted x (m ++ end) m (t % 256) (t / 256 % 256) (simp length-append (omega arith)) (take-at m end (length m) refl)
+    (getD-at m (t % 256) _ 0 (length m) refl) (getD-append-add m end 1 0)
+    ∙ ap (λ (n : ℕ). m ++ (clear x n ∷ [])) two
 
 -- what a plan says, in two states that are alike but for x, its body's bytes being the same
 abbrev bodyOf : Say → World → List ℕ
 bodyOf Y.Silent w = []
-bodyOf (Y.Said r body) w = bodyBytes body (w .state .wires) (w .read)
+bodyOf (Y.Said r body) w = bodyIn w body
 
 module _ (x : Channel) (s t : State) (h : StatesAlike x s t) (w v : World) where
   abbrev replyOn : World → Say → ℕ → List ℕ
@@ -104,18 +116,18 @@ module _ (x : Channel) (s t : State) (h : StatesAlike x s t) (w v : World) where
   unfolding replyBytes
   said-but Y.Silent e = refl
   said-but (Y.Said r body) e =
-      closed-but x (responseByte r ∷ bodyOf (Y.Said r body) w) s
-      ∙ ap (λ (z : ℕ). (responseByte r ∷ bodyOf (Y.Said r body) w) ++ (z ∷ 0 ∷ [])) (status-alike x s t h)
-      ∙ ap (λ (z : List ℕ). (responseByte r ∷ z) ++ (clear x (status t % 256) ∷ 0 ∷ [])) e
-      ∙ sym (closed-but x (responseByte r ∷ bodyOf (Y.Said r body) v) t)
+      closed-but x (responseByte r ∷ bodyIn w body) s
+      ∙ ap (λ (z : ℕ). (responseByte r ∷ bodyIn w body) ++ (z ∷ [])) (status-alike x s t h)
+      ∙ ap (λ (z : List ℕ). (responseByte r ∷ z) ++ (clear x (status t) ∷ [])) e
+      ∙ sym (closed-but x (responseByte r ∷ bodyIn v body) t)
 
   said-length : (y : Say) → bodyOf y w ≡ bodyOf y v → length (replyOn w y (status s)) ≡ length (replyOn v y (status t))
   unfolding replyBytes
   said-length Y.Silent e = refl
   said-length (Y.Said r body) e =
-      closed-length (responseByte r ∷ bodyOf (Y.Said r body) w) (status s)
+      closed-length (responseByte r ∷ bodyIn w body) (status s)
       ∙ ap (λ (z : List ℕ). length (responseByte r ∷ z) + 3) e
-      ∙ sym (closed-length (responseByte r ∷ bodyOf (Y.Said r body) v) (status t))
+      ∙ sym (closed-length (responseByte r ∷ bodyIn v body) (status t))
 
 -- ---- states and worlds alike but for x
 
@@ -158,53 +170,16 @@ each-alike : (x : Channel) (f g : (k : Channel) → Part k → Part k) (c d : Co
 each-alike x f g c d s t e u h =
     record { config = e; parts = λ y n. part-each f c s y ∙ ap (f y) (h .parts y n) ∙ u y (part y t) ∙ sym (part-each g d t y) }
 
--- ---- stores: a body of a channel's own reads none but its part and its stores, data of its own goes to none but these
+-- ---- stores: what is a channel's own
 
-own-bytes : (k : Channel) (body : Body) (w v : World) → ownBody k body ≡ true → part k (w .state) ≡ part k (v .state)
-    → storesOf k (w .write) (w .read) ≡ storesOf k (v .write) (v .read) → bodyBytes body (w .state .wires) (w .read) ≡ bodyBytes body (v .state .wires) (v .read)
-own-bytes peripheral body w v o p e =
-    P₁.own-bytes body (w .state .wires) (v .state .wires) (w .read) o ∙ ap (λ (l : List (List ℕ)). bodyBytes body (v .state .wires) (getD l 1 [])) e
-own-bytes wires body w v o p e = ap (λ (u : Wires). bodyBytes body u (w .read)) p ∙ W₁.own-bytes body (v .state .wires) (w .read) (v .read) o
-
-none-own : (k : Channel) → ownKept k K.Nothing ≡ true
-none-own peripheral = refl
-none-own wires = refl
-
--- the same data laid over a store of two worlds
-stores-written : (y : Channel) (d write read write′ read′ : List ℕ) → storesOf y write read ≡ storesOf y write′ read′
-    → storesOf y (over d write) read ≡ storesOf y (over d write′) read′
-stores-written peripheral d write read write′ read′ e = ap (λ (l : List (List ℕ)). over d (getD l 0 []) ∷ getD l 1 [] ∷ []) e
-stores-written wires d write read write′ read′ e = refl
-
-stores-answered : (y : Channel) (d write read write′ read′ : List ℕ) → storesOf y write read ≡ storesOf y write′ read′
-    → storesOf y write (over d read) ≡ storesOf y write′ (over d read′)
-stores-answered peripheral d write read write′ read′ e = ap (λ (l : List (List ℕ)). getD l 0 [] ∷ over d (getD l 1 []) ∷ []) e
-stores-answered wires d write read write′ read′ e = refl
-
--- number 10 of an exchange, by the stores
-abbrev lacks : (reply write read : List ℕ) → Bool
-lacks reply write read = ltb (length reply) replyLength || (ltb (length write) writeLength || ltb (length read) readLength)
-
-abbrev SameLack : (write read write′ read′ : List ℕ) → Type 0
-SameLack write read write′ read′ = (reply : List ℕ) → lacks reply write read ≡ lacks reply write′ read′
-
-module _ (write read write′ read′ : List ℕ) where
-  lack-written : (k : Channel) (kept : Kept) (b : List ℕ) → ownKept k kept ≡ true → storesOf k write read ≡ storesOf k write′ read′
-      → SameLack write read write′ read′
-      → SameLack (over (keptBytes kept b) write) read (over (keptBytes kept b) write′) read′
-  lack-written peripheral kept b o e h reply = ap (λ (l : List (List ℕ)). lacks reply (over (keptBytes kept b) (getD l 0 [])) (getD l 1 [])) e
-  lack-written wires kept b o e h reply = W₁.kept-none (λ (f : List ℕ → List ℕ). SameLack (f write) read (f write′) read′) kept b o h reply
-
-  lack-answered : (k : Channel) (kept : Kept) (b : List ℕ) → ownKept k kept ≡ true → storesOf k write read ≡ storesOf k write′ read′
-      → SameLack write read write′ read′
-      → SameLack write (over (keptBytes kept b) read) write′ (over (keptBytes kept b) read′)
-  lack-answered peripheral kept b o e h reply = ap (λ (l : List (List ℕ)). lacks reply (getD l 0 []) (over (keptBytes kept b) (getD l 1 []))) e
-  lack-answered wires kept b o e h reply = W₁.kept-none (λ (f : List ℕ → List ℕ). SameLack write (f read) write′ (f read′)) kept b o h reply
+owns : (k : Channel) → Owns k
+owns peripheral = P₁.owns
+owns wires = W₁.owns
 
 -- ---- another channel's call, in two worlds alike but for x
 
 record Together (x : Channel) (o q : Outcome) : Type 0 where
-  shows : seen x o ≡ seen x q
+  alike : seen x o ≡ seen x q
   next : Alike x (o .next) (q .next)
 
 module _ (x : Channel) (w v : World) (h : Alike x w v) where
@@ -212,42 +187,42 @@ module _ (x : Channel) (w v : World) (h : Alike x w v) where
   exchanged-together : (b : List ℕ) (n : ℕ) (y : Say) (kept : Kept) (s t s′ t′ : State) → StatesAlike x s t → StatesAlike x s′ t′
       → bodyOf y w ≡ bodyOf y v
       → SameLack (over (keptBytes kept b) (w .write)) (w .read) (over (keptBytes kept b) (v .write)) (v .read)
-      → Together x (exchanged w b (record { number = n; reply = withStatus y (status s); next = s′; kept = kept }))
-      (exchanged v b (record { number = n; reply = withStatus y (status t); next = t′; kept = kept }))
-  unfolding exchanged seen
+      → Together x (performed w b (record { number = n; reply = withStatus y (status s); next = s′; kept = kept }))
+      (performed v b (record { number = n; reply = withStatus y (status t); next = t′; kept = kept }))
+  unfolding performed seen
   exchanged-together b n y kept s t s′ t′ g g′ e l =
       let reply : List ℕ = replyBut x (replyBytes (withStatus y (status s)) (w .state .wires) (w .read)) in
       let value : ℕ = length (replyBytes (withStatus y (status t)) (v .state .wires) (v .read)) in
       record {
-        shows =
+        alike =
             ap (λ (z : ℕ). record { number = n; value = z; report = []; reply = reply }) (said-length x s t g w v y e)
             ∙ ap (λ (z : List ℕ). record { number = n; value = value; report = []; reply = z }) (said-but x s t g w v y e);
-        next = record { state = g′; stores = λ z f. stores-written z (keptBytes kept b) (w .write) (w .read) (v .write) (v .read) (h .stores z f); room = l };
+        next = record { state = g′; stores = λ z f. owns z .written (keptBytes kept b) (w .write) (w .read) (v .write) (v .read) (h .stores z f); room = l };
       }
 
   -- above all channels nothing is kept and no store is read
   above-together : (b : List ℕ) (n : ℕ) (y : Say) (s′ t′ : State) → StatesAlike x s′ t′ → bodyOf y w ≡ bodyOf y v
-      → Together x (exchanged w b (record { number = n; reply = withStatus y (status (w .state)); next = s′; kept = K.Nothing }))
-      (exchanged v b (record { number = n; reply = withStatus y (status (v .state)); next = t′; kept = K.Nothing }))
+      → Together x (performed w b (record { number = n; reply = withStatus y (status (w .state)); next = s′; kept = K.Nothing }))
+      (performed v b (record { number = n; reply = withStatus y (status (v .state)); next = t′; kept = K.Nothing }))
   unfolding over
   above-together b n y s′ t′ g e = exchanged-together b n y K.Nothing (w .state) (v .state) s′ t′ (h .state) g e (h .room)
 
   module _ (k : Channel) (other : same x k ≡ false) where
     out-together : (b : List ℕ) (q : Part k) (n : ℕ) (y : Say) (kept : Kept) → bodyOf y w ≡ bodyOf y v → ownKept k kept ≡ true
-        → Together x (exchanged w b (lift k (w .state) (change k q (record { number = n; say = y; kept = kept }))))
-        (exchanged v b (lift k (v .state) (change k q (record { number = n; say = y; kept = kept }))))
+        → Together x (performed w b (lift k (w .state) (change k q (record { number = n; say = y; kept = kept }))))
+        (performed v b (lift k (v .state) (change k q (record { number = n; say = y; kept = kept }))))
     out-together b q n y kept e o =
         let out : Out = record { number = n; say = y; kept = kept } in
         let g = put-alike x k q (w .state) (v .state) (h .state) in
-        subst (λ (p : Plan). Together x (exchanged w b p) (exchanged v b (lift k (v .state) (change k q out)))) (sym (lift-change k (w .state) q out))
-        (subst (λ (p : Plan). Together x (exchanged w b (planned (put k q (w .state)) out)) (exchanged v b p)) (sym (lift-change k (v .state) q out))
-        (exchanged-together b n y kept _ _ _ _ g g e (lack-written (w .write) (w .read) (v .write) (v .read) k kept b o (h .stores k other) (h .room))))
+        subst (λ (p : Plan). Together x (performed w b p) (performed v b (lift k (v .state) (change k q out)))) (sym (lift-change k (w .state) q out))
+        (subst (λ (p : Plan). Together x (performed w b (planned (put k q (w .state)) out)) (performed v b p)) (sym (lift-change k (v .state) q out))
+        (exchanged-together b n y kept _ _ _ _ g g e (owns k .lackWritten kept b (w .write) (w .read) (v .write) (v .read) o (h .stores k other) (h .room))))
 
     acts-together : (b : List ℕ) {p : Part k} {a : Act k} {c : Change k} → Acts k p a c
-        → Together x (exchanged w b (lift k (w .state) c)) (exchanged v b (lift k (v .state) c))
-    acts-together b {p = p} L.Acts.refused = out-together b p 1 _ K.Nothing refl (none-own k)
+        → Together x (performed w b (lift k (w .state) c)) (performed v b (lift k (v .state) c))
+    acts-together b {p = p} L.Acts.refused = out-together b p 1 _ K.Nothing refl (owns k .nothing)
     acts-together b (L.Acts.accepted q body kept o n) =
-        out-together b q 0 (Y.Said _ body) kept (own-bytes k body w v o (h .state .parts k other) (h .stores k other)) n
+        out-together b q 0 (Y.Said _ body) kept (owns k .bytes body w v o (h .state .parts k other) (h .stores k other)) n
 
     -- its change is the same in both
     acting-alike : (o : Command k) (b : List ℕ)
@@ -262,47 +237,47 @@ module _ (x : Channel) (w v : World) (h : Alike x w v) where
         ∙ ap (λ (p : Part k). settle k (v .state .config) p o) (h .state .parts k other)
 
     settled-together : (o : Board k) (q : Part k) (out : Out) → ownKept k (out .kept) ≡ true
-        → Together x (settled k w o (lift k (w .state) (change k q out))) (settled k v o (lift k (v .state) (change k q out)))
-    unfolding settled seen
+        → Together x (served k w o (lift k (w .state) (change k q out))) (served k v o (lift k (v .state) (change k q out)))
+    unfolding served seen
     settled-together o q out n =
-        subst (λ (p : Plan). Together x (settled k w o p) (settled k v o (lift k (v .state) (change k q out)))) (sym (lift-change k (w .state) q out))
-        (subst (λ (p : Plan). Together x (settled k w o (planned (put k q (w .state)) out)) (settled k v o p)) (sym (lift-change k (v .state) q out)) both-settled)
+        subst (λ (p : Plan). Together x (served k w o p) (served k v o (lift k (v .state) (change k q out)))) (sym (lift-change k (w .state) q out))
+        (subst (λ (p : Plan). Together x (served k w o (planned (put k q (w .state)) out)) (served k v o p)) (sym (lift-change k (v .state) q out)) both-settled)
       where
-        both-settled : Together x (settled k w o (planned (put k q (w .state)) out)) (settled k v o (planned (put k q (v .state)) out))
+        both-settled : Together x (served k w o (planned (put k q (w .state)) out)) (served k v o (planned (put k q (v .state)) out))
         both-settled =
             record {
-              shows = ap (λ (p : Part k). record { number = out .number; value = valueOf k p o; report = reportOf k p o; reply = [] }) (h .state .parts k other);
+              alike = ap (λ (p : Part k). record { number = out .number; value = valueOf k p o; report = reportOf k p o; reply = [] }) (h .state .parts k other);
               next = record {
                 state = put-alike x k q (w .state) (v .state) (h .state);
-                stores = λ y f. stores-answered y (keptBytes (out .kept) (given k o)) (w .write) (w .read) (v .write) (v .read) (h .stores y f);
-                room = lack-answered (w .write) (w .read) (v .write) (v .read) k (out .kept) (given k o) n (h .stores k other) (h .room);
+                stores = λ y f. owns y .answered (keptBytes (out .kept) (given k o)) (w .write) (w .read) (v .write) (v .read) (h .stores y f);
+                room = owns k .lackAnswered (out .kept) (given k o) (w .write) (w .read) (v .write) (v .read) n (h .stores k other) (h .room);
               };
             }
 
     settles-together : (o : Board k) {p : Part k} {c : Change k} → Settles k p o c
-        → Together x (settled k w o (lift k (w .state) c)) (settled k v o (lift k (v .state) c))
-    settles-together o {p = p} (L.Settles.refused n a b e f) = settled-together o p _ (none-own k)
+        → Together x (served k w o (lift k (w .state) c)) (served k v o (lift k (v .state) c))
+    settles-together o {p = p} (L.Settles.refused n a b e f) = settled-together o p _ (owns k .nothing)
     settles-together o (L.Settles.accepted q kept n) = settled-together o q _ n
 
   reconfigured-alike : (a n : ℕ)
       → StatesAlike x (reconfigured (w .state) (writeAt (w .state .config) a n)) (reconfigured (v .state) (writeAt (v .state .config) a n))
   reconfigured-alike a n =
       each-alike x _ _ _ _ (w .state) (v .state) (ap (λ (c : Config). writeAt c a n) (h .state .config))
-      (λ k p. ap (λ (c : Config). edge k (on k c) (on k (writeAt c a n)) p) (h .state .config)) (h .state)
+      (λ k p. ap (λ (c : Config). enableEdge k (on k c) (on k (writeAt c a n)) p) (h .state .config)) (h .state)
 
   other-call : {c : Call} {o q : Outcome} → Both w v c o q → isCallOf x c ≡ false → Together x o q
   unfolding seen
-  other-call (T.idle n) e = record { shows = refl; next = h }
+  other-call (T.idle n) e = record { alike = refl; next = h }
   other-call (T.status {b = b}) e = above-together b 0 (Y.Said Accept B.Nothing) (w .state) (v .state) (h .state) refl
   other-call (T.register {b = b} a) e =
-      subst (λ (c : Config). Together x (T.registered b a w) (exchanged v b (show (B.Word (readAt c a)) (v .state)))) (h .state .config)
+      subst (λ (c : Config). Together x (T.registered b a w) (performed v b (show (B.Word (readAt c a)) (v .state)))) (h .state .config)
       (above-together b 0 (Y.Said Accept (B.Word (readAt (w .state .config) a))) (w .state) (v .state) (h .state) refl)
   other-call (T.acted {b = b} k o r a) e =
       let n = sym (own-command x k (w .state) b o a) ∙ e in
-      subst (λ (c : Change k). Together x (T.actedOn k o b w) (exchanged v b (lift k (v .state) c))) (acting-alike k n o b)
+      subst (λ (c : Change k). Together x (T.actedOn k o b w) (performed v b (lift k (v .state) c))) (acting-alike k n o b)
       (acts-together k n b (L₁.acts k _ _ _ _ (Q.did k _ _ _)))
   other-call (T.settles k o r) e =
-      subst (λ (c : Change k). Together x (T.boarded k o w) (settled k v o (lift k (v .state) c))) (settle-alike k e o)
+      subst (λ (c : Change k). Together x (T.boarded k o w) (served k v o (lift k (v .state) c))) (settle-alike k e o)
       (settles-together k e o (L₁.board-settles k (w .state) o))
   other-call (T.forbidden {b = b}) e = above-together b 2 (Y.Said NonFatal B.Nothing) (w .state) (v .state) (h .state) refl
   other-call (T.configured {b = b} a n r) e = above-together b 0 (Y.Said Accept B.Nothing) _ _ (reconfigured-alike a n) refl
@@ -312,14 +287,14 @@ module _ (x : Channel) (w v : World) (h : Alike x w v) where
       (ap (λ (c : Config). record { r008 = fresh008; r010 = c .r010; r020 = c .r020 }) (h .state .config)) (λ k p. refl) (h .state)) refl
   other-call (T.wiped {r = r}) e =
       record {
-        shows = refl;
+        alike = refl;
         next = record {
           state = each-alike x (λ k. N.reset k r) (λ k. N.reset k r) _ _ (w .state) (v .state) (ap (configReset r) (h .state .config)) (λ k p. refl) (h .state);
           stores = h .stores;
           room = h .room;
         };
       }
-  other-call T.lent e = record { shows = refl; next = record { state = h .state; stores = λ y f. refl; room = λ r. refl } }
+  other-call T.lent e = record { alike = refl; next = record { state = h .state; stores = λ y f. refl; room = λ r. refl } }
 
 -- ---- a call of x's own: it leaves the other parts, the others' stores, and of its own stores whether they are long enough
 
@@ -328,11 +303,6 @@ middle true b c e = absurd (true≢false e)
 middle false true c e = absurd (true≢false e)
 middle false false c e = refl
 
-room-kept : (k : Channel) (w : World) (c : Config) (p : Part k) (o : Board k) (x : Change k) → Settled k c p o x → shortFor k o w ≡ false
-    → ltb (length (over (keptBytes (outOf k x .kept) (given k o)) (w .read))) readLength ≡ ltb (length (w .read)) readLength
-room-kept peripheral w c p o x d s = P₁.room w d s
-room-kept wires w c p o x d s = W₁.room w d
-
 -- data of k's own stays out of the others' stores
 module _ (b write read : List ℕ) where
   abbrev StoresStay : Channel → (List ℕ → List ℕ) → Type 0
@@ -340,13 +310,12 @@ module _ (b write read : List ℕ) where
 
   stores-own : (k y : Channel) (kept : Kept) → ownKept k kept ≡ true → same k y ≡ false → StoresStay y (over (keptBytes kept b))
   stores-own k wires kept o e = (refl, refl)
-  stores-own peripheral peripheral kept o e = absurd (true≢false e)
-  stores-own wires peripheral kept o e = W₁.kept-none (StoresStay peripheral) kept b o (refl, refl)
+  stores-own k peripheral kept o e = kept-other (StoresStay peripheral) k (same-turned k peripheral e) kept b o (refl, refl)
 
 module _ (k : Channel) (w : World) where
   acts-own : (b r : List ℕ) {p : Part k} {a : Act k} {c : Change k} → Acts k p a c → shortStores r w ≡ false
-      → Alike k (exchanged w b (lift k (w .state) c) .next) w
-  unfolding exchanged lift
+      → Alike k (performed w b (lift k (w .state) c) .next) w
+  unfolding performed lift
   acts-own b r {c = c} d s =
       record {
         state = put-own k (nextOf k c) (w .state);
@@ -358,21 +327,21 @@ module _ (k : Channel) (w : World) where
       long = over-long _ (w .write) writeLength (middle (ltb (length r) replyLength) (ltb (length (w .write)) writeLength) (ltb (length (w .read)) readLength) s)
 
       kept-own : {p : Part k} {a : Act k} {c : Change k} → Acts k p a c → ownKept k (outOf k c .kept) ≡ true
-      kept-own {p = p} L.Acts.refused = ap (λ (out : Out). ownKept k (out .kept)) (out-change k p _) ∙ none-own k
+      kept-own {p = p} L.Acts.refused = ap (λ (out : Out). ownKept k (out .kept)) (out-change k p _) ∙ owns k .nothing
       kept-own (L.Acts.accepted q body kept o n) = ap (λ (out : Out). ownKept k (out .kept)) (out-change k q _) ∙ n
 
   settled-own : (o : Board k) (x : Change k) → Settled k (w .state .config) (part k (w .state)) o x → shortFor k o w ≡ false
-      → Alike k (settled k w o (lift k (w .state) x) .next) w
-  unfolding settled lift
+      → Alike k (served k w o (lift k (w .state) x) .next) w
+  unfolding served lift
   settled-own o x d s =
       record {
         state = put-own k (nextOf k x) (w .state);
         stores = λ y e. stores-own (given k o) (w .write) (w .read) k y (outOf k x .kept) (kept-own (L₁.settled k _ _ o x d)) e .1;
-        room = λ reply. ap (λ (t : Bool). ltb (length reply) replyLength || (ltb (length (w .write)) writeLength || t)) (room-kept k w _ _ o x d s);
+        room = λ reply. ap (λ (t : Bool). ltb (length reply) replyLength || (ltb (length (w .write)) writeLength || t)) (owns k .room w _ _ o x d s);
       }
     where
       kept-own : {p : Part k} {c : Change k} → Settles k p o c → ownKept k (outOf k c .kept) ≡ true
-      kept-own {p = p} (L.Settles.refused n a b e f) = ap (λ (out : Out). ownKept k (out .kept)) (out-change k p _) ∙ none-own k
+      kept-own {p = p} (L.Settles.refused n a b e f) = ap (λ (out : Out). ownKept k (out .kept)) (out-change k p _) ∙ owns k .nothing
       kept-own (L.Settles.accepted q kept n) = ap (λ (out : Out). ownKept k (out .kept)) (out-change k q _) ∙ n
 
 module _ (x : Channel) (w : World) where
@@ -380,7 +349,7 @@ module _ (x : Channel) (w : World) where
   no-command b o op a e f g = true≢false (sym g ∙ begins x (w .state) b o a ∙ ap (isOf x) e ∙ f)
 
   own-call : {c : Call} {o q : Outcome} → Both w w c o q → isCallOf x c ≡ true → Alike x (o .next) w
-  unfolding exchanged over
+  unfolding performed over
   own-call (T.idle n) e = self x w
   own-call T.status e = self x w
   own-call (T.register a) e = self x w
@@ -400,11 +369,7 @@ module _ (x : Channel) (w : World) where
 same-room : (x : Channel) (w v : World) → Alike x w v → (c : Call) → isCallOf x c ≡ false → SameRoom w v c
 same-room x w v h (reset r) e = tt
 same-room x w v h (exchange b r) e = h .room r
-same-room x w v h (board k o) e = short-alike k o (h .stores k e)
-  where
-    short-alike : (k : Channel) (o : Board k) → storesOf k (w .write) (w .read) ≡ storesOf k (v .write) (v .read) → shortFor k o w ≡ shortFor k o v
-    short-alike peripheral o q = P₁.short-alike w v o q
-    short-alike wires o q = refl
+same-room x w v h (board k o) e = owns k .shortAlike w v o (h .stores k e)
 same-room x w v h (short state c) e = tt
 same-room x w v h (lend write read) e = tt
 
@@ -449,7 +414,7 @@ sifted x (c ∷ cs) w v h = go (isCallOf x c) refl (sifted x cs)
         (record {
           calls =
               seeing-other x w c cs e
-              ∙ ap (λ (z : Seen). z ∷ seeing x (step w c .next) cs) (o .shows)
+              ∙ ap (λ (z : Seen). z ∷ seeing x (step w c .next) cs) (o .alike)
               ∙ ap (λ (z : List Seen). seen x (step v c) ∷ z) (r .calls)
               ∙ sym (seeing-other x v c (others x cs) e);
           after = r .after;
@@ -466,15 +431,11 @@ none-tells x w v cs ds h e =
 to-wires : {w v : World} → SameButWires w v → Alike wires w v
 to-wires {w} {v} h =
     record {
-      state = record { config = h .config; parts = parts };
+      state = h .state;
       stores = stores;
       room = λ reply. ap (λ (l : List ℕ). lacks reply l (w .read)) (h .write) ∙ ap (lacks reply (v .write)) (h .read);
     }
   where
-    parts : (y : Channel) → same wires y ≡ false → part y (w .state) ≡ part y (v .state)
-    parts peripheral e = h .peripheral
-    parts wires e = absurd (true≢false e)
-
     stores : (y : Channel) → same wires y ≡ false → storesOf y (w .write) (w .read) ≡ storesOf y (v .write) (v .read)
     stores peripheral e = ap (λ (l : List ℕ). l ∷ w .read ∷ []) (h .write) ∙ ap (λ (l : List ℕ). v .write ∷ l ∷ []) (h .read)
     stores wires e = refl
@@ -482,8 +443,7 @@ to-wires {w} {v} h =
 from-wires : {w v : World} → Alike wires w v → SameButWires w v
 from-wires h =
     record {
-      config = h .state .config;
-      peripheral = h .state .parts peripheral refl;
+      state = h .state;
       write = ap (λ (l : List (List ℕ)). getD l 0 []) (h .stores peripheral refl);
       read = ap (λ (l : List (List ℕ)). getD l 1 []) (h .stores peripheral refl);
     }
@@ -492,18 +452,14 @@ pub wires-apart : WiresApart
 wires-apart w v cs ds h e = let r = none-tells wires w v cs ds (to-wires h) e in record { calls = r .calls; after = from-wires (r .after) }
 
 to-peripheral : {w v : World} → SameButPeripheral w v → Alike peripheral w v
-to-peripheral {w} {v} h = record { state = record { config = h .config; parts = parts }; stores = stores; room = h .room }
+to-peripheral {w} {v} h = record { state = h .state; stores = stores; room = h .room }
   where
-    parts : (y : Channel) → same peripheral y ≡ false → part y (w .state) ≡ part y (v .state)
-    parts peripheral e = absurd (true≢false e)
-    parts wires e = h .wires
-
     stores : (y : Channel) → same peripheral y ≡ false → storesOf y (w .write) (w .read) ≡ storesOf y (v .write) (v .read)
     stores peripheral e = absurd (true≢false e)
     stores wires e = refl
 
 from-peripheral : {w v : World} → Alike peripheral w v → SameButPeripheral w v
-from-peripheral h = record { config = h .state .config; wires = h .state .parts wires refl; room = h .room }
+from-peripheral h = record { state = h .state; room = h .room }
 
 pub peripheral-apart : PeripheralApart
 peripheral-apart w v cs ds h e = let r = none-tells peripheral w v cs ds (to-peripheral h) e in record { calls = r .calls; after = from-peripheral (r .after) }

@@ -21,7 +21,7 @@ use Rattle.rules.specs.Rules.Peripheral.{look, requestReport, lookReport
 use Rattle.rules.specs.Rules.Channel.{peripheral}
 use Rattle.rules.specs.Rules.Lift.{lift}
 use Rattle.rules.specs.Rules.Reply.{closed}
-use Rattle.rules.specs.Rules.Step.{World, Call, exchange, board, Outcome, step, run, settled, lookLength, areBytes}
+use Rattle.rules.specs.Rules.Step.{World, Call, exchange, board, Outcome, step, run, served, lookLength, areBytes}
 use Rattle.rules.specs.Statements.Peripheral as P
 use Rattle.rules.specs.Statements.Fields.{byte, isNonPosted, accessAddress, accessLength, requestKind, ioBytes}
 use Rattle.rules.specs.Statements.Reads.{requestIn}
@@ -145,12 +145,12 @@ four-bytes (op ∷ r) h =
 
 looks-number : {p : Peripheral} {report : List ℕ} {x : PeripheralChange} (q : Request) → p .request ≡ Waiting q → P.Settled p (look report) x
     → x .out .number ≡ 0
-looks-number q h (P.looked e) = refl
+looks-number q h (P.lookDone e) = refl
 looks-number q h (P.noLook e) = absurd (true≢false (sym (ap P.unanswered h) ∙ e))
 
 looked-at : (q : Request) (w : World) (report : List ℕ) → held w ≡ Waiting q → lookLength ≤ length report
     → (step w (board peripheral (look report)) .number ≡ 0) × (step w (board peripheral (look report)) .report ≡ requestReport q (serialOf w))
-unfolding settled lift
+unfolding served lift
 looked-at q w report h l =
     let o = board-long peripheral w (look report) (le-ltb _ _ l) in (
       ap (λ (x : Outcome). x .number) o ∙ looks-number q h (L.settles (w .state .config) (w .state .peripheral) (look report)),

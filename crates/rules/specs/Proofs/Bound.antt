@@ -28,7 +28,7 @@ use Rattle.rules.specs.Rules.Channel.{peripheral, wires, on}
 use Rattle.rules.specs.Rules.Reply.{closed}
 use Rattle.rules.specs.Rules.Step.{World, Call, reset, exchange, board, short, lend, Outcome, step, run, handedOver, allHanded}
 use Rattle.rules.specs.Statements.Fields.{byte, pairs, registerAt, registerValue}
-use Rattle.rules.specs.Statements.Events.{accepted, registerOf, ends, unended}
+use Rattle.rules.specs.Statements.Events.{accepted, enablesAt, ends, unended}
 use Rattle.rules.specs.Statements.WireEvents as Ev
 use Rattle.rules.specs.Statements.WireEvents.{WireEvent, idle, puts, gets, sets, enables, switchesOn, acceptedWire, wireEventOf, wireEvent, wiresOf, countOf, oneIfGets, getsIn}
 use Rattle.rules.specs.Statements.WireView.{WireMove, still, put, sent, set, enabled, disabled, wiped, platformWiped}
@@ -105,7 +105,7 @@ no-end w c e =
 switched-off : (s : State) (b : List ℕ) → switchesOn s b ≡ true → on wires (s .config) ≡ false
 switched-off s b e =
     not-true _ (and-left (not (on wires (s .config))) (eqb (registerValue b % 2) 1)
-    (and-right (eqb (registerAt b) (registerOf wires)) _ (and-right (eqb (byte b 0) 0x22) _ e)))
+    (and-right (enablesAt wires (registerAt b)) _ (and-right (eqb (byte b 0) 0x22) _ e)))
 
 -- ---- the wires are such a machine
 

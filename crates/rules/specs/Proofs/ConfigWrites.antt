@@ -7,8 +7,8 @@ use mathlib.Core.Path.{_≡_, refl, sym, ap, _∙_, subst}
 use native.Mathlib.Nat.{zero-div}
 use native.Mathlib.Omega.{arith}
 use lib.Dec.{eqb}
-use borrow.Author.Tests.{eq-eqb, eqb-true, eqb-false, ne-eqb}
-use Rattle.base.specs.Pick.{or-second, and-left, and-right}
+use borrow.Author.Tests.{eqb-true, eqb-false, ne-eqb}
+use Rattle.base.specs.Pick.{pick, or-second, and-left, and-right}
 use Rattle.registers.specs.Registers.{field, masked, readied}
 use Rattle.registers.specs.Laws.{field-kept, field-written, written010, written020, bit-zero, by-address}
 use Rattle.registers.specs.declared.Config.{Config}
@@ -19,20 +19,22 @@ use Rattle.rules.specs.Rules.Peripheral as P
 use Rattle.rules.specs.Rules.Wires as W
 use Rattle.rules.specs.Rules.Channel.{Channel, peripheral, wires, Part, Board, part}
 use Rattle.rules.specs.Rules.Reply.{replyBytes, closed}
-use Rattle.rules.specs.Rules.Step.{World, Call, reset, exchange, board, short, lend, Outcome, step, exchanged}
+use Rattle.rules.specs.Rules.Step.{World, Call, reset, exchange, board, short, lend, Outcome, step, performed}
 use Rattle.rules.specs.Statements.Plans as N
 use Rattle.rules.specs.Statements.Cases.{Case, idle, shown, acted, settles, forbidden, configured, cleared, wiped, lent}
 use Rattle.rules.specs.Statements.Fields.{byte, registerAt, registerValue}
 use Rattle.rules.specs.Statements.Sizes.{isEnabled}
-use Rattle.rules.specs.Statements.Events.{registerOf}
+use Rattle.rules.specs.Statements.Events.{enablesAt}
 use Rattle.rules.specs.Statements.Shape.{replyOf}
-use Rattle.rules.specs.Statements.Effects.{switched, withRegisters, afterRegister, valueEnables, switchedState, writtenState, boardEffect, exchangeEffect, effect}
+use Rattle.rules.specs.Statements.Effects.{switched, valueEnables, writtenPart, writtenState, boardEffect, exchangeEffect, effect}
 use Rattle.rules.specs.Statements.ConfigWrites.{bitOf, writableBits, valueAt, BitsWritten, turns, Configured, boardOnlyReads, onlyReads, registerBytes, ConfigWrites}
+use Rattle.rules.specs.Proofs.Peripheral.Effects as P₁
+use Rattle.rules.specs.Proofs.Wires.Effects as W₁
 use Rattle.rules.specs.Proofs.Fields.{one}
 use Rattle.rules.specs.Proofs.Reads as R
 use Rattle.rules.specs.Proofs.Reads.{one-of}
 use Rattle.rules.specs.Proofs.Cases.{cases}
-use Rattle.rules.specs.Proofs.Lift.{put-each}
+use Rattle.rules.specs.Proofs.Lift.{part-each}
 use Rattle.rules.specs.Proofs.Effects.{effects, after-call, command-own, above, not-ours}
 
 -- ---- a mask and its complement, bit by bit: one computed test
@@ -108,12 +110,12 @@ module _ (s : State) (v : ℕ) where
         ready = λ _. written020 (c .r020) v .ready ∙ sym (bit-zero v);
         kept = λ k l e n. readied-bit k l n (masked (c .r020 .value) v 0x003F0001) ∙ bit-kept 0x003F0001 refl k l (c .r020 .value) v e;
       })
-      (λ a e8 e10 e20. let same : after a ≡ s = rw (e8, e10, e20) in
+      (λ a e8 e10 e20. let same : after a .config ≡ c = rw (e8, e10, e20) in
       let none : writableBits a ≡ 0 = rw (e8, e10, e20) in
       record {
         written = λ k l e. absurd (no-bits k (ap (bitOf k) (sym none) ∙ e));
         ready = λ e. absurd (true≢false (sym e ∙ rw (e10, e20)));
-        kept = λ k l e n. ap (λ (t : State). bitOf k (valueAt (t .config) a)) same;
+        kept = λ k l e n. ap (λ (d : Config). bitOf k (valueAt d a)) same;
       })
 
   others-at : (x a : ℕ) → x ≢ a → valueAt (after a .config) x ≡ valueAt c x
@@ -124,36 +126,25 @@ module _ (s : State) (v : ℕ) where
   -- ---- the parts
 
   no-turn : (k : Channel) (was is : Bool) (p : Part k) → turns k was is ≡ false → switched k was is p ≡ p
-  no-turn peripheral true true p e = refl
-  no-turn peripheral true false p e = absurd (true≢false e)
-  no-turn peripheral false true p e = refl
-  no-turn peripheral false false p e = refl
-  no-turn wires true true p e = refl
-  no-turn wires true false p e = absurd (true≢false e)
-  no-turn wires false true p e = absurd (true≢false e)
-  no-turn wires false false p e = refl
+  no-turn peripheral = P₁.no-turn
+  no-turn wires = W₁.no-turn
 
-  part-registers : (k : Channel) (d : Config) → part k (withRegisters s d) ≡ part k s
-  part-registers peripheral d = refl
-  part-registers wires d = refl
+  -- 0 to 0 and 1 to 1
+  switched-same : (k : Channel) (t : Bool) (p : Part k) → switched k t t p ≡ p
+  switched-same peripheral = P₁.switched-same
+  switched-same wires = W₁.switched-same
 
   -- a write of this address does not turn this channel
   abbrev Unturned : ℕ → Channel → Type 0
-  Unturned a k = (eqb a (registerOf k) && turns k (isEnabled k c) (valueEnables v)) ≡ false
-
-  parts-register : (j k : Channel) → Unturned (registerOf j) k → part k (switchedState j s v) ≡ part k s
-  parts-register j =
-      put-each (λ k p. Unturned (registerOf j) k → p ≡ part k s) j (switched j (isEnabled j c) (valueEnables v) (part j s)) (withRegisters s (afterRegister j c v))
-      (λ h. no-turn j (isEnabled j c) (valueEnables v) (part j s) (sym (ap (λ (t : Bool). t && turns j (isEnabled j c) (valueEnables v)) (eq-eqb (registerOf j) _ refl)) ∙ h))
-      (λ k _. part-registers k (afterRegister j c v))
+  Unturned a k = (enablesAt k a && turns k (isEnabled k c) (valueEnables v)) ≡ false
 
   pub parts-at : (k : Channel) (a : ℕ) → Unturned a k → part k (after a) ≡ part k s
-  parts-at k =
-      by-address (λ (a : ℕ). Unturned a k → part k (after a) ≡ part k s) (λ _. part-registers k _) (parts-register peripheral k) (parts-register wires k)
-      (λ a e8 e10 e20 _. ap (part k) (elsewhere a e8 e10 e20))
+  parts-at k a h = part-each (writtenPart c a v) _ s k ∙ go (enablesAt k a) h
     where
-      elsewhere : (a : ℕ) → eqb a 0x008 ≡ false → eqb a 0x010 ≡ false → eqb a 0x020 ≡ false → after a ≡ s
-      elsewhere a e8 e10 e20 = rw (e8, e10, e20)
+      go : (t : Bool) → (t && turns k (isEnabled k c) (valueEnables v)) ≡ false
+          → switched k (isEnabled k c) (pick t (valueEnables v) (isEnabled k c)) (part k s) ≡ part k s
+      go true e = no-turn k (isEnabled k c) (valueEnables v) (part k s) e
+      go false e = switched-same k (isEnabled k c) (part k s)
 
 -- ---- the statements
 
@@ -181,7 +172,7 @@ abbrev Shown : World → List ℕ → Outcome → Type 0
 Shown w b o = byte b 0 ≡ 0x21 → o .number ≡ 0 → o .reply ≡ replyOf 0x08 (registerBytes (valueAt (w .state .config) (registerAt b))) (status (w .state))
 
 read-case : (w : World) {c : Call} {o : Outcome} → Case w c o → Shown w (commandBytes c) o
-unfolding exchanged replyBytes closed
+unfolding performed replyBytes closed
 read-case w (idle n q) h z = absurd (omega (arith, q .least))
 read-case w (shown {b} (N.status e)) h z = absurd (omega (arith, R.reads (w .state) b C.GetStatus e))
 read-case w (shown {b} (N.register a e)) h z =

@@ -13,14 +13,14 @@ use Rattle.registers.specs.declared.Config.{Config}
 use Rattle.state.specs.declared.State.{State}
 use Rattle.rules.specs.Rules.Channel.{Channel, peripheral, wires, on}
 use Rattle.rules.specs.Rules.Step.{World, Call, step}
-use Rattle.rules.specs.Statements.Events.{registerOf, disables, ends, unended}
+use Rattle.rules.specs.Statements.Events.{enablesAt, disables, ends, unended}
 use Rattle.rules.specs.Statements.Fields.{byte, registerAt, registerValue}
 use Rattle.rules.specs.Statements.Reads.{Writes}
 use Rattle.rules.specs.Statements.Requests.{without}
 
 -- ---- the edge of an enable bit
 
-enable-written : (k : Channel) (c : Config) (a v : ℕ) → on k (writeAt c a v) ≡ pick (eqb a (registerOf k)) (eqb (v % 2) 1) (on k c)
+pub enable-written : (k : Channel) (c : Config) (a v : ℕ) → on k (writeAt c a v) ≡ pick (enablesAt k a) (eqb (v % 2) 1) (on k c)
 enable-written peripheral c a v =
     by-address (λ (x : ℕ). on0 (writeAt c x v .r010) ≡ pick (eqb x 0x010) (eqb (v % 2) 1) (on0 (c .r010))) refl (on0-written (c .r010) v) refl
     (λ x e f g. rw (e, f, g)) a
@@ -37,8 +37,8 @@ one-or-zero v = go (eqb (v % 2) 1) (eqb (v % 2) 0) refl refl
     go false true e f = refl
     go false false e f = absurd (omega (arith, eqb-false (v % 2) 1 e, eqb-false (v % 2) 0 f))
 
-falling-edge : (k : Channel) (c : Config) (a v : ℕ) → on k c && not (on k (writeAt c a v)) ≡ eqb a (registerOf k) && (on k c && eqb (v % 2) 0)
-falling-edge k c a v = ap (λ (t : Bool). on k c && not t) (enable-written k c a v) ∙ go (eqb a (registerOf k)) (on k c)
+falling-edge : (k : Channel) (c : Config) (a v : ℕ) → on k c && not (on k (writeAt c a v)) ≡ enablesAt k a && (on k c && eqb (v % 2) 0)
+falling-edge k c a v = ap (λ (t : Bool). on k c && not t) (enable-written k c a v) ∙ go (enablesAt k a) (on k c)
   where
     go : (t was : Bool) → was && not (pick t (eqb (v % 2) 1) was) ≡ t && (was && eqb (v % 2) 0)
     go true true = one-or-zero v
@@ -46,8 +46,8 @@ falling-edge k c a v = ap (λ (t : Bool). on k c && not t) (enable-written k c a
     go false true = refl
     go false false = refl
 
-pub rising-edge : (k : Channel) (c : Config) (a v : ℕ) → not (on k c) && on k (writeAt c a v) ≡ eqb a (registerOf k) && (not (on k c) && eqb (v % 2) 1)
-rising-edge k c a v = ap (λ (t : Bool). not (on k c) && t) (enable-written k c a v) ∙ go (eqb a (registerOf k)) (on k c)
+pub rising-edge : (k : Channel) (c : Config) (a v : ℕ) → not (on k c) && on k (writeAt c a v) ≡ enablesAt k a && (not (on k c) && eqb (v % 2) 1)
+rising-edge k c a v = ap (λ (t : Bool). not (on k c) && t) (enable-written k c a v) ∙ go (enablesAt k a) (on k c)
   where
     go : (t was : Bool) → not was && pick t (eqb (v % 2) 1) was ≡ t && (not was && eqb (v % 2) 1)
     go true was = refl
@@ -56,12 +56,12 @@ rising-edge k c a v = ap (λ (t : Bool). not (on k c) && t) (enable-written k c 
 
 -- by the command's bytes: other commands disable nothing, a write the channel whose bit it makes fall
 pub no-disabling : (k : Channel) (s : State) (b : List ℕ) → eqb (byte b 0) 0x22 ≡ false → disables k s b ≡ false
-no-disabling k s b e = ap (λ (t : Bool). t && (eqb (registerAt b) (registerOf k) && (on k (s .config) && eqb (registerValue b % 2) 0))) e
+no-disabling k s b e = ap (λ (t : Bool). t && (enablesAt k (registerAt b) && (on k (s .config) && eqb (registerValue b % 2) 0))) e
 
 pub disabling : (k : Channel) (s : State) (b : List ℕ) (a v : ℕ) → Writes b a v → disables k s b ≡ on k (s .config) && not (on k (writeAt (s .config) a v))
 disabling k s b a v h =
-    ap (λ (op : ℕ). eqb op 0x22 && (eqb (registerAt b) (registerOf k) && (on k (s .config) && eqb (registerValue b % 2) 0))) (h .opcode)
-    ∙ ap₂ (λ (x y : ℕ). eqb x (registerOf k) && (on k (s .config) && eqb (y % 2) 0)) (sym (h .address)) (sym (h .value))
+    ap (λ (op : ℕ). eqb op 0x22 && (enablesAt k (registerAt b) && (on k (s .config) && eqb (registerValue b % 2) 0))) (h .opcode)
+    ∙ ap₂ (λ (x y : ℕ). enablesAt k x && (on k (s .config) && eqb (y % 2) 0)) (sym (h .address)) (sym (h .value))
     ∙ sym (falling-edge k (s .config) a v)
 
 -- ---- a run without an event, call by call

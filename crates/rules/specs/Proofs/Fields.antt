@@ -6,11 +6,11 @@ use native.Mathlib.Omega.{arith}
 use lib.Dec.{eqb}
 use borrow.Author.Tests.{eqb-true, eqb-false}
 use Rattle.base.specs.Pick.{pick, pick-ind, passed}
-use Rattle.command.specs.Opcode.{opcodeOf, shortOf}
+use Rattle.command.specs.Rows.{rowOf, short}
 use Rattle.command.specs.declared.Access.{Access}
 use Rattle.command.specs.declared.Access.the-variants.{IoRead, IoWrite, MemoryRead, MemoryWrite}
-use Rattle.command.specs.declared.Opcode.{Opcode}
-use Rattle.command.specs.declared.Opcode.the-variants as O
+use Rattle.command.specs.declared.Listed.{Listed}
+use Rattle.command.specs.declared.Listed.the-variants.{Unlisted}
 use Rattle.rules.specs.Statements.Fields.{isListed, isPosted, isNonPosted}
 
 pub one : (Q : ℕ → Type 0) (op k : ℕ) → Q k → (eqb op k ≡ false → Q op) → Q op
@@ -21,18 +21,18 @@ one Q op k q else = go (eqb op k) refl
     go false e = else e
 
 -- four values from a multiple of 4 on, without three of them
-no-short : (a : Access) (op q : ℕ) (rest : Opcode) → eqb op (4 * q) ≡ false → eqb op (4 * q + 1) ≡ false → eqb op (4 * q + 3) ≡ false
-    → O.Unknown ≡ rest → O.Unknown ≡ pick (eqb (op / 4) q) (shortOf a (op % 4)) rest
-no-short a op q rest e0 e1 e3 r =
-    pick-ind (λ (o : Opcode). O.Unknown ≡ o) (eqb (op / 4) q)
-    (λ e. let two : op % 4 ≡ 2 = omega (arith, eqb-true (op / 4) q e, eqb-false op (4 * q) e0, eqb-false op (4 * q + 1) e1, eqb-false op (4 * q + 3) e3) in sym (ap (shortOf a) two))
+no-short : (a : Access) (width : ℕ) (writes : Bool) (op q : ℕ) (rest : Listed) → eqb op (4 * q) ≡ false → eqb op (4 * q + 1) ≡ false → eqb op (4 * q + 3) ≡ false
+    → Unlisted ≡ rest → Unlisted ≡ pick (eqb (op / 4) q) (short a width writes (op % 4)) rest
+no-short a n w op q rest e0 e1 e3 r =
+    pick-ind (λ (l : Listed). Unlisted ≡ l) (eqb (op / 4) q)
+    (λ e. let two : op % 4 ≡ 2 = omega (arith, eqb-true (op / 4) q e, eqb-false op (4 * q) e0, eqb-false op (4 * q + 1) e1, eqb-false op (4 * q + 3) e3) in sym (ap (short a n w) two))
     (λ _. r)
 
 -- what holds at each listed opcode and at every other byte holds at all
 pub by-opcode : (Q : ℕ → Type 0)
     → Q 0x00 → Q 0x01 → Q 0x02 → Q 0x04 → Q 0x05 → Q 0x21 → Q 0x22 → Q 0x25 → Q 0xFF
     → Q 0x40 → Q 0x41 → Q 0x43 → Q 0x44 → Q 0x45 → Q 0x47 → Q 0x48 → Q 0x49 → Q 0x4B → Q 0x4C → Q 0x4D → Q 0x4F
-    → ((op : ℕ) → isListed op ≡ false → opcodeOf op ≡ O.Unknown → Q op)
+    → ((op : ℕ) → isListed op ≡ false → rowOf op ≡ Unlisted → Q op)
     → (op : ℕ) → Q op
 by-opcode Q q00 q01 q02 q04 q05 q21 q22 q25 qFF q40 q41 q43 q44 q45 q47 q48 q49 q4B q4C q4D q4F else op =
     one Q op 0x00 q00 λ e00. one Q op 0x01 q01 λ e01. one Q op 0x02 q02 λ e02. one Q op 0x04 q04 λ e04. one Q op 0x05 q05 λ e05.
@@ -44,10 +44,10 @@ by-opcode Q q00 q01 q02 q04 q05 q21 q22 q25 qFF q40 q41 q43 q44 q45 q47 q48 q49 
     else op
     (simp (e00, e01, e02, e04, e05, e21, e22, e25, eFF, e40, e41, e43, e44, e45, e47, e48, e49, e4B, e4C, e4D, e4F))
     (sym (passed _ _ e00 (passed _ _ e01 (passed _ _ e02 (passed _ _ e04 (passed _ _ e05 (passed _ _ e21 (passed _ _ e22 (passed _ _ e25 (passed _ _ eFF
-    (no-short IoRead op 0x10 _ e40 e41 e43
-    (no-short IoWrite op 0x11 _ e44 e45 e47
-    (no-short MemoryRead op 0x12 _ e48 e49 e4B
-    (no-short MemoryWrite op 0x13 _ e4C e4D e4F refl))))))))))))))
+    (no-short IoRead 2 false op 0x10 _ e40 e41 e43
+    (no-short IoWrite 2 true op 0x11 _ e44 e45 e47
+    (no-short MemoryRead 4 false op 0x12 _ e48 e49 e4B
+    (no-short MemoryWrite 4 true op 0x13 _ e4C e4D e4F refl))))))))))))))
 
 -- ---- the opcodes of a kind
 

@@ -1,25 +1,30 @@
 -- Proof of P6, the exchange: the decoder's tests, in order, against the rows of form; then the channel's number by its law, the
 -- configuration's by its test.
-use Prim.Native.Nat.{ℕ, suc, _+_, _-_, _<_}
+use Prim.Native.Nat.{ℕ, suc, _+_, _*_, _<_, _≤_}
 use mathlib.Core.Bool.{Bool, true, false, _&&_, _||_, not, or-false, and-false}
 use mathlib.Core.List.{List, [], _∷_}
 use mathlib.Core.Path.{_≡_, refl, sym, ap, _∙_}
 use native.Mathlib.Omega.{arith}
 use lib.Dec.{eqb, ltb, leb}
 use lib.ListN.{length, getD}
-use borrow.Author.Tests.{not-false}
+use borrow.Author.Tests.{lt-ltb, le-ltb, ltb-true, ltb-false}
 use Rattle.base.specs.Pick.{pick}
 use Rattle.registers.specs.Registers.{crcChecked, forbiddenAt, forbidden008, forbidden010}
 use Rattle.registers.specs.declared.Config.{Config}
-use Rattle.command.specs.Opcode.{opcodeOf, channelOn, hasCycle, cycleListed}
-use Rattle.command.specs.Needs.{needOf, lengthRight, headed}
-use Rattle.command.specs.Decode.{admit, decode, checkedBy, commandOf, opcodeKnown, hasCrc, crcGood, allFF}
-use Rattle.command.specs.declared.Need.the-variants.{Whole, More}
+use Rattle.command.specs.Rows.{rowOf}
+use Rattle.command.specs.Needs.{channelOn, lengthOf, groupCount, allFF, wholeWith, needData, needListed, needIn}
+use Rattle.command.specs.Decode.{admit, readOff, checkedAs, crcGood, crcWrong}
+use Rattle.command.specs.Facts.{cycleWrong}
+use Rattle.command.specs.declared.Data.{Data}
+use Rattle.command.specs.declared.Data.the-variants.{Fixed, Length, Pairs, Ones}
+use Rattle.command.specs.declared.Row.{Row}
+use Rattle.command.specs.declared.Listed.{Listed}
+use Rattle.command.specs.declared.Listed.the-variants.{As, Unlisted}
+use Rattle.command.specs.declared.Need.{Need}
+use Rattle.command.specs.declared.Need.the-variants.{Whole}
 use Rattle.command.specs.declared.Command.{Command}
 use Rattle.command.specs.declared.Decoded.{Decoded}
 use Rattle.command.specs.declared.Decoded.the-variants.{Known, Refused}
-use Rattle.command.specs.declared.Opcode.{Opcode}
-use Rattle.command.specs.declared.Opcode.the-variants as O
 use Rattle.state.specs.declared.State.{State}
 use Rattle.state.specs.Facts.{sound-wires}
 use Rattle.state.specs.Sound.{sound}
@@ -27,7 +32,7 @@ use Rattle.rules.specs.Rules.Channel.{Channel, peripheral, wires, on}
 use Rattle.rules.specs.Rules.Lift.{lift}
 use Rattle.rules.specs.Rules.Exchange as E
 use Rattle.rules.specs.Rules.Exchange.{channelsOf}
-use Rattle.rules.specs.Statements.Fields.{byte, onlyFF, putLength, isListed, registerAt, registerValue}
+use Rattle.rules.specs.Statements.Fields.{byte, onlyFF, cycleWidth, putLength, isListed, registerAt, registerValue}
 use Rattle.rules.specs.Statements.Plans as N
 use Rattle.rules.specs.Statements.Plans.{Admits, Planned}
 use Rattle.rules.specs.Statements.Reads.{Writes}
@@ -49,38 +54,53 @@ abbrev numberIn : Decoded → ℕ
 numberIn (Refused n) = n
 numberIn (Known o) = 0
 
-abbrev tests : Config → List ℕ → Opcode → ℕ
-tests c b op =
-    pick (eqb (length b) 0) 12
-    (pick (not (opcodeKnown op b)) 13
-    (pick (not (channelOn (channelsOf c) op)) 14
-    (pick (hasCycle op && ltb (length b) 2) 12
-    (pick (not (cycleListed op (getD b 1 0))) 15
-    (pick (not (lengthRight (needOf op b) (length b))) 12
-    (pick (crcChecked (c .r008) && (hasCrc (commandOf op b) && not (crcGood b))) 16
-    0))))))
+abbrev crcTest : Config → List ℕ → Row → ℕ
+crcTest c b q = pick (crcWrong (crcChecked (c .r008)) (q .crc) b) 16 0
 
-chain : (c : Config) (b : List ℕ) → numberIn (admit (channelsOf c) (crcChecked (c .r008)) b) ≡ tests c b (opcodeOf (getD b 0 0))
-unfolding admit decode
-chain c b =
-    let op = opcodeOf (getD b 0 0) in
-    let f : Decoded → ℕ = λ d. numberIn (checkedBy (crcChecked (c .r008)) b d) in
-    read-off f (eqb (length b) 0) (λ _. refl)
-    λ _. read-off f (not (opcodeKnown op b)) (λ _. refl)
-    λ _. read-off f (not (channelOn (channelsOf c) op)) (λ _. refl)
-    λ _. read-off f (hasCycle op && ltb (length b) 2) (λ _. refl)
-    λ _. read-off f (not (cycleListed op (getD b 1 0))) (λ _. refl)
-    λ _. read-off f (not (lengthRight (needOf op b) (length b))) (λ _. refl)
-    λ _. read-off numberIn (crcChecked (c .r008) && (hasCrc (commandOf op b) && not (crcGood b))) (λ _. refl) (λ _. refl)
+abbrev wholeTest : Config → List ℕ → Row → ℕ → ℕ
+wholeTest c b q n = pick (not (eqb (length b) n)) 12 (crcTest c b q)
 
--- a header of n bytes, then the whole
-headed-as : (n : ℕ) (b : List ℕ) (u : Bool) (x : ℕ) {W W′ : ℕ} → ltb (length b) n ≡ u → W ≡ W′
-    → pick (not (lengthRight (headed n b W) (length b))) 12 x ≡ pick u 12 (pick (not (eqb (length b) W′)) 12 x)
-headed-as n b u x {W} {W′} eu e = go (ltb (length b) n) ∙ ap (λ (v : Bool). pick v 12 (pick (not (eqb (length b) W′)) 12 x)) eu
-  where
-    go : (t : Bool) → pick (not (lengthRight (pick t (More (n - length b)) (Whole W)) (length b))) 12 x ≡ pick t 12 (pick (not (eqb (length b) W′)) 12 x)
-    go true = refl
-    go false = ap (λ (k : ℕ). pick (not (eqb (length b) k)) 12 x) e
+abbrev dataTests : Config → List ℕ → Row → Data → ℕ
+dataTests c b q (Fixed n) = wholeTest c b q (wholeWith q b n)
+dataTests c b q Length = wholeTest c b q (wholeWith q b (lengthOf (getD b 2 0) (getD b 3 0)))
+dataTests c b q Pairs = wholeTest c b q (wholeWith q b (groupCount (getD b 1 0) * 2))
+dataTests c b q Ones = pick (allFF b) (pick (not (leb 2 (length b))) 13 (crcTest c b q)) 13
+
+abbrev tests : Config → List ℕ → Listed → ℕ
+tests c b Unlisted = 13
+tests c b (As q) =
+    pick (not (channelOn (channelsOf c) (q .channel))) 14
+    (pick (cycleWrong q b) 15
+    (pick (ltb (length b) (q .told)) 12
+    (dataTests c b q (q .carries))))
+
+module _ (c : Config) (b : List ℕ) where
+  abbrev number : Need → ℕ
+  number x = numberIn (readOff (crcChecked (c .r008)) b x)
+
+  crc-chain : (q : Row) → numberIn (checkedAs (crcChecked (c .r008)) b q) ≡ crcTest c b q
+  crc-chain q = read-off numberIn (crcWrong (crcChecked (c .r008)) (q .crc) b) (λ _. refl) (λ _. refl)
+
+  whole-chain : (q : Row) (n : ℕ) → number (Whole q n) ≡ wholeTest c b q n
+  whole-chain q n = read-off numberIn (not (eqb (length b) n)) (λ _. refl) (λ _. crc-chain q)
+
+  data-chain : (q : Row) (d : Data) → number (needData q b d) ≡ dataTests c b q d
+  data-chain q (Fixed n) = whole-chain q _
+  data-chain q Length = whole-chain q _
+  data-chain q Pairs = whole-chain q _
+  data-chain q Ones = read-off number (allFF b) (λ _. read-off numberIn (not (leb 2 (length b))) (λ _. refl) (λ _. crc-chain q)) (λ _. refl)
+
+  row-chain : (l : Listed) → number (needListed (channelsOf c) b l) ≡ tests c b l
+  row-chain Unlisted = refl
+  row-chain (As q) =
+      read-off number (not (channelOn (channelsOf c) (q .channel))) (λ _. refl)
+      λ _. read-off number (cycleWrong q b) (λ _. refl)
+      λ _. read-off number (ltb (length b) (q .told)) (λ _. refl)
+      λ _. data-chain q (q .carries)
+
+  chain : numberIn (admit (channelsOf c) (crcChecked (c .r008)) b) ≡ pick (eqb (length b) 0) 12 (tests c b (rowOf (getD b 0 0)))
+  unfolding admit needIn
+  chain = read-off number (eqb (length b) 0) (λ _. refl) (λ _. row-chain (rowOf (getD b 0 0)))
 
 all-FF : (b : List ℕ) → allFF b ≡ onlyFF b
 unfolding allFF onlyFF
@@ -90,18 +110,39 @@ all-FF (x ∷ xs) = ap (λ (t : Bool). eqb x 0xFF && t) (all-FF xs)
 -- ---- the rows of form at each opcode: those that it cannot meet compute away
 
 module _ (c : Config) (r : List ℕ) where
-  abbrev AtOpcode : ℕ → Type 0
-  AtOpcode op = tests c (op ∷ r) (opcodeOf op) ≡ firstOf (formRows c (op ∷ r))
-
   abbrev len : ℕ
   len = suc (length r)
 
-  abbrev crcFails : ℕ → ℕ
-  crcFails op = pick (crcChecked (c .r008) && not (crcGood (op ∷ r))) 16 0
+  abbrev AtOpcode : ℕ → Type 0
+  AtOpcode op = pick (eqb len 0) 12 (tests c (op ∷ r) (rowOf op)) ≡ firstOf (formRows c (op ∷ r))
+
+  -- the opcode is there
+  told : {x y : ℕ} → x ≡ y → pick (ltb len 1) 12 x ≡ y
+  told {x} e = ap (λ (v : Bool). pick v 12 x) (le-ltb len 1 (omega arith)) ∙ e
+
+  by-none : {x y : ℕ} → x ≡ y → pick (eqb len 0) 12 x ≡ pick (eqb len 0) 12 y
+  by-none e = same-test 12 (eqb len 0) (eqb len 0) refl λ _. e
 
   -- a command of a channel: on, then what is left
   by-channel : (k : Channel) {x y : ℕ} → x ≡ y → pick (eqb len 0) 12 (pick (not (on k c)) 14 x) ≡ pick (eqb len 0) 12 (pick (not (isEnabled k c)) 14 y)
-  by-channel k e = same-test 12 (eqb len 0) (eqb len 0) refl λ _. same-test 14 (not (on k c)) (not (isEnabled k c)) (ap not (on-as k c)) λ _. e
+  by-channel k e = by-none (same-test 14 (not (on k c)) (not (isEnabled k c)) (ap not (on-as k c)) λ _. e)
+
+  by-length : {W W′ : ℕ} (x : ℕ) → W ≡ W′ → pick (not (eqb len W)) 12 x ≡ pick (not (eqb len W′)) 12 x
+  by-length x e = ap (λ (n : ℕ). pick (not (eqb len n)) 12 x) e
+
+  -- "a missing header byte needed next (12) or 15": the cycle type is there, or the header is cut short
+  by-cycle : (l : Bool) (k x : ℕ) {y : ℕ} → 2 ≤ k → (ltb len 2 ≡ false → l ≡ true → pick (ltb len k) 12 x ≡ y)
+      → pick (not l && ltb 1 len) 15 (pick (ltb len k) 12 x) ≡ pick (ltb len 2) 12 (pick (not l) 15 y)
+  by-cycle l k x {y} least h = go l refl (ltb len 2) refl
+    where
+      go : (v : Bool) → l ≡ v → (u : Bool) → ltb len 2 ≡ u → pick (not v && ltb 1 len) 15 (pick (ltb len k) 12 x) ≡ pick u 12 (pick (not v) 15 y)
+      go true q true e = ap (λ (z : Bool). pick z 12 x) (lt-ltb len k (omega (arith, ltb-true len 2 e)))
+      go true q false e = h e q
+      go false q true e = rw (le-ltb 1 len (omega (arith, ltb-true len 2 e)), lt-ltb len k (omega (arith, ltb-true len 2 e)))
+      go false q false e = rw (lt-ltb 1 len (omega (arith, ltb-false len 2 e)))
+
+  abbrev crcFails : ℕ → ℕ
+  crcFails op = pick (crcChecked (c .r008) && not (crcGood (op ∷ r))) 16 0
 
   abbrev t : ℕ
   t = getD r 0 0
@@ -109,41 +150,49 @@ module _ (c : Config) (r : List ℕ) where
   put-pc : AtOpcode 0x00
   put-pc =
       let b : List ℕ = 0x00 ∷ r in
+      let listed : Bool = eqb t 1 || eqb t 3 in
+      let header : Bool → ℕ = λ u. pick u 12 (pick (not (eqb len (4 + cycleWidth t + putLength b + 1))) 12 (crcFails 0x00)) in
       by-channel peripheral
-      (same-test 12 (ltb len 2) (ltb len 2) refl
-      λ _. same-test 15 (not (eqb t 1 || eqb t 3)) (not (eqb t 1 || eqb t 3) || false) (sym (or-false (not (eqb t 1 || eqb t 3))))
-      λ l. let wide : Wide t = one-of Wide t 1 3 refl refl (not-false (eqb t 1 || eqb t 3) l) in
-      headed-as 4 b (ltb len 4 || false) (crcFails 0x00) (sym (or-false (ltb len 4))) (ap (λ (k : ℕ). 4 + k + putLength b + 1) (width-as t wide)))
+      (by-cycle listed 4 _ (omega arith)
+      (λ _ l. same-test 12 (ltb len 4) (ltb len 4) refl
+      λ _. by-length (crcFails 0x00) (ap (λ (k : ℕ). 4 + k + putLength b + 1) (width-as 3 t (one-of (Wide 3) t 1 3 refl refl l))))
+      ∙ ap (λ (u : Bool). pick (ltb len 2) 12 (pick u 15 (header (ltb len 4)))) (sym (or-false (not listed)))
+      ∙ ap (λ (u : Bool). pick (ltb len 2) 12 (pick (not listed || false) 15 (header u))) (sym (or-false (ltb len 4))))
 
   put-np : AtOpcode 0x02
   put-np =
-      let b : List ℕ = 0x02 ∷ r in
       by-channel peripheral
-      (same-test 12 (ltb len 2) (ltb len 2) refl
-      λ m. same-test 15 (not (eqb t 0 || eqb t 2)) (not (eqb t 0 || eqb t 2)) refl
-      λ l. let wide : Wide t = one-of Wide t 0 2 refl refl (not-false (eqb t 0 || eqb t 2) l) in
-      headed-as 2 b false (crcFails 0x02) m (ap (λ (k : ℕ). 4 + k + 1) (width-as t wide)))
+      (by-cycle (eqb t 0 || eqb t 2) 2 _ (omega arith)
+      (λ m l. ap (λ (u : Bool). pick u 12 (pick (not (eqb len (4 + pick (eqb t 2) 8 4 + 0 + 1))) 12 (crcFails 0x02))) m
+      ∙ by-length (crcFails 0x02) (omega (arith, width-as 2 t (one-of (Wide 2) t 0 2 refl refl l)))))
 
   put-vwire : AtOpcode 0x04
-  put-vwire = by-channel wires (headed-as 2 (0x04 ∷ r) (ltb len 2) (crcFails 0x04) refl (omega arith))
+  put-vwire = by-channel wires (same-test 12 (ltb len 2) (ltb len 2) refl λ _. by-length (crcFails 0x04) (omega arith))
 
   reset : AtOpcode 0xFF
   reset =
-      let b : List ℕ = 0xFF ∷ r in
-      same-test 12 (eqb len 0) (eqb len 0) refl
-      λ _. same-test 13 (not (leb 2 len && allFF b)) (not (leb 2 len && onlyFF b)) (ap (λ (v : Bool). not (leb 2 len && v)) (all-FF b))
-      λ _. ap (λ (v : Bool). pick v 16 0) (and-false (crcChecked (c .r008)))
+      by-none (told
+      (ap (λ (u : Bool). pick u (pick (not (leb 2 len)) 13 (pick (crcChecked (c .r008) && false) 16 0)) 13) (all-FF (0xFF ∷ r))
+      ∙ ap (λ (u : Bool). pick (onlyFF (0xFF ∷ r)) (pick (not (leb 2 len)) 13 (pick u 16 0)) 13) (and-false (crcChecked (c .r008)))
+      ∙ go (onlyFF (0xFF ∷ r)) (leb 2 len)))
+    where
+      go : (v m : Bool) → _≡_ {A = ℕ} (pick v (pick (not m) 13 0) 13) (pick (not (m && v)) 13 0)
+      go true true = refl
+      go true false = refl
+      go false true = refl
+      go false false = refl
 
-  unlisted : (op : ℕ) → isListed op ≡ false → opcodeOf op ≡ O.Unknown → AtOpcode op
+  unlisted : (op : ℕ) → isListed op ≡ false → rowOf op ≡ Unlisted → AtOpcode op
   unlisted op l u = rw (u, l)
 
   at-opcode : (op : ℕ) → AtOpcode op
   at-opcode =
-      by-opcode AtOpcode put-pc (by-channel peripheral refl) put-np put-vwire (by-channel wires refl) refl refl refl reset
-      (by-channel peripheral refl) (by-channel peripheral refl) (by-channel peripheral refl)
-      (by-channel peripheral refl) (by-channel peripheral refl) (by-channel peripheral refl)
-      (by-channel peripheral refl) (by-channel peripheral refl) (by-channel peripheral refl)
-      (by-channel peripheral refl) (by-channel peripheral refl) (by-channel peripheral refl)
+      by-opcode AtOpcode put-pc (by-channel peripheral (told refl)) put-np put-vwire (by-channel wires (told refl))
+      (by-none (told refl)) (by-none (told refl)) (by-none (told refl)) reset
+      (by-channel peripheral (told refl)) (by-channel peripheral (told refl)) (by-channel peripheral (told refl))
+      (by-channel peripheral (told refl)) (by-channel peripheral (told refl)) (by-channel peripheral (told refl))
+      (by-channel peripheral (told refl)) (by-channel peripheral (told refl)) (by-channel peripheral (told refl))
+      (by-channel peripheral (told refl)) (by-channel peripheral (told refl)) (by-channel peripheral (told refl))
       unlisted
 
 form-number : (c : Config) (b : List ℕ) → numberIn (admit (channelsOf c) (crcChecked (c .r008)) b) ≡ firstOf (formRows c b)

@@ -36,13 +36,16 @@ pub put-config : (k : Channel) (q : Part k) (s : State) → put k q s .config �
 put-config peripheral q s = refl
 put-config wires q s = refl
 
--- the one lemma in which two channels meet: the parts of two states, one channel's replaced in both, stay related if the new ones are
+-- what holds of each channel
+pub by-channel : (Q : Channel → Type 0) → Q peripheral → Q wires → (k : Channel) → Q k
+by-channel Q p w peripheral = p
+by-channel Q p w wires = w
+
+-- the one lemma in which channels meet: the parts of two states, one channel's replaced in both, stay related if the new ones are
 pub put-both : (Q : (y : Channel) → Part y → Part y → Type 0) (k : Channel) (p q : Part k) (s t : State)
     → Q k p q → ((y : Channel) → Q y (part y s) (part y t)) → (y : Channel) → Q y (part y (put k p s)) (part y (put k q t))
-put-both Q peripheral p q s t h g peripheral = h
-put-both Q peripheral p q s t h g wires = g wires
-put-both Q wires p q s t h g peripheral = g peripheral
-put-both Q wires p q s t h g wires = h
+put-both Q peripheral p q s t h g = by-channel (λ y. Q y (part y (put peripheral p s)) (part y (put peripheral q t))) h (g wires)
+put-both Q wires p q s t h g = by-channel (λ y. Q y (part y (put wires p s)) (part y (put wires q t))) (g peripheral) h
 
 -- of one state: what holds of a new part and of every part before holds of every part after
 pub put-each : (Q : (j : Channel) → Part j → Type 0) (k : Channel) (q : Part k) (s : State) → Q k q → ((j : Channel) → Q j (part j s)) → (j : Channel) → Q j (part j (put k q s))
@@ -51,6 +54,10 @@ put-each Q k q s h e = put-both (λ (j : Channel) (a b : Part j). Q j a) k q q s
 pub part-each : (f : (k : Channel) → Part k → Part k) (c : Config) (s : State) (k : Channel) → part k (each f c s) ≡ f k (part k s)
 part-each f c s peripheral = refl
 part-each f c s wires = refl
+
+-- every part by a function that gives it the same, under the same configuration
+pub each-as : (f g : (k : Channel) → Part k → Part k) (c d : Config) (s : State) → c ≡ d → ((k : Channel) → f k (part k s) ≡ g k (part k s)) → each f c s ≡ each g d s
+each-as f g c d s e h = rw (e, h peripheral, h wires)
 
 -- ---- which channel: told by its number
 

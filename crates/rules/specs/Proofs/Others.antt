@@ -1,26 +1,28 @@
--- What the other channels leave of channel 0: a law over all channels each, one clause a channel.
+-- What the other channels leave of channel 0.
 use Prim.Native.Nat.{ℕ}
-use mathlib.Core.Bool.{true, false, true≢false}
+use mathlib.Core.Bool.{Bool, true, false, _||_, true≢false}
 use mathlib.Core.List.{List, [], _∷_}
 use mathlib.Core.Path.{_≡_, refl, sym, ap, _∙_}
 use lib.Dec.{eqb}
-use Rattle.registers.specs.declared.Config.{Config}
+use Rattle.base.specs.Pick.{pick}
+use Rattle.state.specs.declared.State.{State}
 use Rattle.rules.specs.Rules.Out.{fatal, number, keep}
-use Rattle.rules.specs.Rules.Wires as W
 use Rattle.rules.specs.Rules.Channel.{Channel, peripheral, wires, Part, Command, Act, Board, Change, outOf, ownKept, same}
-use Rattle.rules.specs.Statements.Cases.{commandOf}
+use Rattle.rules.specs.Statements.Cases.{commandOf, Admits}
 use Rattle.rules.specs.Statements.Channels as L
 use Rattle.rules.specs.Statements.Channels.{responseFor, accepts, Acts, Settles}
-use Rattle.rules.specs.Statements.Fields.{byte}
-use Rattle.rules.specs.Statements.Reads.{Wires, puts, gets, ReadAs}
+use Rattle.rules.specs.Statements.Fields.{byte, isPosted, isNonPosted}
+use Rattle.rules.specs.Statements.Sizes.{isOf}
 use Rattle.rules.specs.Proofs.Lift.{out-change}
-use Rattle.rules.specs.Statements.Requests.{idle, commandEvent, boardEvent}
+use Rattle.rules.specs.Statements.Requests.{idle, asks, gets, commandEvent, boardEvent}
+use Rattle.rules.specs.Proofs.Effects.{command-own}
+use Rattle.rules.specs.Proofs.Whose.{own-opcode, never-set}
 use Rattle.rules.specs.declared.Kept.{Kept}
 use Rattle.rules.specs.declared.Kept.the-variants as K
 use Rattle.rules.specs.declared.Out.{Out}
 
 -- its calls keep nothing in channel 0's stores
-own-other : (k : Channel) → same peripheral k ≡ false → (kept : Kept) → ownKept k kept ≡ true → kept ≡ K.Nothing
+pub own-other : (k : Channel) → same peripheral k ≡ false → (kept : Kept) → ownKept k kept ≡ true → kept ≡ K.Nothing
 own-other peripheral e kept f = absurd (true≢false e)
 own-other wires e K.Nothing f = refl
 own-other wires e (K.Data from n) f = absurd (true≢false (sym f))
@@ -44,13 +46,20 @@ pub record Plain (b : List ℕ) : Type 0 where
 pub plain : (b : List ℕ) (op : ℕ) → byte b 0 ≡ op → commandEvent (op ∷ []) ≡ idle → eqb op 0x22 ≡ false → Plain b
 plain b op e f g = record { event = rw e f; write = rw e g }
 
-wires-plain : {b : List ℕ} {a : W.Act} → Wires b a → Plain b
-wires-plain (puts e) = plain _ 0x04 e refl refl
-wires-plain (gets e) = plain _ 0x05 e refl refl
+-- an opcode that is none of channel 0's
+quiet : (op : ℕ) → isOf peripheral op ≡ false → commandEvent (op ∷ []) ≡ idle
+quiet op = go (isPosted op) (isNonPosted op) (eqb op 0x01)
+  where
+    go : (a t u : Bool) → (a || (t || u)) ≡ false → pick t asks (pick u gets idle) ≡ idle
+    go true t u e = absurd (true≢false e)
+    go false true u e = absurd (true≢false e)
+    go false false true e = absurd (true≢false e)
+    go false false false e = refl
 
-pub command-other : (k : Channel) → same peripheral k ≡ false → (c : Config) (b : List ℕ) (o : Command k) → ReadAs c b (commandOf k o) → Plain b
-command-other peripheral e c b o r = absurd (true≢false e)
-command-other wires e c b o r = wires-plain r
+pub command-other : (k : Channel) → same peripheral k ≡ false → (s : State) (b : List ℕ) (o : Command k) → Admits s b (commandOf k o) → Plain b
+command-other k n s b o e =
+    let own = command-own k s b o e in
+    plain b (byte b 0) refl (quiet (byte b 0) (own-opcode peripheral k (byte b 0) own ∙ n)) (never-set k (byte b 0) own)
 
 pub board-other : (k : Channel) → same peripheral k ≡ false → (o : Board k) → boardEvent k o ≡ idle
 board-other peripheral e o = absurd (true≢false e)

@@ -11,7 +11,8 @@ use Rattle.base.specs.Bytes.{low2, bit}
 use Rattle.crc.specs.Crc.{crc}
 use Rattle.registers.specs.Registers.{crcChecked}
 use Rattle.registers.specs.declared.Config.{Config}
-use Rattle.command.specs.Decode.{admit, decode}
+use Rattle.command.specs.Needs.{needIn}
+use Rattle.command.specs.Decode.{admit}
 use Rattle.command.specs.declared.Command.the-variants as C
 use Rattle.command.specs.declared.PeripheralCommand.the-variants.{GetPc}
 use Rattle.peripheral.specs.Status.{npFree, pcAvail, some}
@@ -28,7 +29,7 @@ use Rattle.rules.specs.Rules.Peripheral as P₀
 use Rattle.rules.specs.Rules.Channel.{peripheral, on}
 use Rattle.rules.specs.Rules.Lift.{lift}
 use Rattle.rules.specs.Rules.Reply.{closed, headerBytes, dataBytes}
-use Rattle.rules.specs.Rules.Step.{World, Call, exchange, Outcome, step, run, exchanged, shortStores, allHanded}
+use Rattle.rules.specs.Rules.Step.{World, Call, exchange, Outcome, step, run, performed, shortStores, allHanded}
 use Rattle.rules.specs.Statements.Cases.{Admits}
 use Rattle.rules.specs.Statements.Peripheral.{Did, noneReady, handedOver}
 use Rattle.rules.specs.Statements.Fields.{crcRight}
@@ -64,7 +65,7 @@ ready-taken (Failed q) k ks e = refl
 
 get-admitted : (s : State) (check : ℕ) → on peripheral (s .config) ≡ true → crcFine s (0x01 ∷ check ∷ []) ≡ true
     → Admits s (0x01 ∷ check ∷ []) (C.Peripheral GetPc)
-unfolding admit decode
+unfolding admit needIn
 get-admitted s check on fine = rw (on, unchecked (crcChecked (s .config .r008)) (crcRight (0x01 ∷ check ∷ [])) fine)
   where
     unchecked : (c g : Bool) → not c || g ≡ true → c && not g ≡ false
@@ -79,12 +80,12 @@ ready-number k ks u (handedOver e) = refl
 
 get-accepted : (w : World) (check : ℕ) (reply : List ℕ) (k : Completion) (ks : List Completion) → Sound (w .state) → upward (held w) ≡ k ∷ ks
     → shortStores reply w ≡ false → crcFine (w .state) (0x01 ∷ check ∷ []) ≡ true → step w (exchange (0x01 ∷ check ∷ []) reply) .number ≡ 0
-unfolding exchanged lift
+unfolding performed lift
 get-accepted w check reply k ks d u long fine =
     let b : List ℕ = 0x01 ∷ check ∷ [] in
     let known = get-admitted (w .state) check (held-on (w .state) d (ready-taken (held w) k ks u)) fine in
     ap (λ (o : Outcome). o .number)
-    (exchange-long w b reply long ∙ ap (exchanged w b) (plan-admitted peripheral (w .state) b GetPc known))
+    (exchange-long w b reply long ∙ ap (performed w b) (plan-admitted peripheral (w .state) b GetPc known))
     ∙ ready-number k ks u (did peripheral (w .state .config) (w .state .peripheral) P₀.gets)
 
 -- ---- completions owed

@@ -1,6 +1,10 @@
 -- Channel 0's law: the one file that unfolds its decisions.
 pub mod Apart
 pub mod Effects
+pub mod SoundMeans
+pub mod WholeFirstApplies
+pub mod WholeRefusals
+pub mod Fits
 pub mod Lawful
 pub mod Shape
 pub mod Sound
@@ -29,7 +33,7 @@ use Rattle.peripheral.specs.Sound.{within}
 use Rattle.rules.specs.Rules.Out.{number}
 use Rattle.rules.specs.Rules.Peripheral as P
 use Rattle.rules.specs.Rules.Peripheral.{Act, posts, asks, gets, Board, look, answer, takeWrite, sizeFor, succeeded, bytesFor}
-use Rattle.rules.specs.Statements.Peripheral.{Did, writeHeld, writeLarge, posted, requestHeld, requestLarge, asked, noneReady, handedOver, unanswered, Settled, looked, noLook, noSuch, miscounted, succeeds, fails, noTake, took}
+use Rattle.rules.specs.Statements.Peripheral.{Did, writeHeld, writeLarge, posted, requestHeld, requestLarge, asked, noneReady, handedOver, unanswered, Settled, lookDone, noLook, noSuch, miscounted, succeeds, fails, noTake, took}
 use Rattle.rules.specs.declared.PeripheralChange.{PeripheralChange}
 
 post-did : (c : Config) (p : Peripheral) (A L from : ℕ) → Did c p (posts A L from) (P.post c p A L from)
@@ -65,7 +69,7 @@ did c p gets = get-did c p
 
 look-settled : (p : Peripheral) (report : List ℕ) (n : Np) → p .request ≡ n → Settled p (look report) (P.change p (number (P.lookNumber n)))
 look-settled p report Free e = noLook (ap unanswered e)
-look-settled p report (Waiting q) e = looked e
+look-settled p report (Waiting q) e = lookDone e
 look-settled p report (Ready q sent) e = noLook (ap unanswered e)
 look-settled p report (Failed q) e = noLook (ap unanswered e)
 
@@ -103,3 +107,8 @@ settles c p (takeWrite report) = take-settled p report (p .write) refl
 pub look-is : (c : Config) (p : Peripheral) (report : List ℕ) → P.settle c p (look report) ≡ P.change p (number (P.lookNumber (p .request)))
 unfolding P.settle
 look-is c p report = refl
+
+pub answer-is : (c : Config) (p : Peripheral) (serial success : ℕ) (d : List ℕ)
+    → P.settle c p (answer serial success d) ≡ P.answerTo p serial (succeeded success) (length d)
+unfolding P.settle
+answer-is c p serial success d = refl

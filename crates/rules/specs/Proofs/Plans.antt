@@ -1,8 +1,8 @@
 -- The plan of an exchange: what stands above the channels is unfolded here, a channel's decisions in its own law.
 use Prim.Native.Nat.{ℕ}
 use mathlib.Core.List.{List}
-use mathlib.Core.Path.{_≡_, refl}
-use Rattle.base.specs.Pick.{pick-ind}
+use mathlib.Core.Path.{_≡_, refl, subst}
+use Rattle.base.specs.Pick.{pick-ind, pick}
 use Rattle.registers.specs.Registers.{crcChecked, forbiddenAt}
 use Rattle.registers.specs.declared.Config.{Config}
 use Rattle.command.specs.Decode.{admit}
@@ -19,6 +19,13 @@ use Rattle.rules.specs.Rules.Exchange as E
 use Rattle.rules.specs.Rules.Exchange.{channelsOf, byDecoded}
 use Rattle.rules.specs.Proofs.Peripheral as P
 use Rattle.rules.specs.Proofs.Wires as W
+use mathlib.Core.Bool.{Bool, true, false}
+use Rattle.base.specs.Bytes.{over}
+use Rattle.rules.specs.Rules.Reply.{replyBytes}
+use Rattle.rules.specs.Rules.Step.{World, exchange, shortStores, performed}
+use Rattle.rules.specs.declared.Plan.{Plan}
+use Rattle.rules.specs.Statements.Both as T
+use Rattle.rules.specs.Statements.Both.{Both}
 use Rattle.rules.specs.Statements.Plans.{Did, Settled, commandOf, Admits, Planned, turned, shows, acts, forbids, configures, clears, status, register, Plans}
 
 pub did : (k : Channel) (c : Config) (p : Part k) (a : Act k) → Did k c p a (acting k c p a)
@@ -57,3 +64,40 @@ pub plan-admitted : (k : Channel) (s : State) (b : List ℕ) (o : Command k) →
 unfolding E.exchange E.decide
 plan-admitted peripheral s b o e = rw e
 plan-admitted wires s b o e = rw e
+
+-- ---- the same command in two worlds of one configuration
+
+module _ (w v : World) (b r : List ℕ) (room : shortStores r w ≡ false) where
+  abbrev Twice : Plan → Plan → Type 0
+  Twice p q = Both w v (exchange b r) (performed w b p) (performed v b q)
+
+  set-both : (a n : ℕ) → Admits (w .state) b (C.SetConfiguration a n) → Twice (E.setConfiguration (w .state) a n) (E.setConfiguration (v .state) a n)
+  unfolding E.setConfiguration
+  set-both a n e = chosen (forbiddenAt a n) _ _ _ _ T.forbidden (T.configured a n e)
+    where
+      chosen : (t : Bool) (p q p′ q′ : Plan) → Twice p p′ → Twice q q′ → Twice (pick t p q) (pick t p′ q′)
+      chosen true p q p′ q′ f g = f
+      chosen false p q p′ q′ f g = g
+
+  known-both : (o : C₀.Command) → Admits (w .state) b o → Twice (E.decide (w .state) o b) (E.decide (v .state) o b)
+  unfolding E.decide
+  known-both (C.Peripheral o) e = T.acted peripheral o room e
+  known-both (C.Wires o) e = T.acted wires o room e
+  known-both (C.GetConfiguration a) e = T.register a
+  known-both (C.SetConfiguration a n) e = set-both a n e
+  known-both C.GetStatus e = T.status
+  known-both C.Reset e = T.cleared e
+
+  abbrev admitted : Config → Decoded
+  admitted c = admit (channelsOf c) (crcChecked (c .r008)) b
+
+  decoded-both : (d : Decoded) → admitted (w .state .config) ≡ d → Twice (byDecoded (w .state) b d) (byDecoded (v .state) b d)
+  unfolding performed replyBytes over
+  decoded-both (Refused n) e = T.idle n
+  decoded-both (Known o) e = known-both o e
+
+  pub exchange-both : w .state .config ≡ v .state .config → Twice (E.exchange (w .state) b) (E.exchange (v .state) b)
+  unfolding E.exchange
+  exchange-both c =
+      subst (λ (x : Config). Twice (byDecoded (w .state) b (admitted (w .state .config))) (byDecoded (v .state) b (admitted x))) c
+      (decoded-both (admitted (w .state .config)) refl)

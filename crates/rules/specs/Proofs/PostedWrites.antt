@@ -22,7 +22,7 @@ use Rattle.rules.specs.Rules.Channel.{Channel, peripheral, Command, Act,
 use Rattle.rules.specs.Rules.Lift.{lift, acceptThen, settled as planned}
 use Rattle.rules.specs.Rules.Exchange.{reconfigured, wasReset}
 use Rattle.rules.specs.Rules.Reply.{keptBytes}
-use Rattle.rules.specs.Rules.Step.{World, Call, reset, exchange, board, lend, Outcome, step, run, only, withState, exchanged, settled, writeLength, takeLength}
+use Rattle.rules.specs.Rules.Step.{World, Call, reset, exchange, board, lend, Outcome, step, run, only, withState, performed, served, writeLength, takeLength}
 use Rattle.rules.specs.Statements.Peripheral as P
 use Rattle.rules.specs.Statements.Cases as C
 use Rattle.rules.specs.Statements.Cases.{Did, Settled, Admits, commandOf, Case}
@@ -65,8 +65,8 @@ no-write (Held p) e = absurd (true≢false (sym e))
 module _ (w : World) where
   -- channel 0's commands and calls
   acted-write : (b r : List ℕ) {a : P₀.Act} {x : PeripheralChange} → R.Peripheral (w .state .config) b a → P.Did (w .state .config) (w .state .peripheral) a x
-      → WriteMove w (exchange b r) (exchanged w b (lift peripheral (w .state) x))
-  unfolding exchanged lift over
+      → WriteMove w (exchange b r) (performed w b (lift peripheral (w .state) x))
+  unfolding performed lift over
   acted-write b r f (P.writeHeld e) = stays refl refl
   acted-write b r f (P.writeLarge e g) = stays refl refl
   acted-write b r (R.posts h n) (P.posted e g) = posted (no-write (heldWrite w) e) h
@@ -77,9 +77,9 @@ module _ (w : World) where
   acted-write b r f (P.handedOver e) = stays refl refl
 
   settled-write : {o : P₀.Board} {x : PeripheralChange} → P.Settled (w .state .peripheral) o x
-      → WriteMove w (board peripheral o) (settled peripheral w o (lift peripheral (w .state) x))
-  unfolding settled lift
-  settled-write (P.looked e) = stays refl refl
+      → WriteMove w (board peripheral o) (served peripheral w o (lift peripheral (w .state) x))
+  unfolding served lift
+  settled-write (P.lookDone e) = stays refl refl
   settled-write (P.noLook e) = stays refl refl
   settled-write (P.noSuch e) = stays refl refl
   settled-write (P.miscounted e f g) = stays refl refl
@@ -93,23 +93,23 @@ module _ (w : World) where
     kept-write : (x : Change k) → put k (nextOf k x) (w .state) .peripheral .write ≡ heldWrite w
     kept-write x = ap (λ (p : Peripheral). p .write) (part-stays k peripheral (nextOf k x) (w .state) (same-turned peripheral k other))
 
-    acted-beside : (b r : List ℕ) (a : Act k) (x : Change k) → Acts k (part k (w .state)) a x → WriteMove w (exchange b r) (exchanged w b (lift k (w .state) x))
-    unfolding exchanged lift
+    acted-beside : (b r : List ℕ) (a : Act k) (x : Change k) → Acts k (part k (w .state)) a x → WriteMove w (exchange b r) (performed w b (lift k (w .state) x))
+    unfolding performed lift
     acted-beside b r a x d =
         stays (kept-write x) (ap (λ (kept : Kept). over (keptBytes kept b) (w .write)) (acts-other k other (part k (w .state)) a x d) ∙ over-none (w .write))
 
-    settled-beside : (o : Board k) (x : Change k) → WriteMove w (board k o) (settled k w o (lift k (w .state) x))
-    unfolding settled lift
+    settled-beside : (o : Board k) (x : Change k) → WriteMove w (board k o) (served k w o (lift k (w .state) x))
+    unfolding served lift
     settled-beside o x = stays (kept-write x) refl
 
   -- a write of a register
   set-write : (b r : List ℕ) (a v : ℕ) → Writes b a v
-      → WriteMove w (exchange b r) (exchanged w b (acceptThen (w .state) (reconfigured (w .state) (writeAt (w .state .config) a v))))
-  unfolding exchanged over
+      → WriteMove w (exchange b r) (performed w b (acceptThen (w .state) (reconfigured (w .state) (writeAt (w .state .config) a v))))
+  unfolding performed over
   set-write b r a v h = by (on peripheral (w .state .config) && not (on peripheral (writeAt (w .state .config) a v))) refl
     where
       by : (t : Bool) → on peripheral (w .state .config) && not (on peripheral (writeAt (w .state .config) a v)) ≡ t
-          → WriteMove w (exchange b r) (exchanged w b (acceptThen (w .state) (reconfigured (w .state) (writeAt (w .state .config) a v))))
+          → WriteMove w (exchange b r) (performed w b (acceptThen (w .state) (reconfigured (w .state) (writeAt (w .state .config) a v))))
       by true e =
           ended (ap (λ (t : Bool). pick t (F.dropped (w .state .peripheral)) (w .state .peripheral) .write) e) refl
           (disabling peripheral (w .state) b a v h ∙ e)
@@ -121,19 +121,19 @@ module _ (w : World) where
   reset-write platformReset = ended refl refl refl
 
   case-write : {c : Call} {o : Outcome} → Case w c o → WriteMove w c o
-  unfolding exchanged over
+  unfolding performed over
   case-write (C.idle n h) = stays refl refl
   case-write (C.shown h) = stays refl refl
   case-write (C.acted {b} {r} k o x e d) =
       own-or-other peripheral
       (λ (k : Channel). (o : Command k) (x : Change k) → Admits (w .state) b (commandOf k o)
-      → Did k (w .state .config) (part k (w .state)) (actOf k (w .state .config) o b) x → WriteMove w (exchange b r) (exchanged w b (lift k (w .state) x)))
+      → Did k (w .state .config) (part k (w .state)) (actOf k (w .state .config) o b) x → WriteMove w (exchange b r) (performed w b (lift k (w .state) x)))
       (λ o x e d. acted-write b r (reads (w .state) b _ e) d)
       (λ k n o x e d. acted-beside k n b r _ x (N.acts k (w .state .config) (part k (w .state)) _ x d)) k o x e d
   case-write (C.settles k o x e d) =
       own-or-other peripheral
       (λ (k : Channel). (o : Board k) (x : Change k) → Settled k (w .state .config) (part k (w .state)) o x
-      → WriteMove w (board k o) (settled k w o (lift k (w .state) x)))
+      → WriteMove w (board k o) (served k w o (lift k (w .state) x)))
       (λ o x d. settled-write d) (λ k n o x d. settled-beside k n o x) k o x d
   case-write (C.forbidden a v e f) = stays refl refl
   case-write (C.configured {b} {r} a v e f) = set-write b r a v (reads (w .state) b _ e)
@@ -192,14 +192,14 @@ store-run w (c ∷ cs) e h = store-run (step w c .next) cs (tail-without posts w
 
 module _ (w : World) (report : List ℕ) (long : 256 ≤ length (w .write)) (room : 10 ≤ length report) where
   -- its change, by channel 0's law
-  take-is : step w (takesWith report) ≡ settled peripheral w (P₀.takeWrite report) (planned peripheral (w .state) (P₀.takeWrite report))
+  take-is : step w (takesWith report) ≡ served peripheral w (P₀.takeWrite report) (planned peripheral (w .state) (P₀.takeWrite report))
   take-is = board-long peripheral w (P₀.takeWrite report) (rw (le-ltb (length (w .write)) writeLength long, le-ltb (length report) takeLength room))
 
   settled-take : P.Settled (w .state .peripheral) (P₀.takeWrite report) (P₀.settle (w .state .config) (w .state .peripheral) (P₀.takeWrite report))
   settled-take = L.settles (w .state .config) (w .state .peripheral) (P₀.takeWrite report)
 
   take-none : heldWrite w ≡ Empty → step w (takesWith report) .number ≡ 23
-  unfolding settled lift
+  unfolding served lift
   take-none h = ap (λ (o : Outcome). o .number) take-is ∙ by settled-take
     where
       by : {x : PeripheralChange} → P.Settled (w .state .peripheral) (P₀.takeWrite report) x → x .out .number ≡ 23
@@ -212,7 +212,7 @@ module _ (w : World) (report : List ℕ) (long : 256 ≤ length (w .write)) (roo
     frees : heldWrite (step w (takesWith report) .next) ≡ Empty
 
   take-held : (p : Posted) → heldWrite w ≡ Held p → Takes p
-  unfolding settled lift
+  unfolding served lift
   take-held p h =
       record {
         number = ap (λ (o : Outcome). o .number) take-is ∙ by settled-take .0;
@@ -237,7 +237,7 @@ module _ (w : World) (b r : List ℕ) where
 
   -- an accepted one has all its data
   data-whole : {o : Outcome} → Case w (exchange b r) o → isPosted (byte b 0) ≡ true → o .number ≡ 0 → length (writtenData b) ≡ accessLength b
-  unfolding exchanged
+  unfolding performed
   data-whole (C.idle n q) p z = absurd (omega (arith, q .least))
   data-whole (C.shown (C.status e)) p z = absurd (true≢false (sym p ∙ ap isPosted (reads (w .state) b _ e)))
   data-whole (C.shown (C.register a e)) p z = absurd (true≢false (sym p ∙ ap isPosted (reads (w .state) b _ e .opcode)))

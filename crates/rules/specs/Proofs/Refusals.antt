@@ -17,7 +17,7 @@ use Rattle.rules.specs.Rules.Lift.{lift, silent, nonFatal}
 use Rattle.rules.specs.Rules.Lift as M
 use Rattle.rules.specs.Rules.Exchange as E
 use Rattle.rules.specs.Rules.Reply.{replyBytes, closed, keptBytes}
-use Rattle.rules.specs.Rules.Step.{World, Call, exchange, board, Outcome, exchanged, settled}
+use Rattle.rules.specs.Rules.Step.{World, Call, exchange, board, Outcome, performed, served}
 use Rattle.rules.specs.Statements.Plans as N
 use Rattle.rules.specs.Statements.Plans.{Did, Settled, Planned}
 use Rattle.rules.specs.Statements.Cases as C
@@ -92,21 +92,21 @@ board-settled k s o = settles-as k s o (H.board-settles k s o)
 -- ---- refusals of `step`
 
 module _ (w : World) where
-  exchange-refusal : (b reply : List ℕ) (n : ℕ) (p : Plan) → PlanAs n (w .state) p → Refusal n w (exchange b reply) (exchanged w b p)
-  unfolding exchanged replyBytes closed
+  exchange-refusal : (b reply : List ℕ) (n : ℕ) (p : Plan) → PlanAs n (w .state) p → Refusal n w (exchange b reply) (performed w b p)
+  unfolding performed replyBytes closed
   exchange-refusal b reply zero p h = tt
   exchange-refusal b reply (suc zero) p h =
-      subst (λ (x : Plan). Error 0x03 w (exchange b reply) (exchanged w b x)) (sym h)
+      subst (λ (x : Plan). Error 0x03 w (exchange b reply) (performed w b x)) (sym h)
       (record { ofExchange = refl; world = rw over-none; reply = refl; value = refl; report = refl })
   exchange-refusal b reply (suc (suc zero)) p h =
-      subst (λ (x : Plan). Error 0x02 w (exchange b reply) (exchanged w b x)) (sym h)
+      subst (λ (x : Plan). Error 0x02 w (exchange b reply) (performed w b x)) (sym h)
       (record { ofExchange = refl; world = rw over-none; reply = refl; value = refl; report = refl })
   exchange-refusal b reply (suc (suc (suc n))) p h =
-      subst (λ (x : Plan). Quiet w (exchanged w b x)) (sym (h .0))
+      subst (λ (x : Plan). Quiet w (performed w b x)) (sym (h .0))
       (record { world = rw over-none; reply = refl; value = refl; report = refl })
 
-  exchanged-refusal : (b reply : List ℕ) {p : Plan} → Planned (w .state) b p → Refusal (exchanged w b p .number) w (exchange b reply) (exchanged w b p)
-  unfolding exchanged
+  exchanged-refusal : (b reply : List ℕ) {p : Plan} → Planned (w .state) b p → Refusal (performed w b p .number) w (exchange b reply) (performed w b p)
+  unfolding performed
   exchanged-refusal b reply {p} h = exchange-refusal b reply (p .number) p (planned-turned h)
 
   -- a silent refusal leaves the world, and yields its number alone
@@ -117,17 +117,17 @@ module _ (w : World) where
   quiet-refusal (suc (suc (suc n))) c o h q = q
 
   abbrev Of : (k : Channel) → Board k → Plan → Type 0
-  Of k o p = Refusal (settled k w o p .number) w (board k o) (settled k w o p)
+  Of k o p = Refusal (served k w o p .number) w (board k o) (served k w o p)
 
   settled-refusal : (k : Channel) (o : Board k) {x : Change k} → Settles k (part k (w .state)) o x → Of k o (lift k (w .state) x)
-  unfolding settled
+  unfolding served
   settled-refusal k o (L.Settles.refused n l m r v) =
       subst (Of k o) (sym (lift-stays k (w .state) (number n)))
       (quiet-refusal n (board k o) _ (omega arith) (record { world = rw over-none; reply = refl; value = v; report = r }))
   settled-refusal k o (L.Settles.accepted q kept e) = subst (Of k o) (sym (lift-change k (w .state) q _)) tt
 
 refusal : {w : World} {c : Call} {o : Outcome} → Case w c o → Refusal (o .number) w c o
-unfolding exchanged
+unfolding performed
 refusal {w} {c} (C.idle n h) = quiet-refusal w n c _ (omega (arith, h .least)) (record { world = refl; reply = refl; value = refl; report = refl })
 refusal {w} {c} (C.shown h) = tt
 refusal {w} {c} (C.acted {b} {r} k o x e d) = exchanged-refusal w b r (N.acts k o x e d)
@@ -196,12 +196,12 @@ record Past (w : World) (a r : ℕ) (o : Outcome) : Type 0 where
   atWrite : drop a (o .next .write) ≡ drop a (w .write)
   atRead : drop r (o .next .read) ≡ drop r (w .read)
 
-exchange-past : (w : World) (b : List ℕ) {p : Plan} → Planned (w .state) b p → Past w (postedLength b) 0 (exchanged w b p)
-unfolding exchanged
+exchange-past : (w : World) (b : List ℕ) {p : Plan} → Planned (w .state) b p → Past w (postedLength b) 0 (performed w b p)
+unfolding performed
 exchange-past w b {p} h = record { atWrite = past-kept p b (w .write) (postedLength b) (planned-keeps h); atRead = refl }
 
-settled-past : (w : World) (k : Channel) (o : Board k) (p : Plan) → Keeps (boardReads k o) p → Past w 0 (boardReads k o) (settled k w o p)
-unfolding settled
+settled-past : (w : World) (k : Channel) (o : Board k) (p : Plan) → Keeps (boardReads k o) p → Past w 0 (boardReads k o) (served k w o p)
+unfolding served
 settled-past w k o p h = record { atWrite = refl; atRead = past-kept p (given k o) (w .read) (boardReads k o) h }
 
 past : {w : World} {c : Call} {o : Outcome} → Case w c o → isLend c ≡ false → Past w (writesAtMost c) (readsAtMost c) o

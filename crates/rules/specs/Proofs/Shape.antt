@@ -2,7 +2,7 @@
 use Prim.Native.Nat.{ℕ, zero, suc, _≤_}
 use mathlib.Core.Bool.{Bool, true, false, _||_, true≢false}
 use mathlib.Core.List.{List, []}
-use mathlib.Core.Path.{_≡_, refl}
+use mathlib.Core.Path.{_≡_, refl, sym, subst}
 use native.Mathlib.Omega.{arith}
 use lib.Dec.{ltb}
 use lib.ListN.{length}
@@ -15,7 +15,7 @@ use Rattle.state.specs.Facts.{sound-request}
 use Rattle.rules.specs.Rules.Channel.{Channel, peripheral, wires, Command, Change, part, actOf}
 use Rattle.rules.specs.Rules.Lift.{lift}
 use Rattle.rules.specs.Rules.Reply.{replyBytes, closed}
-use Rattle.rules.specs.Rules.Step.{World, Call, Outcome, step, exchanged, settled, shortStores, replyLength, writeLength, readLength}
+use Rattle.rules.specs.Rules.Step.{World, Call, Outcome, performed, served, shortStores, replyLength, writeLength, readLength}
 use Rattle.rules.specs.Statements.Fields.{byte}
 use Rattle.rules.specs.Statements.Plans as N
 use Rattle.rules.specs.Statements.Plans.{Did, Planned}
@@ -25,7 +25,7 @@ use Rattle.rules.specs.Statements.Shape.{Shape, ExchangeShape, RepliesHa
 use Rattle.rules.specs.Statements.Refusals.{isExchange}
 use Rattle.rules.specs.Proofs.Reads as D
 use Rattle.rules.specs.Proofs.Plans.{plans}
-use Rattle.rules.specs.Proofs.Cases.{cases}
+use Rattle.rules.specs.Proofs.Cases.{cases, exchange-step}
 use Rattle.rules.specs.Proofs.Replies.{ShapeOf, with-body, bare, at}
 use Rattle.rules.specs.Proofs.Peripheral.Shape as P
 use Rattle.rules.specs.Proofs.Wires.Shape as W
@@ -54,13 +54,14 @@ module _ (s : State) (reads : List ℕ) (enough : readLength ≤ length reads) w
   planned-shape {b} np (N.clears e) = at s (byte b 0) 0xFF (D.reads s b _ e) (record { reset = λ _. refl; replied = λ n. absurd (n refl) })
 
 pub replies-have-shape : RepliesHaveShape
-unfolding step exchanged
+unfolding performed
 replies-have-shape w h b reply =
-    pick-ind (ExchangeShape w b) (shortStores reply w) (λ _. record { shape = refl; value = refl })
+    subst (ExchangeShape w b) (sym (exchange-step w b reply))
+    (pick-ind (ExchangeShape w b) (shortStores reply w) (λ _. record { shape = refl; value = refl })
     λ e. record {
       shape = planned-shape (w .state) (w .read) (long e) (sound-request (w .state) (h .isSound)) (plans (w .state) b);
       value = refl;
-    }
+    })
   where
     long : shortStores reply w ≡ false → readLength ≤ length (w .read)
     long e = ltb-false (length (w .read)) readLength (third (ltb (length reply) replyLength) (ltb (length (w .write)) writeLength) (ltb (length (w .read)) readLength) e)
@@ -71,7 +72,7 @@ replies-have-shape w h b reply =
         third false false z e = e
 
 replies-alone : {w : World} {c : Call} {o : Outcome} → Case w c o → isExchange c ≡ false → o .reply ≡ []
-unfolding settled
+unfolding served
 replies-alone (C.idle n h) e = refl
 replies-alone (C.shown h) e = absurd (true≢false e)
 replies-alone (C.acted k o x a d) e = absurd (true≢false e)

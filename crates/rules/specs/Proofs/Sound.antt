@@ -3,27 +3,22 @@ use Prim.Native.Nat.{ℕ, _^_, _<_}
 use mathlib.Core.Bool.{Bool, true, false}
 use mathlib.Core.List.{List, [], _∷_}
 use mathlib.Core.Path.{_≡_, refl, sym, subst}
-use lib.Dec.{lit<}
 use Rattle.base.specs.Pick.{and-left, and-right}
 use Rattle.registers.specs.Registers.{writeAt, forbiddenAt}
-use Rattle.registers.specs.Laws.{fits-fresh, fits-write, reachable-fresh, reachable-write}
+use Rattle.registers.specs.Laws.{fits-write, reachable-write}
 use Rattle.registers.specs.declared.Config.{Config}
-use Rattle.command.specs.Opcode.{channelOn}
-use Rattle.command.specs.Facts.{IsBytes, peripheralOpcode, admit-numbers, admit-channel}
-use Rattle.command.specs.declared.Channels.{Channels}
-use Rattle.command.specs.declared.PeripheralCommand.{PeripheralCommand}
-use Rattle.command.specs.declared.PeripheralCommand.the-variants.{PutPc, GetPc, PutNp, Short}
+use Rattle.command.specs.Facts.{IsBytes, admit-numbers, admit-channel}
 use Rattle.command.specs.declared.Command.the-variants as C₀
-use Rattle.state.specs.Fresh.{freshState}
+use Rattle.state.specs.Facts.{fresh-sound}
 use Rattle.state.specs.declared.State.{State}
 use Rattle.state.specs.Sound.{Sound}
 use Rattle.rules.specs.Rules.Reset.{Reset}
-use Rattle.rules.specs.Rules.Channel.{Channel, peripheral, wires, Part, Command, Board, Change, nextOf, part, put, each, on, actOf, edge, reset}
+use Rattle.rules.specs.Rules.Channel.{Channel, peripheral, wires, Part, Command, Board, Change, nextOf, part, put, each, on, actOf, enableEdge, reset}
 use Rattle.rules.specs.Rules.Lift as L
 use Rattle.rules.specs.Rules.Lift.{lift}
-use Rattle.rules.specs.Rules.Exchange.{channelsOf, reconfigured, configReset, wasReset, reset008h, exchange}
+use Rattle.rules.specs.Rules.Exchange.{reconfigured, configReset, wasReset, reset008h, exchange}
 use Rattle.rules.specs.Rules.Step as S
-use Rattle.rules.specs.Rules.Step.{World, Call, Outcome, exchanged, settled}
+use Rattle.rules.specs.Rules.Step.{World, Call, Outcome, performed, served}
 use Rattle.rules.specs.Statements.Plans as N
 use Rattle.rules.specs.Statements.Plans.{Did, Settled, Admits, Planned}
 use Rattle.rules.specs.Statements.Cases as C
@@ -33,24 +28,17 @@ use Rattle.rules.specs.Proofs.Plans as D
 use Rattle.rules.specs.Proofs.Plans.{plans}
 use Rattle.rules.specs.Proofs.Cases.{cases}
 use Rattle.rules.specs.Proofs.SoundBytes.{bytes-below}
-use Rattle.rules.specs.Proofs.SoundParts.{PartOk, Parts, parts, whole, with-part, with-each, fresh008-ok, reset-config}
+use Rattle.rules.specs.Proofs.SoundParts.{PartOk, Parts, parts, with-part, with-each, fresh008-ok, reset-config}
 use Rattle.rules.specs.Proofs.Peripheral.Sound as P
 use Rattle.rules.specs.Proofs.Wires.Sound as W
 use Rattle.rules.specs.declared.Plan.{Plan}
 
 -- ---- every channel keeps its part sound
 
--- a command of channel 0 is admitted while it is on
-on-for : (c : Channels) (o : PeripheralCommand) → channelOn c (peripheralOpcode o) ≡ true → c .peripheral ≡ true
-on-for c (PutPc h) e = e
-on-for c GetPc e = e
-on-for c (PutNp h) e = e
-on-for c (Short a p) e = e
-
 acts-ok : (k : Channel) (s : State) (b : List ℕ) (o : Command k) (x : Change k) → Parts s → IsBytes b → Admits s b (N.commandOf k o)
     → Did k (s .config) (part k s) (actOf k (s .config) o b) x → PartOk k (on k (s .config)) (nextOf k x)
 acts-ok peripheral s b o x h bytes e d =
-    P.acts-ok (h .config .right) (h .each peripheral) (on-for (channelsOf (s .config)) o (admit-channel _ _ b (C₀.Peripheral o) e))
+    P.acts-ok (h .config .right) (h .each peripheral) (admit-channel _ _ b (C₀.Peripheral o) e)
     (P.act-fits (s .config) o b bytes (admit-numbers _ _ b (C₀.Peripheral o) e bytes)) d
 acts-ok wires s b o x h bytes e d = W.acts-ok (h .each wires) d
 
@@ -58,7 +46,7 @@ settled-ok : (k : Channel) (s : State) (o : Board k) (x : Change k) → Parts s 
 settled-ok peripheral s o x h d = P.settled-ok (h .each peripheral) d
 settled-ok wires s o x h d = W.settled-ok (h .each wires) d
 
-edge-ok : (k : Channel) (was is : Bool) (p : Part k) → PartOk k was p → PartOk k is (edge k was is p)
+edge-ok : (k : Channel) (was is : Bool) (p : Part k) → PartOk k was p → PartOk k is (enableEdge k was is p)
 edge-ok peripheral = P.edge-ok
 edge-ok wires = W.edge-ok
 
@@ -71,7 +59,7 @@ reset-ok wires r c p h = W.reset-ok r c p h
 module _ {s : State} (h : Parts s) where
   configured-sound : (a v : ℕ) → forbiddenAt a v ≡ false → v < 2 ^ 32 → Sound (reconfigured s (writeAt (s .config) a v))
   configured-sound a v e l =
-      with-each (λ k. edge k (on k (s .config)) (on k (writeAt (s .config) a v))) (writeAt (s .config) a v)
+      with-each (λ k. enableEdge k (on k (s .config)) (on k (writeAt (s .config) a v))) (writeAt (s .config) a v)
       (record { right = reachable-write (s .config) a v (h .config .right) e; fit = fits-write (s .config) a v (h .config .fit) l })
       (λ k. edge-ok k (on k (s .config)) (on k (writeAt (s .config) a v)) (part k s) (h .each k))
 
@@ -114,7 +102,7 @@ pub reset-sound : {s : State} → Sound s → (r : Reset) → Sound (wasReset r 
 reset-sound h r = reset-parts (parts h) r
 
 sound-case : {w : World} {c : Call} {o : Outcome} → Sound (w .state) → S.handedOver c ≡ true → Case w c o → Sound (o .next .state)
-unfolding exchanged settled
+unfolding performed served
 sound-case {w} h b (C.idle n q) = h
 sound-case {w} h b (C.shown q) = h
 sound-case {w} h b (C.acted {b = l} k o x e d) = planned-sound h (bytes-below l b) (N.acts k o x e d)
@@ -132,13 +120,6 @@ pub sound-run : (w : World) (cs : List Call) → Sound (w .state) → S.allHande
 unfolding S.run S.allHanded
 sound-run w [] h b = h
 sound-run w (c ∷ cs) h b = sound-run (S.step w c .next) cs (sound-step w c h (and-left (S.handedOver c) _ b)) (and-right (S.handedOver c) _ b)
-
-fresh-part : (k : Channel) → PartOk k (on k (freshState .config)) (part k freshState)
-fresh-part peripheral = P.idle-ok _ (lit< tt)
-fresh-part wires = W.fresh-ok _
-
-pub fresh-sound : Sound freshState
-fresh-sound = whole (record { config = record { right = reachable-fresh; fit = fits-fresh }; each = fresh-part })
 
 pub sound-kept : SoundKept
 sound-kept = record { fresh = fresh-sound; call = sound-step; calls = sound-run }

@@ -1,5 +1,5 @@
--- The bits of the status word, and what one says of the next command, from the rows of P6.
-use Prim.Native.Nat.{ℕ, _+_, _*_, _/_, _^_, _≤_, _<_}
+-- What a bit of the status says of the next command, from the rows of P6.
+use Prim.Native.Nat.{ℕ}
 use mathlib.Core.Bool.{Bool, true, false, not, true≢false}
 use mathlib.Core.List.{List}
 use mathlib.Core.Logic.{_↔_}
@@ -8,57 +8,14 @@ use native.Mathlib.Omega.{arith}
 use Rattle.base.specs.Pick.{pick}
 use Rattle.base.specs.Bytes.{bit}
 use Rattle.registers.specs.Registers.{field}
-use Rattle.wires.specs.Groups.{anyPending}
-use Rattle.wires.specs.Sent.{pending-any}
-use Rattle.peripheral.specs.Status.{pcFree, npFree, pcAvail}
 use Rattle.state.specs.Status.{status}
 use Rattle.state.specs.declared.State.{State}
 use Rattle.rules.specs.Rules.Step.{World}
 use Rattle.rules.specs.Statements.Fields.{byte}
 use Rattle.rules.specs.Statements.Rows.{firstOf, noneApplies}
-use Rattle.rules.specs.Statements.Peripheral.Rows.{writeHeld, requestHeld, completionReady}
-use Rattle.rules.specs.Statements.Wires.Rows.{groupPending}
 use Rattle.rules.specs.Statements.FirstApplies.{formRows, allSizes, laterRows, commandRows}
 use Rattle.rules.specs.Statements.Status.{numberGot, Accepted, WellFormed, WithinSizes, ShowsFree}
 use Rattle.rules.specs.Proofs.Rows.{none-first, first-after, none-after}
-use Rattle.rules.specs.Proofs.Peripheral.Rows.{free-as, idle-as, avail-as}
-
--- ---- the word's bits
-
-pub record Bits (v : ℕ) (a b c d : Bool) : Type 0 where
-  pub is : v ≡ field v 0 1 + 2 * field v 1 1 + 4 + 16 * field v 4 1 + 64 * field v 6 1
-  pub at0 : field v 0 1 ≡ bit a
-  pub at1 : field v 1 1 ≡ bit b
-  pub at4 : field v 4 1 ≡ bit c
-  pub at6 : field v 6 1 ≡ bit d
-  pub small : v < 65536
-
-one-at-most : (t : Bool) → bit t ≤ 1
-one-at-most true = omega arith
-one-at-most false = omega arith
-
-bits-of : (a b c d : Bool) → Bits (bit a + bit b * 2 + bit c * 16 + (4 + bit d * 64)) a b c d
-bits-of a b c d =
-    let v = bit a + bit b * 2 + bit c * 16 + (4 + bit d * 64) in
-    let ha = one-at-most a in
-    let hb = one-at-most b in
-    let hc = one-at-most c in
-    let hd = one-at-most d in
-    let from4 : v / 2 ^ 4 ≡ bit c + 4 * bit d = omega arith in
-    let from6 : v / 2 ^ 6 ≡ bit d = omega arith in
-    let e0 : field v 0 1 ≡ bit a = omega arith in
-    let e1 : field v 1 1 ≡ bit b = omega arith in
-    let e4 : field v 4 1 ≡ bit c = rw from4 (omega arith) in
-    let e6 : field v 6 1 ≡ bit d = rw from6 (omega arith) in
-    record { is = rw (e0, e1, e4, e6) (omega arith); at0 = e0; at1 = e1; at4 = e4; at6 = e6; small = omega arith }
-
-pub word-bits : (s : State)
-    → Bits (status s) (not (writeHeld (s .peripheral .write))) (not (requestHeld (s .peripheral .request))) (completionReady (s .peripheral .request))
-    (groupPending (s .wires))
-unfolding status
-word-bits s =
-    rw (← free-as (s .peripheral .write), ← idle-as (s .peripheral .request), ← avail-as (s .peripheral .request), ← pending-any (s .wires))
-    (bits-of (pcFree (s .peripheral .write)) (npFree (s .peripheral .request)) (pcAvail (s .peripheral .request)) (anyPending (s .wires)))
 
 -- ---- what a bit says, from the rows
 

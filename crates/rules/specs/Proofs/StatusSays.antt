@@ -1,46 +1,53 @@
 -- Proof of P9: the bits from the rows of P6, the status shown from the plan's law.
-use Prim.Native.Nat.{ℕ, _+_, _-_, _*_, _/_, _%_}
-use mathlib.Core.Bool.{Bool, true, false, true≢false}
-use mathlib.Core.List.{List, [], _∷_, _++_, append-assoc}
+use Prim.Native.Nat.{ℕ, _+_, _-_, _*_}
+use mathlib.Core.Bool.{Bool, false}
+use mathlib.Core.List.{List, []}
 use mathlib.Core.Logic.{_≢_}
 use mathlib.Core.Path.{_≡_, refl, sym, ap, _∙_, subst}
 use native.Mathlib.Omega.{arith}
 use lib.Dec.{eqb}
-use lib.ListN.{length, length-append}
-use lib.Seq.{getD-append-seam, getD-append-add}
+use lib.ListN.{length}
 use borrow.Author.Tests.{le-ltb}
 use Rattle.base.specs.Pick.{pick, pick-ind, taken, passed}
-use Rattle.base.specs.Bytes.{low2}
-use Rattle.crc.specs.Crc.{crc}
+use Rattle.base.specs.Bytes.{bit}
+use Rattle.wires.specs.Sent.{pending-any}
 use Rattle.state.specs.Status.{status}
 use Rattle.state.specs.declared.State.{State}
 use Rattle.state.specs.Sound.{Sound}
-use Rattle.rules.specs.Rules.Channel.{Channel, peripheral, wires, Command, nextOf, outOf, put}
+use Rattle.rules.specs.Rules.Channel.{Channel, peripheral, wires, nextOf, outOf, put}
 use Rattle.rules.specs.Rules.Lift.{lift, withStatus}
 use Rattle.rules.specs.Rules.Exchange as E
-use Rattle.rules.specs.Rules.Reply.{replyBytes, closed}
-use Rattle.rules.specs.Rules.Step.{World, exchanged, shortStores, only, Outcome, replyLength, writeLength, readLength}
+use Rattle.rules.specs.Rules.Reply.{replyBytes}
+use Rattle.rules.specs.Rules.Step.{World, performed, shortStores, only, Outcome, replyLength, writeLength, readLength}
 use Rattle.rules.specs.Statements.Fields.{byte}
-use Rattle.rules.specs.Statements.Sizes.{isOf}
 use Rattle.rules.specs.Statements.Plans as N
-use Rattle.rules.specs.Statements.Plans.{Admits, Planned, commandOf}
+use Rattle.rules.specs.Statements.Plans.{Planned}
 use Rattle.rules.specs.Statements.Shape.{statusShown}
-use Rattle.rules.specs.Statements.Status.{LongEnough}
-use Rattle.rules.specs.Statements.StatusSays.{BitsOf, StatusBits, statusIn, ShowsStatus, StatusSays}
-use Rattle.rules.specs.Proofs.Fields.{one}
+use Rattle.rules.specs.Statements.Status.{LongEnough, statusBit}
+use Rattle.rules.specs.Statements.StatusSays.{BitsOf, StatusBits, ShowsStatus, StatusSays}
+use Rattle.rules.specs.Statements.Requests.{statusIn}
+use Rattle.rules.specs.Proofs.Reply.{status-in}
 use Rattle.rules.specs.Proofs.Reads.{reads}
 use Rattle.rules.specs.Proofs.Plans.{plans}
 use Rattle.rules.specs.Proofs.Cases.{exchange-step}
 use Rattle.rules.specs.Proofs.FirstApplies.{command-number}
-use Rattle.rules.specs.Proofs.Status.{word-bits, ByRows}
+use Rattle.rules.specs.Proofs.Reply as R
+use Rattle.rules.specs.Proofs.Status.{ByRows}
 use Rattle.rules.specs.Proofs.Peripheral.Status as P
 use Rattle.rules.specs.Proofs.Wires.Status as W
-use Rattle.rules.specs.Proofs.Effects.{command-own, above}
+use Rattle.rules.specs.Proofs.Effects.{command-own}
+use Rattle.rules.specs.Proofs.Whose.{never-set}
 use Rattle.rules.specs.declared.Say.{Say}
 use Rattle.rules.specs.declared.Say.the-variants as Y
 use Rattle.rules.specs.declared.Plan.{Plan}
 
 -- ---- the bits
+
+word-is : (w : World) → status (w .state) ≡ statusBit w 0 + 2 * statusBit w 1 + 4 + 16 * statusBit w 4 + 64 * statusBit w 6
+unfolding status
+word-is w =
+    let s = w .state in
+    rw (P.free-bit s, P.idle-bit s, P.avail-bit s, W.word-bit s) (omega (arith, R.status-bits s, ap bit (pending-any (s .wires))))
 
 module _ (w : World) (lent : List ℕ) (sound : Sound (w .state)) (long : LongEnough w lent) where
   abbrev s : State
@@ -51,35 +58,19 @@ module _ (w : World) (lent : List ℕ) (sound : Sound (w .state)) (long : LongEn
 
   -- the number is that of the first row
   by-rows : ByRows w lent
-  unfolding exchanged
+  unfolding performed
   by-rows b =
       ap (λ (o : Outcome). o .number) (exchange-step w b lent)
-      ∙ ap (λ (t : Bool). pick t (only 10 w) (exchanged w b (E.exchange s b)) .number) enough ∙ command-number s (sound .isSound) b
+      ∙ ap (λ (t : Bool). pick t (only 10 w) (performed w b (E.exchange s b)) .number) enough ∙ command-number s (sound .isSound) b
 
   of-channel : (k : Channel) → BitsOf w lent k
   of-channel peripheral = P.status-bits w lent sound by-rows
   of-channel wires = W.get-vwire w lent sound by-rows
 
   status-bits : StatusBits w lent
-  status-bits = record { word = word-bits s .is; ofChannel = of-channel }
+  status-bits = record { word = word-is w; ofChannel = of-channel }
 
 -- ---- the status in a reply
-
--- the two bytes after what stands first
-status-at : (p : List ℕ) (lo hi last : ℕ) (r : List ℕ) → r ≡ (p ++ (lo ∷ hi ∷ [])) ++ (last ∷ []) → statusIn r ≡ lo + 256 * hi
-status-at p lo hi last r e =
-    let f : r ≡ p ++ (lo ∷ hi ∷ last ∷ []) = e ∙ append-assoc p (lo ∷ hi ∷ []) (last ∷ []) in
-    let n : length r ≡ length p + 3 = ap length f ∙ length-append p (lo ∷ hi ∷ last ∷ []) in
-    let at-lo : length r - 3 ≡ length p = omega arith in
-    let at-hi : length r - 2 ≡ length p + 1 = omega arith in
-    let first : byte r (length r - 3) ≡ lo = rw (at-lo, f) (getD-append-seam p lo (hi ∷ last ∷ []) 0) in
-    let second : byte r (length r - 2) ≡ hi = rw (at-hi, f) (getD-append-add p (lo ∷ hi ∷ last ∷ []) 1 0) in
-    omega arith
-
-status-in : (m : List ℕ) (s : State) → statusIn (closed m (status s)) ≡ status s
-unfolding closed
-status-in m s =
-    status-at m (status s % 256) (status s / 256 % 256) (crc (m ++ low2 (status s))) (closed m (status s)) refl ∙ omega (arith, word-bits s .small)
 
 -- a state that is not changed has one status
 shown-same : (op : ℕ) (s : State) → status s ≡ statusShown op s s
@@ -88,12 +79,6 @@ shown-same op s = pick-ind (λ (n : ℕ). status s ≡ n) (eqb op 0x22) (λ _. r
 module _ (s : State) (b store : List ℕ) where
   abbrev Shown : Plan → Type 0
   Shown p = replyBytes (p .reply) (s .wires) store ≢ [] → statusIn (replyBytes (p .reply) (s .wires) store) ≡ statusShown (byte b 0) s (p .next)
-
-  -- no channel's command is a SET_CONFIGURATION
-  not-set : (k : Channel) (o : Command k) → Admits s b (commandOf k o) → eqb (byte b 0) 0x22 ≡ false
-  not-set k o e =
-      one (λ (op : ℕ). isOf k op ≡ true → eqb op 0x22 ≡ false) (byte b 0) 0x22 (λ h. absurd (true≢false (sym h ∙ above k .at22))) (λ n _. n)
-      (command-own k s b o e)
 
   said : (say : Say) (t : State) → replyBytes (withStatus say (status t)) (s .wires) store ≢ [] → statusIn (replyBytes (withStatus say (status t)) (s .wires) store) ≡ status t
   unfolding replyBytes
@@ -104,13 +89,13 @@ module _ (s : State) (b store : List ℕ) where
   unfolding replyBytes lift
   plan-shows (N.turned n q) some = absurd (some refl)
   plan-shows (N.shows q) some = status-in _ s ∙ shown-same (byte b 0) s
-  plan-shows (N.acts k o x e d) some = passed _ _ (not-set k o e) (said (outOf k x .say) (put k (nextOf k x) s) some)
+  plan-shows (N.acts k o x e d) some = passed _ _ (never-set k (byte b 0) (command-own k s b o e)) (said (outOf k x .say) (put k (nextOf k x) s) some)
   plan-shows (N.forbids a v e f) some = status-in _ s ∙ shown-same (byte b 0) s
   plan-shows (N.configures a v e f) some = taken _ _ (ap (λ (op : ℕ). eqb op 0x22) (reads s b _ e .opcode)) (status-in _ s)
   plan-shows (N.clears e) some = absurd (some refl)
 
 shows-status : (w : World) (reply : List ℕ) → ShowsStatus w reply
-unfolding exchanged
+unfolding performed
 shows-status w reply b =
     let Of : Outcome → Type 0 = λ o. o .reply ≢ [] → statusIn (o .reply) ≡ statusShown (byte b 0) (w .state) (o .next .state) in
     subst Of (sym (exchange-step w b reply))

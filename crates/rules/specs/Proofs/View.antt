@@ -1,16 +1,15 @@
 -- The view: one sweep over the case law, reading channel 0's law; whatever another channel does leaves channel 0's part.
-use Prim.Native.Nat.{ℕ, _+_, _-_, _*_, _/_, _%_, _^_, _<_, _≤_}
+use Prim.Native.Nat.{ℕ, _-_, _/_, _%_, _^_, _≤_}
 use mathlib.Core.Bool.{Bool, true, false, _&&_, not}
-use mathlib.Core.List.{List, [], _∷_, _++_}
+use mathlib.Core.List.{List, []}
 use mathlib.Core.Path.{_≡_, refl, sym, ap, ap₂, _∙_, subst}
 use native.Mathlib.Omega.{arith}
 use lib.Dec.{eqb}
-use lib.ListN.{length, take, length-append}
-use lib.Seq.{getD-append-add, take-length}
+use lib.ListN.{take}
+use lib.Seq.{take-length}
 use borrow.Author.Tests.{ne-eqb}
 use Rattle.base.specs.Pick.{pick}
-use Rattle.base.specs.Bytes.{over, low2, bit}
-use Rattle.crc.specs.Crc.{crc}
+use Rattle.base.specs.Bytes.{over, bit}
 use Rattle.registers.specs.Registers.{writeAt}
 use Rattle.registers.specs.declared.Config.{Config}
 use Rattle.peripheral.specs.Queues as F
@@ -26,8 +25,8 @@ use Rattle.rules.specs.Rules.Peripheral as P₀
 use Rattle.rules.specs.Rules.Channel.{Channel, peripheral, Command, Board, Change, nextOf, outOf, part, put, on, actOf, given, same}
 use Rattle.rules.specs.Rules.Lift.{lift, withStatus, show, nonFatal, acceptThen, quietly}
 use Rattle.rules.specs.Rules.Exchange.{reconfigured, reset008h, wasReset}
-use Rattle.rules.specs.Rules.Reply.{closed, replyBytes, keptBytes}
-use Rattle.rules.specs.Rules.Step.{World, Call, reset, exchange, board, lend, Outcome, step, only, withState, exchanged, settled}
+use Rattle.rules.specs.Rules.Reply.{replyBytes, keptBytes}
+use Rattle.rules.specs.Rules.Step.{World, Call, reset, exchange, board, lend, Outcome, step, only, withState, performed, served}
 use Rattle.rules.specs.Statements.Peripheral as P
 use Rattle.rules.specs.Statements.Cases as C
 use Rattle.rules.specs.Statements.Cases.{Did, Settled, Admits, commandOf, Case}
@@ -36,14 +35,14 @@ use Rattle.rules.specs.Statements.Events.{accepted}
 use Rattle.rules.specs.Statements.Fields.{byte, isPosted}
 use Rattle.rules.specs.Statements.Reads as R
 use Rattle.rules.specs.Statements.Reads.{Writes}
-use Rattle.rules.specs.Statements.Requests.{Event, idle, asks, gets, ends, eventOf, event, held, statusIn}
+use Rattle.rules.specs.Statements.Requests.{Event, idle, asks, gets, ends, eventOf, event, held}
 use Rattle.rules.specs.Statements.View.{Shown, Move, same as stays, asked, told, sent, lent, dropped, View}
 use Rattle.rules.specs.Proofs.Cases.{cases}
 use Rattle.rules.specs.Proofs.Channels as N
 use Rattle.rules.specs.Proofs.Fields.{by-posted}
 use Rattle.rules.specs.Proofs.Peripheral.Effects.{no-bytes}
 use Rattle.rules.specs.Proofs.Reads.{reads}
-use Rattle.rules.specs.Proofs.Reply.{closed-as, status-bits, status-small}
+use Rattle.rules.specs.Proofs.Reply.{status-bits, status-in}
 use Rattle.rules.specs.Proofs.Events.{disabling}
 use Rattle.rules.specs.Proofs.Requests.{refused-event, accepted-event, exchange-event, asked-event, got-event}
 use Rattle.rules.specs.Proofs.Lift.{own-or-other, same-turned, part-stays}
@@ -70,24 +69,12 @@ bits s = let h = status-bits s in record { np = omega (arith, h); pc = omega (ar
 quiet : {n : Np} → Shown n []
 quiet = record { np = λ h. absurd (omega arith); pc = λ h. absurd (omega arith) }
 
--- the status stands before the CRC byte
-status-at : (m : List ℕ) (a b x : ℕ) → statusIn (m ++ (a ∷ b ∷ x ∷ [])) ≡ a + b * 256
-status-at m a b x =
-    let t = a ∷ b ∷ x ∷ [] in
-    let n = length-append m t in
-    let low : length (m ++ t) - 3 ≡ length m + 0 = omega arith in
-    let high : length (m ++ t) - 2 ≡ length m + 1 = omega arith in
-    rw (low, high, getD-append-add m t 0 0, getD-append-add m t 1 0)
-
-status-in : (m : List ℕ) (st : ℕ) → st < 256 → statusIn (closed m st) ≡ st
-status-in m st h = rw (closed-as m st) (status-at m (st % 256) (st / 256 % 256) (crc (m ++ low2 st)) ∙ omega arith)
-
 -- a reply, where there is one, that shows the status of a state
 shown : (s : State) (say : Say) (w : World) → Shown (s .peripheral .request) (replyBytes (withStatus say (status s)) (w .state .wires) (w .read))
 unfolding replyBytes
 shown s S.Silent w = quiet
 shown s (S.Said response body) w =
-    record { np = λ _. rw (status-in _ (status s) (status-small s)) (bits s .np); pc = λ _. rw (status-in _ (status s) (status-small s)) (bits s .pc) }
+    record { np = λ _. rw (status-in _ s) (bits s .np); pc = λ _. rw (status-in _ s) (bits s .pc) }
 
 -- ---- commands that make no event of channel 0
 
@@ -114,19 +101,19 @@ module _ (w : World) where
 
   module _ (b r : List ℕ) where
     abbrev On : PeripheralChange → Type 0
-    On x = Seen (exchange b r) (exchanged w b (lift peripheral (w .state) x))
+    On x = Seen (exchange b r) (performed w b (lift peripheral (w .state) x))
 
     -- its reply shows the request that it leaves
-    leaves : (x : PeripheralChange) → Shown (x .next .request) (exchanged w b (lift peripheral (w .state) x) .reply)
-    unfolding exchanged lift
+    leaves : (x : PeripheralChange) → Shown (x .next .request) (performed w b (lift peripheral (w .state) x) .reply)
+    unfolding performed lift
     leaves x = shown (put peripheral (x .next) (w .state)) (x .out .say) w
 
     fatal-seen : On (P₀.change (w .state .peripheral) fatal)
-    unfolding exchanged lift
+    unfolding performed lift
     fatal-seen = seen idle (refused-event (w .state) (exchange b r) _ refl) (stays refl refl refl (leaves (P₀.change (w .state .peripheral) fatal)))
 
     acted-seen : {a : P₀.Act} {x : PeripheralChange} → R.Peripheral (w .state .config) b a → P.Did (w .state .config) (w .state .peripheral) a x → On x
-    unfolding exchanged lift replyBytes
+    unfolding performed lift replyBytes
     acted-seen f (P.writeHeld e) = fatal-seen
     acted-seen f (P.writeLarge e g) = fatal-seen
     acted-seen {a} {x} (R.posts h n) (P.posted e g) = seen idle (plain-event _ b r _ (posted-plain b h)) (stays refl refl refl (leaves x))
@@ -139,15 +126,15 @@ module _ (w : World) where
   -- ---- the board's calls on channel 0
 
   abbrev By : P₀.Board → PeripheralChange → Type 0
-  By o x = Seen (board peripheral o) (settled peripheral w o (lift peripheral (w .state) x))
+  By o x = Seen (board peripheral o) (served peripheral w o (lift peripheral (w .state) x))
 
   number-seen : (o : P₀.Board) (n : ℕ) → eqb n 0 ≡ false → By o (P₀.change (w .state .peripheral) (number n))
-  unfolding settled lift over
+  unfolding served lift over
   number-seen o n e = seen idle (refused-event (w .state) (board peripheral o) _ e) (stays refl refl refl quiet)
 
   settled-seen : {o : P₀.Board} {x : PeripheralChange} → P.Settled (w .state .peripheral) o x → By o x
-  unfolding settled lift over eventOf
-  settled-seen (P.looked e) = stays refl refl refl quiet
+  unfolding served lift over eventOf
+  settled-seen (P.lookDone e) = stays refl refl refl quiet
   settled-seen {o} (P.noLook e) = number-seen o 23 refl
   settled-seen {o} (P.noSuch e) = number-seen o 20 refl
   settled-seen {o} (P.miscounted e f g) = number-seen o 21 refl
@@ -164,8 +151,8 @@ module _ (w : World) where
     kept-part : (x : Change k) → put k (nextOf k x) (w .state) .peripheral ≡ w .state .peripheral
     kept-part x = part-stays k peripheral (nextOf k x) (w .state) (same-turned peripheral k other)
 
-    acted-beside : (b r : List ℕ) (x : Change k) → Plain b → Seen (exchange b r) (exchanged w b (lift k (w .state) x))
-    unfolding exchanged lift
+    acted-beside : (b r : List ℕ) (x : Change k) → Plain b → Seen (exchange b r) (performed w b (lift k (w .state) x))
+    unfolding performed lift
     acted-beside b r x p =
         seen idle (plain-event (w .state) b r _ p)
         (stays (ap (λ (q : Peripheral). q .request) (kept-part x)) (ap (λ (q : Peripheral). q .serial) (kept-part x)) refl
@@ -179,8 +166,8 @@ module _ (w : World) where
         go true e = accepted-event (w .state) (board k o) x e ∙ board-other k other o
         go false e = refused-event (w .state) (board k o) x e
 
-    settled-beside : (o : Board k) (x : Change k) → Settles k (part k (w .state)) o x → Seen (board k o) (settled k w o (lift k (w .state) x))
-    unfolding settled lift over
+    settled-beside : (o : Board k) (x : Change k) → Settles k (part k (w .state)) o x → Seen (board k o) (served k w o (lift k (w .state) x))
+    unfolding served lift over
     settled-beside o x d =
         seen idle (board-event o _)
         (stays (ap (λ (q : Peripheral). q .request) (kept-part x)) (ap (λ (q : Peripheral). q .serial) (kept-part x))
@@ -189,25 +176,25 @@ module _ (w : World) where
   -- ---- above all channels
 
   abbrev Plans : List ℕ → List ℕ → Plan → Type 0
-  Plans b r p = Seen (exchange b r) (exchanged w b p)
+  Plans b r p = Seen (exchange b r) (performed w b p)
 
   shown-seen : (b r : List ℕ) (body : Body) → Plain b → Plans b r (show body (w .state))
-  unfolding exchanged
+  unfolding performed
   shown-seen b r body p = seen idle (plain-event (w .state) b r _ p) (stays refl refl refl (shown (w .state) (S.Said Accept body) w))
 
   forbidden-seen : (b r : List ℕ) → Plans b r (nonFatal (w .state))
-  unfolding exchanged
+  unfolding performed
   forbidden-seen b r =
       seen idle (refused-event (w .state) (exchange b r) _ refl) (stays refl refl refl (shown (w .state) (S.Said NonFatal B.Nothing) w))
 
   cleared-seen : (b r : List ℕ) → Plain b → Plans b r (quietly (reset008h (w .state)))
-  unfolding exchanged replyBytes
+  unfolding performed replyBytes
   cleared-seen b r p = seen idle (plain-event (w .state) b r _ p) (stays refl refl refl quiet)
 
   -- "A write takes effect after its own reply, whose .. status" is the old one
   written-seen : (b r : List ℕ) (c : Config) (t : Bool) → on peripheral (w .state .config) && not (on peripheral c) ≡ t
-      → Move w (exchange b r) (exchanged w b (acceptThen (w .state) (reconfigured (w .state) c))) (pick t ends idle)
-  unfolding exchanged
+      → Move w (exchange b r) (performed w b (acceptThen (w .state) (reconfigured (w .state) c))) (pick t ends idle)
+  unfolding performed
   written-seen b r c true e =
       dropped (ap (λ (t : Bool). pick t (F.dropped (w .state .peripheral)) (w .state .peripheral)) e) refl
       (shown (w .state) (S.Said Accept B.Nothing) w)
@@ -216,7 +203,7 @@ module _ (w : World) where
       stays (ap (λ (q : Peripheral). q .request) kept) (ap (λ (q : Peripheral). q .serial) kept) refl (shown (w .state) (S.Said Accept B.Nothing) w)
 
   set-seen : (b r : List ℕ) (a v : ℕ) → Writes b a v → Plans b r (acceptThen (w .state) (reconfigured (w .state) (writeAt (w .state .config) a v)))
-  unfolding exchanged
+  unfolding performed
   set-seen b r a v h =
       seen _
       (accepted-event (w .state) (exchange b r) _ refl
@@ -248,14 +235,14 @@ module _ (w : World) where
   case-seen (C.acted {b} {r} k o x e d) =
       own-or-other peripheral
       (λ (k : Channel). (o : Command k) (x : Change k) → Admits (w .state) b (commandOf k o)
-      → Did k (w .state .config) (part k (w .state)) (actOf k (w .state .config) o b) x → Seen (exchange b r) (exchanged w b (lift k (w .state) x)))
+      → Did k (w .state .config) (part k (w .state)) (actOf k (w .state .config) o b) x → Seen (exchange b r) (performed w b (lift k (w .state) x)))
       (λ o x e d. acted-seen b r (reads (w .state) b _ e) d)
-      (λ k n o x e d. acted-beside k n b r x (command-other k n (w .state .config) b o (reads (w .state) b _ e)))
+      (λ k n o x e d. acted-beside k n b r x (command-other k n (w .state) b o e))
       k o x e d
   case-seen (C.settles k o x e d) =
       own-or-other peripheral
       (λ (k : Channel). (o : Board k) (x : Change k) → Settled k (w .state .config) (part k (w .state)) o x
-      → Seen (board k o) (settled k w o (lift k (w .state) x)))
+      → Seen (board k o) (served k w o (lift k (w .state) x)))
       (λ o x d. settled-seen d) (λ k n o x d. settled-beside k n o x (N.settled k (w .state .config) (part k (w .state)) o x d)) k o x d
   case-seen (C.forbidden {b} {r} a v e f) = forbidden-seen b r
   case-seen (C.configured {b} {r} a v e f) = set-seen b r a v (reads (w .state) b _ e)

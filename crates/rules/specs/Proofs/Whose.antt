@@ -1,10 +1,12 @@
 -- Whose an exchange is: a channel's command begins with an opcode of that channel's, and of no other's.
 use Prim.Native.Nat.{ℕ, _≤_}
-use mathlib.Core.Bool.{Bool, true, false}
+use mathlib.Core.Bool.{Bool, true, false, true≢false}
 use mathlib.Core.List.{List, [], _∷_}
 use mathlib.Core.Path.{_≡_, refl, sym, ap, _∙_}
 use native.Mathlib.Omega.{arith}
+use lib.Dec.{eqb}
 use lib.ListN.{length}
+use borrow.Author.Tests.{eqb-true}
 use Rattle.registers.specs.Registers.{crcChecked}
 use Rattle.command.specs.Facts.{admit-decodes}
 use Rattle.command.specs.declared.Command as C₀
@@ -16,10 +18,10 @@ use Rattle.rules.specs.Statements.Fields.{byte}
 use Rattle.rules.specs.Statements.Sizes.{isOf}
 use Rattle.rules.specs.Statements.Apart.{isCommandOf}
 use Rattle.rules.specs.Proofs.Lift.{same-is}
-use Rattle.rules.specs.Proofs.Effects.{command-own, one-channel}
+use Rattle.rules.specs.Proofs.Effects.{command-own, one-channel, above}
 
 pub begins : (x : Channel) (s : State) (b : List ℕ) (o : C₀.Command) → Admits s b o → isCommandOf x b ≡ isOf x (byte b 0)
-begins x s b o e = go b (admit-decodes (channelsOf (s .config)) (crcChecked (s .config .r008)) b o e .some)
+begins x s b o e = go b (admit-decodes (channelsOf (s .config)) (crcChecked (s .config .r008)) b o e .passes .some)
   where
     go : (l : List ℕ) → 1 ≤ length l → isCommandOf x l ≡ isOf x (byte l 0)
     go [] h = absurd (omega (arith, h))
@@ -32,6 +34,14 @@ own-opcode x k op e = go (isOf x op) refl (same x k) refl
     go true f u g = sym (one-channel x k op f e) ∙ g
     go false f true g = sym f ∙ ap (λ (z : Channel). isOf z op) (sym (same-is x k g)) ∙ e
     go false f false g = refl
+
+-- and no channel's is a SET_CONFIGURATION
+pub never-set : (k : Channel) (op : ℕ) → isOf k op ≡ true → eqb op 0x22 ≡ false
+never-set k op e = go (eqb op 0x22) refl
+  where
+    go : (t : Bool) → eqb op 0x22 ≡ t → t ≡ false
+    go true f = absurd (true≢false (sym e ∙ ap (isOf k) (eqb-true op 0x22 f) ∙ above k .at22))
+    go false f = refl
 
 pub own-command : (x k : Channel) (s : State) (b : List ℕ) (o : Command k) → Admits s b (commandOf k o) → isCommandOf x b ≡ same x k
 own-command x k s b o e = begins x s b (commandOf k o) e ∙ own-opcode x k (byte b 0) (command-own k s b o e)

@@ -28,7 +28,7 @@ use Rattle.rules.specs.Rules.Wires as W₀
 use Rattle.rules.specs.Rules.Channel.{wires, on}
 use Rattle.rules.specs.Rules.Lift.{lift}
 use Rattle.rules.specs.Rules.Reply.{closed}
-use Rattle.rules.specs.Rules.Step.{World, Call, exchange, board, Outcome, step, settled}
+use Rattle.rules.specs.Rules.Step.{World, Call, exchange, board, Outcome, step, served}
 use Rattle.rules.specs.Statements.Wires as W
 use Rattle.rules.specs.Statements.Fields.{byte, pairs, registerAt}
 use Rattle.rules.specs.Statements.WireEvents.{WireEvent, puts, gets, wireEvent, wiresOf, countOf}
@@ -103,19 +103,19 @@ board-did (W.read e) n = rw e
 
 module _ (w : World) (o : W₀.Board) (n : step w (board wires o) .number ≡ 0) where
   board-law : BoardDid (w .state .config) (wiresOf w) o (W₀.settle (w .state .config) (wiresOf w) o .next)
-  unfolding settled lift
+  unfolding served lift
   board-law = board-did (D.settled wires (w .state .config) (wiresOf w) o) (sym (ap (λ (q : Outcome). q .number) (board-long wires w o refl)) ∙ n)
 
 set-step : (w : World) (i bit value : ℕ) → Sound (w .state) → step w (setsWire i bit value) .number ≡ 0
     → Set w (step w (setsWire i bit value) .next) i bit value
-unfolding settled lift
+unfolding served lift
 set-step w i bit value s n =
     let o = W₀.setWire i bit value in
     let d = board-law w o n in
     set-of w i bit value (step w (board wires o)) s (d .0) (ap (λ (q : Outcome). wiresOf (q .next)) (board-long wires w o refl) ∙ d .1)
 
 read-step : (w : World) (i bit : ℕ) → step w (readsWire i bit) .number ≡ 0 → step w (readsWire i bit) .value ≡ wireOf w i bit
-unfolding settled
+unfolding served
 read-step w i bit n = let o = W₀.readWire i bit in ap (λ (q : Outcome). q .value) (board-long wires w o refl) ∙ board-law w o n
 
 -- ---- GET_VWIRE: senders by their group

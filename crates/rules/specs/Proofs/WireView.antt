@@ -5,7 +5,7 @@ use mathlib.Core.List.{List, _∷_}
 use mathlib.Core.Path.{_≡_, refl, sym, ap, ap₂, subst, _∙_}
 use native.Mathlib.Omega.{arith}
 use lib.Dec.{eqb}
-use borrow.Author.Tests.{ne-eqb, eqb-true}
+use borrow.Author.Tests.{ne-eqb}
 use Rattle.base.specs.Pick.{pick}
 use Rattle.registers.specs.Registers.{writeAt}
 use Rattle.wires.specs.Groups as G
@@ -22,15 +22,14 @@ use Rattle.rules.specs.Rules.Channel.{Channel, peripheral, wires, Comman
 use Rattle.rules.specs.Rules.Lift.{lift, show, acceptThen}
 use Rattle.rules.specs.Rules.Exchange.{reconfigured, wasReset}
 use Rattle.rules.specs.Rules.Reply.{closed, replyBytes}
-use Rattle.rules.specs.Rules.Step.{World, Call, reset, exchange, board, lend, Outcome, only, withState, exchanged, settled}
+use Rattle.rules.specs.Rules.Step.{World, Call, reset, exchange, board, lend, Outcome, only, withState, performed, served}
 use Rattle.rules.specs.Statements.Wires as W
 use Rattle.rules.specs.Statements.Plans.{Did, Settled, Admits, commandOf, Shows, status as getsStatus, register}
 use Rattle.rules.specs.Statements.Cases as C
 use Rattle.rules.specs.Statements.Cases.{Case}
-use Rattle.rules.specs.Statements.Events.{accepted, ending, registerOf}
+use Rattle.rules.specs.Statements.Events.{accepted, ending, enablesAt}
 use Rattle.rules.specs.Statements.Fields.{byte, isChannel1, registerAt, registerValue}
 use Rattle.rules.specs.Statements.Reads as R
-use Rattle.rules.specs.Statements.Sizes.{isOf}
 use Rattle.rules.specs.Statements.WireEvents.{WireEvent, idle, puts, gets, enables, ends, switchesOn, commandWire, boardWire, acceptedWire, wireEventOf, wiresOf, countOf}
 use Rattle.rules.specs.Statements.WireView.{WireMove, still, put, sent, set, enabled, disabled, wiped, platformWiped, WireView}
 use Rattle.rules.specs.Proofs.Cases.{cases}
@@ -38,8 +37,8 @@ use Rattle.rules.specs.Proofs.SoundParts.{parts}
 use Rattle.rules.specs.Proofs.Reads.{reads}
 use Rattle.rules.specs.Proofs.Events.{rising-edge, no-disabling, disabling}
 use Rattle.rules.specs.Proofs.Lift.{same-turned, own-or-other, part-stays}
-use Rattle.rules.specs.Proofs.Effects.{command-own, above}
-use Rattle.rules.specs.Proofs.Whose.{own-opcode}
+use Rattle.rules.specs.Proofs.Effects.{command-own}
+use Rattle.rules.specs.Proofs.Whose.{own-opcode, never-set}
 use Rattle.rules.specs.declared.WiresChange.{WiresChange}
 use Rattle.rules.specs.declared.Body.{Body}
 
@@ -70,7 +69,7 @@ module _ (s : State) (b r : List ℕ) (write : eqb (byte b 0) 0x22 ≡ false) wh
   by-byte : commandWire s b ≡ pick (eqb (byte b 0) 0x04) puts (pick (eqb (byte b 0) 0x05) gets idle)
   by-byte =
       ap (λ (t : Bool). pick (eqb (byte b 0) 0x04) puts (pick (eqb (byte b 0) 0x05) gets (pick t enables idle)))
-      (ap (λ (t : Bool). t && (eqb (registerAt b) (registerOf wires) && (not (on wires (s .config)) && eqb (registerValue b % 2) 1))) write)
+      (ap (λ (t : Bool). t && (enablesAt wires (registerAt b) && (not (on wires (s .config)) && eqb (registerValue b % 2) 1))) write)
 
   quiet-exchange : (o : Outcome) → isChannel1 (byte b 0) ≡ false → wireEventOf s (exchange b r) o ≡ idle
   quiet-exchange o e = quiet-wire s (exchange b r) o (no-disabling wires s b write) (by-byte ∙ go (eqb (byte b 0) 0x04) (eqb (byte b 0) 0x05) e)
@@ -89,24 +88,17 @@ as-is {w} {c} {o} q m = subst (WireMove w c o) (sym q) m
 
 -- ---- another channel's change
 
-never-set : (k : Channel) (op : ℕ) → isOf k op ≡ true → eqb op 0x22 ≡ false
-never-set k op e = go (eqb op 0x22) refl
-  where
-    go : (t : Bool) → eqb op 0x22 ≡ t → t ≡ false
-    go true f = absurd (true≢false (sym e ∙ ap (isOf k) (eqb-true op 0x22 f) ∙ above k .at22))
-    go false f = refl
-
 board-other : (k : Channel) → same wires k ≡ false → (o : Board k) → boardWire k o ≡ idle
 board-other peripheral n o = refl
 board-other wires n o = absurd (true≢false n)
 
 module _ (w : World) where
-  lift-wires : (k : Channel) → same wires k ≡ false → (b : List ℕ) (x : Change k) → wiresOf (exchanged w b (lift k (w .state) x) .next) ≡ wiresOf w
-  unfolding exchanged lift
+  lift-wires : (k : Channel) → same wires k ≡ false → (b : List ℕ) (x : Change k) → wiresOf (performed w b (lift k (w .state) x) .next) ≡ wiresOf w
+  unfolding performed lift
   lift-wires k n b x = part-stays k wires (nextOf k x) (w .state) (same-turned wires k n)
 
-  settled-wires : (k : Channel) → same wires k ≡ false → (o : Board k) (x : Change k) → wiresOf (settled k w o (lift k (w .state) x) .next) ≡ wiresOf w
-  unfolding settled lift
+  settled-wires : (k : Channel) → same wires k ≡ false → (o : Board k) (x : Change k) → wiresOf (served k w o (lift k (w .state) x) .next) ≡ wiresOf w
+  unfolding served lift
   settled-wires k n o x = part-stays k wires (nextOf k x) (w .state) (same-turned wires k n)
 
   abbrev Seen : Call → Outcome → Type 0
@@ -133,8 +125,8 @@ module _ (w : World) where
 
   enabling : (b : List ℕ) (a v : ℕ) → R.Writes b a v → switchesOn (w .state) b ≡ not was && on wires (writeAt (w .state .config) a v)
   enabling b a v h =
-      ap (λ (op : ℕ). eqb op 0x22 && (eqb (registerAt b) (registerOf wires) && (not was && eqb (registerValue b % 2) 1))) (h .opcode)
-      ∙ ap₂ (λ (x y : ℕ). eqb x (registerOf wires) && (not was && eqb (y % 2) 1)) (sym (h .address)) (sym (h .value))
+      ap (λ (op : ℕ). eqb op 0x22 && (enablesAt wires (registerAt b) && (not was && eqb (registerValue b % 2) 1))) (h .opcode)
+      ∙ ap₂ (λ (x y : ℕ). enablesAt wires x && (not was && eqb (y % 2) 1)) (sym (h .address)) (sym (h .value))
       ∙ sym (rising-edge wires (w .state .config) a v)
 
   module _ (b r : List ℕ) (a v : ℕ) (h : R.Writes b a v) where
@@ -142,17 +134,17 @@ module _ (w : World) where
     is = on wires (writeAt (w .state .config) a v)
 
     abbrev Set : Outcome
-    Set = exchanged w b (acceptThen (w .state) (reconfigured (w .state) (writeAt (w .state .config) a v)))
+    Set = performed w b (acceptThen (w .state) (reconfigured (w .state) (writeAt (w .state .config) a v)))
 
     set-event : wireEventOf (w .state) (exchange b r) Set ≡ pick (was && not is) ends (pick (not was && is) enables idle)
-    unfolding wireEventOf exchanged
+    unfolding wireEventOf performed
     set-event =
         ap₂ (λ (t : Bool) (e : WireEvent). pick t ends e) (disabling wires (w .state) b a v h)
         (ap (λ (op : ℕ). pick (eqb op 0x04) puts (pick (eqb op 0x05) gets (pick (switchesOn (w .state) b) enables idle))) (h .opcode)
         ∙ ap (λ (t : Bool). pick t enables idle) (enabling b a v h))
 
     set-wires : wiresOf (Set .next) ≡ pick (was && not is) (G.disabled (wiresOf w)) (pick (not was && is) (G.enabled (wiresOf w)) (wiresOf w))
-    unfolding exchanged
+    unfolding performed
     set-wires = refl
 
     set-seen : Seen (exchange b r) Set
@@ -170,16 +162,16 @@ module _ (w : World) where
   wiped-seen espiReset = wiped refl
   wiped-seen platformReset = platformWiped refl
 
-  shown-seen : (b r : List ℕ) {body : Body} → Shows (w .state) b body → Seen (exchange b r) (exchanged w b (show body (w .state)))
-  unfolding exchanged
+  shown-seen : (b r : List ℕ) {body : Body} → Shows (w .state) b body → Seen (exchange b r) (performed w b (show body (w .state)))
+  unfolding performed
   shown-seen b r (getsStatus e) = quiet-seen b r _ 0x25 (reads (w .state) b _ e) refl refl refl
   shown-seen b r (register a e) = quiet-seen b r _ 0x21 (reads (w .state) b _ e .opcode) refl refl refl
 
   -- ---- channel 1
 
   acted-seen : (b r : List ℕ) {a : W₀.Act} {x : WiresChange} → W.Did (w .state .config) (wiresOf w) a x → R.Wires b a
-      → Seen (exchange b r) (exchanged w b (lift wires (w .state) x))
-  unfolding exchanged lift replyBytes
+      → Seen (exchange b r) (performed w b (lift wires (w .state) x))
+  unfolding performed lift replyBytes
   acted-seen b r (W.overCount e) h = as-is (refused-wire (w .state) (exchange b r) _ refl) (still refl)
   acted-seen b r (W.put e) (R.Wires.puts h) = as-is (command-event b r 0x04 puts h refl refl _ refl) (put b r refl refl)
   acted-seen b r (W.nonePending e) h = as-is (refused-wire (w .state) (exchange b r) _ refl) (still refl)
@@ -190,8 +182,8 @@ module _ (w : World) where
       (sent k ks e (ap (afterSent v) (sym e)) (ap (λ (l : List ℕ). closed (0x08 ∷ packetBytes v (packetOf v l)) t) (sym e) ∙ ap (λ (l : List ℕ). closed (0x08 ∷ l) t) (sent-bytes v (countOf w))))
 
   settled-seen : {o : W₀.Board} {x : WiresChange} → W.Settled (w .state .config) (wiresOf w) o x
-      → Seen (board wires o) (settled wires w o (lift wires (w .state) x))
-  unfolding settled lift wireEventOf
+      → Seen (board wires o) (served wires w o (lift wires (w .state) x))
+  unfolding served lift wireEventOf
   settled-seen (W.notBoards e) = still refl
   settled-seen (W.set {index = i} {bit = bit} {value = value} e) = set i bit value refl e refl
   settled-seen (W.noWire e) = still refl
@@ -200,28 +192,28 @@ module _ (w : World) where
   -- ---- every channel
 
   any-acted : (b r : List ℕ) (k : Channel) (o : Command k) (x : Change k) → Admits (w .state) b (commandOf k o)
-      → Did k (w .state .config) (part k (w .state)) (actOf k (w .state .config) o b) x → Seen (exchange b r) (exchanged w b (lift k (w .state) x))
+      → Did k (w .state .config) (part k (w .state)) (actOf k (w .state .config) o b) x → Seen (exchange b r) (performed w b (lift k (w .state) x))
   any-acted b r =
       own-or-other wires
       (λ (k : Channel). (o : Command k) (x : Change k) → Admits (w .state) b (commandOf k o)
-      → Did k (w .state .config) (part k (w .state)) (actOf k (w .state .config) o b) x → Seen (exchange b r) (exchanged w b (lift k (w .state) x)))
+      → Did k (w .state .config) (part k (w .state)) (actOf k (w .state .config) o b) x → Seen (exchange b r) (performed w b (lift k (w .state) x)))
       (λ o x e d. acted-seen b r d (reads (w .state) b _ e)) others
     where
       others : (k : Channel) → same wires k ≡ false → (o : Command k) (x : Change k) → Admits (w .state) b (commandOf k o)
-          → Did k (w .state .config) (part k (w .state)) (actOf k (w .state .config) o b) x → Seen (exchange b r) (exchanged w b (lift k (w .state) x))
+          → Did k (w .state .config) (part k (w .state)) (actOf k (w .state .config) o b) x → Seen (exchange b r) (performed w b (lift k (w .state) x))
       others k n o x e d =
           let c = command-own k (w .state) b o e in
           as-is (quiet-exchange (w .state) b r (never-set k (byte b 0) c) _ (own-opcode wires k (byte b 0) c ∙ n)) (still (lift-wires k n b x))
 
   any-settled : (k : Channel) (o : Board k) (x : Change k) → Settled k (w .state .config) (part k (w .state)) o x
-      → Seen (board k o) (settled k w o (lift k (w .state) x))
+      → Seen (board k o) (served k w o (lift k (w .state) x))
   any-settled =
-      own-or-other wires (λ (k : Channel). (o : Board k) (x : Change k) → Settled k (w .state .config) (part k (w .state)) o x → Seen (board k o) (settled k w o (lift k (w .state) x)))
+      own-or-other wires (λ (k : Channel). (o : Board k) (x : Change k) → Settled k (w .state .config) (part k (w .state)) o x → Seen (board k o) (served k w o (lift k (w .state) x)))
       (λ o x d. settled-seen d)
       (λ k n o x d. as-is (quiet-wire (w .state) (board k o) _ refl (board-other k n o)) (still (settled-wires k n o x)))
 
   seen-case : {c : Call} {o : Outcome} → Case w c o → Seen c o
-  unfolding exchanged
+  unfolding performed
   seen-case {c} (C.idle n q) = silent-seen c n (q .least)
   seen-case (C.shown {b = b} {r = r} q) = shown-seen b r q
   seen-case (C.acted {b = b} {r = r} k o x e d) = any-acted b r k o x e d

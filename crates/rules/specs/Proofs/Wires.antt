@@ -1,6 +1,10 @@
 -- Channel 1's law: the one file that unfolds its decisions.
 pub mod Apart
 pub mod Effects
+pub mod SoundMeans
+pub mod WholeFirstApplies
+pub mod WholeRefusals
+pub mod Fits
 pub mod Lawful
 pub mod Shape
 pub mod Sound
@@ -22,7 +26,7 @@ use Rattle.rules.specs.Rules.Wires as W
 use Rattle.rules.specs.Rules.Wires.{Act, puts, gets, Board, setWire, readWire}
 use Rattle.rules.specs.Statements.Wires.{Did, overCount, put, nonePending, sentOff, Settled, notBoards, set, noWire, read}
 
-send-did : (c : Config) (w : Wires) (ks : List ℕ) → sent w (operatingCount (c .r020)) ≡ ks → Did c w gets (W.sending w ks)
+send-did : (c : Config) (w : Wires) (ks : List ℕ) → sent w (operatingCount (c .r020)) ≡ ks → Did c w gets (W.sentOut w ks)
 send-did c w [] e = nonePending e
 send-did c w (k ∷ ks) e = sentOff e
 

@@ -13,7 +13,7 @@ use Rattle.rules.specs.Rules.Step.{World, Call, reset, exchange, board, 
 use Rattle.rules.specs.Statements.Fields.{byte, registerAt, registerValue}
 use Rattle.rules.specs.Statements.Reads.{requestIn}
 use Rattle.rules.specs.Statements.Events as E
-use Rattle.rules.specs.Statements.Events.{accepted, ending, registerOf}
+use Rattle.rules.specs.Statements.Events.{accepted, ending, enablesAt}
 use Rattle.rules.specs.Statements.Requests.{asks, tells, gets, ends, event, isEnd}
 use Rattle.rules.specs.Statements.Words.{GetPc, getPc, NonPosted, nonPosted, Answer, answer, enableBit, Ending, byReset, byWrite, Accepted, AsksFor, ByteWords}
 use Rattle.rules.specs.Proofs.Requests.{Is, ask, get, tell, accepted-event, event-was, asked-event, got-event, end-is, ended-event}
@@ -53,11 +53,11 @@ ending-of : (k : Channel) (s : State) (c : Call) → ending k s c ≡ true → E
 ending-of k s (reset r) e = byReset
 ending-of k s (exchange b r) e =
     let op = eqb (byte b 0) 0x22 in
-    let at = eqb (registerAt b) (registerOf k) in
+    let at = enablesAt k (registerAt b) in
     let rest = and-right op (at && (on k (s .config) && eqb (registerValue b % 2) 0)) e in
     let bits = and-right at (on k (s .config) && eqb (registerValue b % 2) 0) rest in
     byWrite (eqb-true (byte b 0) 0x22 (and-left op (at && (on k (s .config) && eqb (registerValue b % 2) 0)) e))
-    (eqb-true (registerAt b) (registerOf k) (and-left at (on k (s .config) && eqb (registerValue b % 2) 0) rest))
+    (and-left at (on k (s .config) && eqb (registerValue b % 2) 0) rest)
     (eqb-true (enableBit k (s .config)) 1 (sym (enable-on k (s .config)) ∙ and-left (on k (s .config)) (eqb (registerValue b % 2) 0) bits))
     (eqb-true (registerValue b % 2) 0 (and-right (on k (s .config)) (eqb (registerValue b % 2) 0) bits))
 ending-of k s (board j o) e = absurd (true≢false (sym e))
@@ -68,7 +68,7 @@ ending-is : (k : Channel) (s : State) (c : Call) → Ending k (s .config) c → 
 ending-is k s c byReset = refl
 ending-is k s c (byWrite {b} {r} e f g h) =
     and-true (eq-eqb (byte b 0) 0x22 e)
-    (and-true (eq-eqb (registerAt b) (registerOf k) f) (and-true (enable-on k (s .config) ∙ eq-eqb (enableBit k (s .config)) 1 g) (eq-eqb (registerValue b % 2) 0 h)))
+    (and-true f (and-true (enable-on k (s .config) ∙ eq-eqb (enableBit k (s .config)) 1 g) (eq-eqb (registerValue b % 2) 0 h)))
 
 ends-of : (k : Channel) (w : World) (c : Call) → E.ends k w c ≡ true → Accepted w c × Ending k (w .state .config) c
 ends-of k w c e =

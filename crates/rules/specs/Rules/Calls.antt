@@ -6,7 +6,6 @@ use lib.Dec.{ltb}
 use lib.ListN.{length}
 use Rattle.base.specs.Pick.{pick}
 use Rattle.base.specs.Bytes.{over}
-use Rattle.wires.specs.declared.Wires.{Wires}
 use Rattle.state.specs.Fresh.{freshState}
 use Rattle.state.specs.declared.State.{State}
 use Rattle.state.specs.Layout.{stateLength, packed, unpacked, holds}
@@ -80,10 +79,10 @@ platformResetCall st = resetCall platformReset st
 
 -- ---- the exchange
 
-unfoldable pub exchangePlanned : Plan → Wires → (st command reply write read : List ℕ) → Exchanged
-exchangePlanned p w st command reply write read =
-    exchanged (word (p .number) (length (replyBytes (p .reply) w read))) (kept (p .next) st) (over (replyBytes (p .reply) w read) reply)
-    (over (keptBytes (p .kept) command) write)
+unfoldable pub exchangePlanned : Plan → (st command reply write read : List ℕ) → Exchanged
+exchangePlanned p st command reply write read =
+    let r = replyBytes (p .reply) (unpacked st .wires) read in
+    exchanged (word (p .number) (length r)) (kept (p .next) st) (over r reply) (over (keptBytes (p .kept) command) write)
 
 unfoldable pub exchangeCall : (st command reply write read : List ℕ) → Exchanged
 exchangeCall st command reply write read =
@@ -92,7 +91,7 @@ exchangeCall st command reply write read =
     (pick (ltb (length write) writeLength) (exchanged storeTooShort st reply write)
     (pick (ltb (length read) readLength) (exchanged storeTooShort st reply write)
     (pick (not (holds st)) (exchanged stateNotSound st reply write)
-    (exchangePlanned (E.exchange (unpacked st) command) (unpacked st .wires) st command reply write read)))))
+    (exchangePlanned (E.exchange (unpacked st) command) st command reply write read)))))
 
 -- ---- the board's calls
 

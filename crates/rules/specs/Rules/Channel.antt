@@ -94,10 +94,10 @@ abbrev pub bits : (k : Channel) → Part k → ℕ
 bits peripheral p = peripheralStatus p
 bits wires p = wiresStatus p
 
--- an edge of its enable bit, and a reset
-abbrev pub edge : (k : Channel) → Bool → Bool → Part k → Part k
-edge peripheral = P.edge
-edge wires = W.edge
+-- an enableEdge of its enable bit, and a reset
+abbrev pub enableEdge : (k : Channel) → Bool → Bool → Part k → Part k
+enableEdge peripheral = P.enableEdge
+enableEdge wires = W.enableEdge
 
 abbrev pub reset : (k : Channel) → Reset → Part k → Part k
 reset peripheral = P.reset

@@ -12,15 +12,15 @@ use Rattle.command.specs.declared.Decoded.{Decoded}
 use Rattle.command.specs.declared.Decoded.the-variants.{Known, Refused}
 use Rattle.state.specs.declared.State.{State}
 use Rattle.rules.specs.Rules.Reset.{Reset, start, espiReset, platformReset}
-use Rattle.rules.specs.Rules.Channel.{Channel, peripheral, wires, Act, part, each, on, actOf, acting, edge, reset}
+use Rattle.rules.specs.Rules.Channel.{Channel, peripheral, wires, Act, part, each, on, actOf, acting, enableEdge, reset}
 use Rattle.rules.specs.Rules.Lift.{lift, silent, show, nonFatal, acceptThen, quietly}
 use Rattle.rules.specs.declared.Body.the-variants as B
 use Rattle.rules.specs.declared.Plan.{Plan}
 
--- ---- configuration: each channel gets the edge of its enable bit
+-- ---- configuration: each channel gets the enableEdge of its enable bit
 
 abbrev pub reconfigured : State → Config → State
-reconfigured s c = each (λ k. edge k (on k (s .config)) (on k c)) c s
+reconfigured s c = each (λ k. enableEdge k (on k (s .config)) (on k c)) c s
 
 -- 2, "forbidden configuration value"
 unfoldable pub setConfiguration : State → ℕ → ℕ → Plan

@@ -9,12 +9,16 @@ use Rattle.rules.specs.declared.Reply.{Reply}
 use Rattle.rules.specs.declared.Reply.the-variants.{Silent, Said}
 use Rattle.rules.specs.declared.Kept.{Kept}
 use Rattle.rules.specs.declared.Kept.the-variants as K
+use Rattle.rules.specs.declared.Say.{Say}
+use Rattle.rules.specs.declared.Say.the-variants as Y
+use Rattle.rules.specs.declared.Out.{Out}
 use Rattle.rules.specs.declared.Plan.{Plan}
+use Rattle.rules.specs.Rules.Step.{writeLength, readLength}
 
--- within a reply's 256 data bytes, and within a read store of 4,096
+-- within a reply's 256 data bytes, and within the read store
 pub record PieceFits (c : Completion) : Type 0 where
   pub most : c .length ≤ 256
-  pub end : c .from + c .length ≤ 4096
+  pub end : c .from + c .length ≤ readLength
 
 abbrev pub BodyFits : Body → Wires → Type 0
 BodyFits B.Nothing w = Unit {0}
@@ -35,7 +39,14 @@ abbrev pub KeptFits : Kept → ℕ → ℕ → Type 0
 KeptFits K.Nothing m room = Unit {0}
 KeptFits (K.Data at n) m room = DataFits at n m room
 
--- the data of an exchange goes to the write store
+-- what goes out of a channel's change; the data of an exchange goes to the write store
+abbrev pub SayFits : Say → Wires → Type 0
+SayFits Y.Silent w = Unit {0}
+SayFits (Y.Said response body) w = BodyFits body w
+
+abbrev pub OutFits : ℕ → Wires → Out → Type 0
+OutFits m w out = SayFits (out .say) w × KeptFits (out .kept) m writeLength
+
 pub record PlanFits (m : ℕ) (w : Wires) (p : Plan) : Type 0 where
   pub reply : ReplyFits (p .reply) w
-  pub kept : KeptFits (p .kept) m 256
+  pub kept : KeptFits (p .kept) m writeLength

@@ -236,8 +236,8 @@ given (takeWrite report) = []
 -- ---- configuration and resets
 
 -- "Disabling channel 0 .. drop[s] held write, request and completions"
-abbrev pub edge : Bool → Bool → Peripheral → Peripheral
-edge was is p = pick (was && not is) (dropped p) p
+abbrev pub enableEdge : Bool → Bool → Peripheral → Peripheral
+enableEdge was is p = pick (was && not is) (dropped p) p
 
 -- "platform reset and eSPI reset drop held write, request and completions"; "only start sets [the serial], to 0"
 abbrev pub reset : Reset → Peripheral → Peripheral

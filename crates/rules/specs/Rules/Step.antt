@@ -64,8 +64,8 @@ abbrev pub only : ℕ → World → Outcome
 only number w = record { number = number; value = 0; reply = []; report = []; next = w }
 
 -- an exchange's plan carried out: its data is kept in the write store
-unfoldable pub exchanged : World → List ℕ → Plan → Outcome
-exchanged w command p =
+unfoldable pub performed : World → List ℕ → Plan → Outcome
+performed w command p =
     record {
       number = p .number;
       value = length (replyBytes (p .reply) (w .state .wires) (w .read));
@@ -75,8 +75,8 @@ exchanged w command p =
     }
 
 -- a board call's plan carried out: its data is kept in the read store
-unfoldable pub settled : (k : Channel) → World → Board k → Plan → Outcome
-settled k w o p =
+unfoldable pub served : (k : Channel) → World → Board k → Plan → Outcome
+served k w o p =
     record {
       number = p .number;
       value = valueOf k (part k (w .state)) o;
@@ -101,8 +101,8 @@ shortFor wires o w = false
 
 unfoldable pub step : World → Call → Outcome
 step w (reset r) = only 0 (withState w (E.wasReset r (w .state)))
-step w (exchange command reply) = pick (shortStores reply w) (only storeTooShort w) (exchanged w command (E.exchange (w .state) command))
-step w (board k o) = pick (shortFor k o w) (only storeTooShort w) (settled k w o (L.settled k (w .state) o))
+step w (exchange command reply) = pick (shortStores reply w) (only storeTooShort w) (performed w command (E.exchange (w .state) command))
+step w (board k o) = pick (shortFor k o w) (only storeTooShort w) (served k w o (L.settled k (w .state) o))
 step w (short state c) = only storeTooShort w
 step w (lend write read) = only 0 (record { state = w .state; write = write; read = read })
 

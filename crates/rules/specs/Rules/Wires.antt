@@ -39,12 +39,12 @@ putVwire c w n pairs =
     (change (putPairs w pairs) (accept B.Nothing K.Nothing))
 
 -- "GET_VWIRE with nothing pending" is 1
-abbrev pub sending : Wires → List ℕ → WiresChange
-sending w [] = change w fatal
-sending w (k ∷ ks) = change (afterSent w (k ∷ ks)) (accept (B.Groups (packetOf w (k ∷ ks))) K.Nothing)
+abbrev pub sentOut : Wires → List ℕ → WiresChange
+sentOut w [] = change w fatal
+sentOut w (k ∷ ks) = change (afterSent w (k ∷ ks)) (accept (B.Groups (packetOf w (k ∷ ks))) K.Nothing)
 
 unfoldable pub getVwire : Config → Wires → WiresChange
-getVwire c w = sending w (sent w (operatingCount (c .r020)))
+getVwire c w = sentOut w (sent w (operatingCount (c .r020)))
 
 abbrev pub acting : Config → Wires → Act → WiresChange
 acting c w (puts n pairs) = putVwire c w n pairs
@@ -82,8 +82,8 @@ valueOf w (readWire index bit) = readValue w index bit
 
 -- "Disabling channel 1 drops pending marks ..", "Enabling it from disabled makes each up group pending that differs"
 
-abbrev pub edge : Bool → Bool → Wires → Wires
-edge was is w = pick (was && not is) (disabled w) (pick (not was && is) (enabled w) w)
+abbrev pub enableEdge : Bool → Bool → Wires → Wires
+enableEdge was is w = pick (was && not is) (disabled w) (pick (not was && is) (enabled w) w)
 
 -- "eSPI reset also resets all .. groups", "Platform reset also resets .. wire groups 6 and 7"
 abbrev pub reset : Reset → Wires → Wires

@@ -1,7 +1,7 @@
 -- No channel tells on another, for every channel x: two runs that differ in x's own calls alone show the same of all other calls, but for x's
 -- status bits and the CRC byte, and leave the same registers, the same other parts and the other channels' stores alike. P22 ("Wire traffic and
 -- channel 0") is the case of the wires; its mirror is that of channel 0.
-use Prim.Native.Nat.{ℕ, _-_, _*_, _/_, _%_}
+use Prim.Native.Nat.{ℕ, _+_, _-_, _*_, _/_, _%_}
 use mathlib.Core.Bool.{Bool, false}
 use mathlib.Core.List.{List, [], _∷_, _++_}
 use mathlib.Core.Path.{_≡_}
@@ -20,7 +20,7 @@ abbrev pub storesOf : Channel → (write read : List ℕ) → List (List ℕ)
 storesOf peripheral write read = write ∷ read ∷ []
 storesOf wires write read = []
 
--- the status' low byte with the channel's bits at 0: 0, 1 and 4 (PC_FREE, NP_FREE, PC_AVAIL); 6 (VWIRE_AVAIL; 2, VWIRE_FREE, "always 1")
+-- a status word with the channel's bits at 0: 0, 1 and 4 (PC_FREE, NP_FREE, PC_AVAIL); 6 (VWIRE_AVAIL; 2, VWIRE_FREE, "always 1")
 abbrev pub clear : Channel → ℕ → ℕ
 clear peripheral n = n - n % 4 - n / 16 % 2 * 16
 clear wires n = n - n / 64 % 2 * 64
@@ -46,11 +46,11 @@ others x (c ∷ cs) = pick (isCallOf x c) (others x cs) (c ∷ others x cs)
 
 -- ---- what a call shows
 
--- a reply "but for [its] status bit[s] and the CRC byte": the last three bytes are status, low byte first, and CRC
+-- a reply "but for [its] status bit[s] and the CRC byte": the last three bytes are status, low byte first, and CRC; the status as one number
 abbrev pub replyBut : Channel → List ℕ → List ℕ
 replyBut x reply =
     pick (eqb (length reply) 0) []
-    (take (length reply - 3) reply ++ (clear x (getD reply (length reply - 3) 0) ∷ getD reply (length reply - 2) 0 ∷ []))
+    (take (length reply - 3) reply ++ (clear x (getD reply (length reply - 3) 0 + 256 * getD reply (length reply - 2) 0) ∷ []))
 
 -- the number, the value (a reply's length, a wire's value), a report, the reply
 pub record Seen : Type 0 where
@@ -90,8 +90,7 @@ NoneTells = (x : Channel) (w v : World) (cs ds : List Call) → Alike x w v → 
 
 -- any two states that agree but for levels, marks and place, sound or not, and stores of any length: neither is needed
 pub record SameButWires (w v : World) : Type 0 where
-  pub config : w .state .config ≡ v .state .config
-  pub peripheral : w .state .peripheral ≡ v .state .peripheral
+  pub state : StatesAlike wires (w .state) (v .state)
   pub write : w .write ≡ v .write
   pub read : w .read ≡ v .read
 
@@ -100,8 +99,7 @@ WiresApart = (w v : World) (cs ds : List Call) → SameButWires w v → others w
 
 -- any two that agree but for held write, request and serial, and stores of any bytes
 pub record SameButPeripheral (w v : World) : Type 0 where
-  pub config : w .state .config ≡ v .state .config
-  pub wires : w .state .wires ≡ v .state .wires
+  pub state : StatesAlike peripheral (w .state) (v .state)
   pub room : (reply : List ℕ) → shortStores reply w ≡ shortStores reply v
 
 abbrev pub PeripheralApart : Type 0

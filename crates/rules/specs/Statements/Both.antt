@@ -13,38 +13,38 @@ use Rattle.rules.specs.Rules.Lift.{show, nonFatal, acceptThen, quietly}
 use Rattle.rules.specs.Rules.Exchange as E
 use Rattle.rules.specs.Rules.Exchange.{reconfigured, reset008h, wasReset}
 use Rattle.rules.specs.Rules.Step as S
-use Rattle.rules.specs.Rules.Step.{World, Call, Outcome, exchange, board, reset, short, lend, only, withState, shortStores, shortFor, exchanged, settled}
+use Rattle.rules.specs.Rules.Step.{World, Call, Outcome, exchange, board, reset, short, lend, only, withState, shortStores, shortFor, performed, served}
 use Rattle.rules.specs.Statements.Plans.{commandOf, Admits}
 use Rattle.rules.specs.declared.Body.the-variants as B
 
 -- a call's outcome, of each world
 
 abbrev pub registered : List ℕ → ℕ → World → Outcome
-registered b a w = exchanged w b (show (B.Word (readAt (w .state .config) a)) (w .state))
+registered b a w = performed w b (show (B.Word (readAt (w .state .config) a)) (w .state))
 
 abbrev pub actedOn : (k : Channel) → Command k → List ℕ → World → Outcome
-actedOn k o b w = exchanged w b (E.acted k (w .state) (actOf k (w .state .config) o b))
+actedOn k o b w = performed w b (E.acted k (w .state) (actOf k (w .state .config) o b))
 
 abbrev pub boarded : (k : Channel) → Board k → World → Outcome
-boarded k o w = settled k w o (L.settled k (w .state) o)
+boarded k o w = served k w o (L.settled k (w .state) o)
 
 abbrev pub written : List ℕ → ℕ → ℕ → World → Outcome
-written b a n w = exchanged w b (acceptThen (w .state) (reconfigured (w .state) (writeAt (w .state .config) a n)))
+written b a n w = performed w b (acceptThen (w .state) (reconfigured (w .state) (writeAt (w .state .config) a n)))
 
 abbrev pub restored : (write read : List ℕ) → World → Outcome
 restored write read w = only 0 (record { state = w .state; write = write; read = read })
 
 pub data Both (w v : World) : Call → Outcome → Outcome → Type 0 where
   idle : {c : Call} (n : ℕ) → Both w v c (only n w) (only n v)
-  status : {b r : List ℕ} → Both w v (exchange b r) (exchanged w b (show B.Nothing (w .state))) (exchanged v b (show B.Nothing (v .state)))
+  status : {b r : List ℕ} → Both w v (exchange b r) (performed w b (show B.Nothing (w .state))) (performed v b (show B.Nothing (v .state)))
   register : {b r : List ℕ} (a : ℕ) → Both w v (exchange b r) (registered b a w) (registered b a v)
   acted : {b r : List ℕ} (k : Channel) (o : Command k) → shortStores r w ≡ false → Admits (w .state) b (commandOf k o)
       → Both w v (exchange b r) (actedOn k o b w) (actedOn k o b v)
   settles : (k : Channel) (o : Board k) → shortFor k o w ≡ false → Both w v (board k o) (boarded k o w) (boarded k o v)
-  forbidden : {b r : List ℕ} → Both w v (exchange b r) (exchanged w b (nonFatal (w .state))) (exchanged v b (nonFatal (v .state)))
+  forbidden : {b r : List ℕ} → Both w v (exchange b r) (performed w b (nonFatal (w .state))) (performed v b (nonFatal (v .state)))
   configured : {b r : List ℕ} (a n : ℕ) → Admits (w .state) b (C.SetConfiguration a n) → Both w v (exchange b r) (written b a n w) (written b a n v)
   cleared : {b r : List ℕ} → Admits (w .state) b C.Reset
-      → Both w v (exchange b r) (exchanged w b (quietly (reset008h (w .state)))) (exchanged v b (quietly (reset008h (v .state))))
+      → Both w v (exchange b r) (performed w b (quietly (reset008h (w .state)))) (performed v b (quietly (reset008h (v .state))))
   wiped : {r : Reset} → Both w v (reset r) (only 0 (withState w (wasReset r (w .state)))) (only 0 (withState v (wasReset r (v .state))))
   lent : {write read : List ℕ} → Both w v (lend write read) (restored write read w) (restored write read v)
 

@@ -1,4 +1,4 @@
--- What a call does: the one case law for `step`. A call is idle, a channel acted on a command or settled a call of the board, the
+-- What a call does: the one case law for `step`. A call is idle, a channel acted on a command or served a call of the board, the
 -- configuration was written, all channels were reset, or stores were lent. The statements go by these cases and unfold no decision.
 use Prim.Native.Nat.{ℕ}
 use mathlib.Core.Bool.{true, false}
@@ -11,7 +11,7 @@ use Rattle.rules.specs.Rules.Channel.{Channel, Command, Board, Change, p
 use Rattle.rules.specs.Rules.Lift.{lift, show, nonFatal, acceptThen, quietly}
 use Rattle.rules.specs.Rules.Exchange.{reconfigured, reset008h, wasReset}
 use Rattle.rules.specs.Rules.Step as S
-use Rattle.rules.specs.Rules.Step.{World, Call, Outcome, exchange, board, reset, lend, only, withState, shortFor, exchanged, settled}
+use Rattle.rules.specs.Rules.Step.{World, Call, Outcome, exchange, board, reset, lend, only, withState, shortFor, performed, served}
 pub use Rattle.rules.specs.Statements.Plans.{Did, Settled, commandOf, Admits, Shows, status, register, Silent}
 use Rattle.rules.specs.declared.Body.{Body}
 
@@ -19,16 +19,16 @@ use Rattle.rules.specs.declared.Body.{Body}
 
 pub data Case (w : World) : Call → Outcome → Type 0 where
   idle : {c : Call} (n : ℕ) → Silent n → Case w c (only n w)
-  shown : {b r : List ℕ} {body : Body} → Shows (w .state) b body → Case w (exchange b r) (exchanged w b (show body (w .state)))
+  shown : {b r : List ℕ} {body : Body} → Shows (w .state) b body → Case w (exchange b r) (performed w b (show body (w .state)))
   acted : {b r : List ℕ} (k : Channel) (o : Command k) (x : Change k) → Admits (w .state) b (commandOf k o)
-      → Did k (w .state .config) (part k (w .state)) (actOf k (w .state .config) o b) x → Case w (exchange b r) (exchanged w b (lift k (w .state) x))
+      → Did k (w .state .config) (part k (w .state)) (actOf k (w .state .config) o b) x → Case w (exchange b r) (performed w b (lift k (w .state) x))
   settles : (k : Channel) (o : Board k) (x : Change k) → shortFor k o w ≡ false
-      → Settled k (w .state .config) (part k (w .state)) o x → Case w (board k o) (settled k w o (lift k (w .state) x))
+      → Settled k (w .state .config) (part k (w .state)) o x → Case w (board k o) (served k w o (lift k (w .state) x))
   forbidden : {b r : List ℕ} (a v : ℕ) → Admits (w .state) b (C.SetConfiguration a v) → forbiddenAt a v ≡ true
-      → Case w (exchange b r) (exchanged w b (nonFatal (w .state)))
+      → Case w (exchange b r) (performed w b (nonFatal (w .state)))
   configured : {b r : List ℕ} (a v : ℕ) → Admits (w .state) b (C.SetConfiguration a v) → forbiddenAt a v ≡ false
-      → Case w (exchange b r) (exchanged w b (acceptThen (w .state) (reconfigured (w .state) (writeAt (w .state .config) a v))))
-  cleared : {b r : List ℕ} → Admits (w .state) b C.Reset → Case w (exchange b r) (exchanged w b (quietly (reset008h (w .state))))
+      → Case w (exchange b r) (performed w b (acceptThen (w .state) (reconfigured (w .state) (writeAt (w .state .config) a v))))
+  cleared : {b r : List ℕ} → Admits (w .state) b C.Reset → Case w (exchange b r) (performed w b (quietly (reset008h (w .state))))
   wiped : {r : Reset} → Case w (reset r) (only 0 (withState w (wasReset r (w .state))))
   lent : {write read : List ℕ} → Case w (lend write read) (only 0 (record { state = w .state; write = write; read = read }))
 

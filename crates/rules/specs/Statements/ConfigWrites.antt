@@ -15,7 +15,7 @@ use Rattle.rules.specs.Rules.Channel.{Channel, peripheral, wires, Board,
 use Rattle.rules.specs.Rules.Step.{World, Call, reset, exchange, board, short, lend, step}
 use Rattle.rules.specs.Statements.Fields.{byte, registerAt, registerValue}
 use Rattle.rules.specs.Statements.Sizes.{isEnabled}
-use Rattle.rules.specs.Statements.Events.{registerOf}
+use Rattle.rules.specs.Statements.Events.{enablesAt}
 use Rattle.rules.specs.Statements.Effects.{valueEnables}
 use Rattle.rules.specs.Statements.Shape.{replyOf}
 
@@ -57,7 +57,7 @@ pub record Configured (w : World) (b : List ℕ) (after : World) : Type 0 where
   -- every other register stays
   pub others : (a : ℕ) → a ≢ registerAt b → valueAt (after .state .config) a ≡ valueAt (w .state .config) a
   -- queues stay but for a disabling of channel 0, wires, marks and place but for an edge of channel 1
-  pub parts : (k : Channel) → (eqb (registerAt b) (registerOf k) && turns k (isEnabled k (w .state .config)) (valueEnables (registerValue b))) ≡ false
+  pub parts : (k : Channel) → (enablesAt k (registerAt b) && turns k (isEnabled k (w .state .config)) (valueEnables (registerValue b))) ≡ false
       → part k (after .state) ≡ part k (w .state)
   pub stores : (after .write ≡ w .write) × (after .read ≡ w .read)
 

@@ -15,7 +15,7 @@ use Rattle.rules.specs.Rules.Channel.{Channel, peripheral, wires, Part, 
 use Rattle.rules.specs.Rules.Step.{World, Call, reset, exchange, board, short, lend, withState, step}
 use Rattle.rules.specs.Statements.Fields.{byte, registerAt, registerValue}
 use Rattle.rules.specs.Statements.Sizes.{isOf, isEnabled}
-use Rattle.rules.specs.Statements.Events.{registerOf}
+use Rattle.rules.specs.Statements.Events.{enablesAt}
 use Rattle.rules.specs.Statements.Peripheral.Effects as P
 use Rattle.rules.specs.Statements.Wires.Effects as W
 
@@ -93,25 +93,29 @@ withReady v = maskedBy 0x00000002 v (2 * (v % 2))
 abbrev pub after008 : Config → ℕ → Config
 after008 c v = registers (maskedBy 0xDCF0F000 (c .r008 .value) v) (c .r010 .value) (c .r020 .value)
 
--- a channel's register
-abbrev pub afterRegister : Channel → Config → ℕ → Config
-afterRegister peripheral c v = registers (c .r008 .value) (withReady (maskedBy 0x00007705 (c .r010 .value) v)) (c .r020 .value)
-afterRegister wires c v = registers (c .r008 .value) (c .r010 .value) (withReady (maskedBy 0x003F0001 (c .r020 .value) v))
+abbrev pub after010 : Config → ℕ → Config
+after010 c v = registers (c .r008 .value) (withReady (maskedBy 0x00007705 (c .r010 .value) v)) (c .r020 .value)
+
+abbrev pub after020 : Config → ℕ → Config
+after020 c v = registers (c .r008 .value) (c .r010 .value) (withReady (maskedBy 0x003F0001 (c .r020 .value) v))
+
+-- "Other addresses .. take writes without effect", 004h too
+abbrev pub writtenRegisters : Config → ℕ → ℕ → Config
+writtenRegisters c a v = pick (eqb a 0x008) (after008 c v) (pick (eqb a 0x010) (after010 c v) (pick (eqb a 0x020) (after020 c v) c))
 
 abbrev pub valueEnables : ℕ → Bool
 valueEnables v = eqb (bits 0 0 v) 1
 
--- a write of a channel's register: an edge for its part, the others stay
-abbrev pub switchedState : Channel → State → ℕ → State
-switchedState k s v = put k (switched k (isEnabled k (s .config)) (valueEnables v) (part k s)) (withRegisters s (afterRegister k (s .config) v))
+-- a write of a channel's register enables it or not; of another, all is as it was
+abbrev pub enabledAfter : Channel → Config → ℕ → ℕ → Bool
+enabledAfter k c a v = pick (enablesAt k a) (valueEnables v) (isEnabled k c)
 
--- "Other addresses .. take writes without effect", 004h too
+-- an edge for the part whose register it is
+abbrev pub writtenPart : Config → ℕ → ℕ → (k : Channel) → Part k → Part k
+writtenPart c a v k = switched k (isEnabled k c) (enabledAfter k c a v)
+
 abbrev pub writtenState : State → ℕ → ℕ → State
-writtenState s a v =
-    pick (eqb a 0x008) (withRegisters s (after008 (s .config) v))
-    (pick (eqb a (registerOf peripheral)) (switchedState peripheral s v)
-    (pick (eqb a (registerOf wires)) (switchedState wires s v)
-    s))
+writtenState s a v = each (writtenPart (s .config) a v) (writtenRegisters (s .config) a v) s
 
 -- "RESET .. resets register 008h and nothing else"
 abbrev pub clearedState : State → State

@@ -12,14 +12,14 @@ use Rattle.rules.specs.Statements.Fields.{byte, registerAt, registerValu
 abbrev pub accepted : Outcome → Bool
 accepted o = eqb (o .number) 0
 
--- the register whose bit 0 enables the channel
-abbrev pub registerOf : Channel → ℕ
-registerOf peripheral = 0x010
-registerOf wires = 0x020
+-- bit 0 of the register at this address enables the channel
+abbrev pub enablesAt : Channel → ℕ → Bool
+enablesAt peripheral a = eqb a 0x010
+enablesAt wires a = eqb a 0x020
 
 -- a disabling: SET_CONFIGURATION of that register, bit 0 of the value being 0 while the register's is 1
 abbrev pub disables : Channel → State → List ℕ → Bool
-disables k s b = eqb (byte b 0) 0x22 && (eqb (registerAt b) (registerOf k) && (on k (s .config) && eqb (registerValue b % 2) 0))
+disables k s b = eqb (byte b 0) 0x22 && (enablesAt k (registerAt b) && (on k (s .config) && eqb (registerValue b % 2) 0))
 
 -- "a start, an eSPI reset, a platform reset or a disabling of [the] channel"
 abbrev pub ending : Channel → State → Call → Bool

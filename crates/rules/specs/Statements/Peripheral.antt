@@ -1,6 +1,7 @@
 -- All that channel 0 does, each with the tests that led to it (01, Replies and refusals; Requests, answers, pieces). The statements read
 -- this law and unfold no decision.
 pub mod Effects
+pub mod SoundMeans
 pub mod Rows
 pub mod Status
 use Prim.Native.Nat.{ℕ}
@@ -52,7 +53,7 @@ unanswered (Ready q sent) = false
 unanswered (Failed q) = false
 
 pub data Settled (p : Peripheral) : Board → PeripheralChange → Type 0 where
-  looked : {report : List ℕ} {q : Request} → p .request ≡ Waiting q → Settled p (look report) (change p (number 0))
+  lookDone : {report : List ℕ} {q : Request} → p .request ≡ Waiting q → Settled p (look report) (change p (number 0))
   noLook : {report : List ℕ} → unanswered (p .request) ≡ false → Settled p (look report) (change p (number nothingThere))
   noSuch : {serial success : ℕ} {bytes : List ℕ} → unanswered (p .request) && eqb serial (p .serial) ≡ false
       → Settled p (answer serial success bytes) (change p (number noSuchRequest))

@@ -1,15 +1,15 @@
 -- P9. The status word is the queues: no bit stands or falls by itself (01, Registers and status: "Status bits"). In a sound state, with stores
 -- long enough and a CRC good or unchecked, each bit says what the next command gets.
-use Prim.Native.Nat.{ℕ, _+_, _-_, _*_}
+use Prim.Native.Nat.{ℕ, _+_, _*_}
 use mathlib.Core.List.{List, []}
 use mathlib.Core.Logic.{_≢_}
 use mathlib.Core.Path.{_≡_}
-use lib.ListN.{length}
 use Rattle.state.specs.Status.{status}
 use Rattle.state.specs.Sound.{Sound}
 use Rattle.rules.specs.Rules.Channel.{Channel, peripheral, wires}
 use Rattle.rules.specs.Rules.Step.{World, exchange, step}
 use Rattle.rules.specs.Statements.Fields.{byte}
+use Rattle.rules.specs.Statements.Requests.{statusIn}
 use Rattle.rules.specs.Statements.Status.{LongEnough, statusBit, ShowsAvail}
 use Rattle.rules.specs.Statements.Peripheral.Status as P
 use Rattle.rules.specs.Statements.Shape.{statusShown}
@@ -24,10 +24,6 @@ module _ (w : World) (lent : List ℕ) where
     -- "2 VWIRE_FREE (always 1) .. the rest 0"
     pub word : status (w .state) ≡ statusBit w 0 + 2 * statusBit w 1 + 4 + 16 * statusBit w 4 + 64 * statusBit w 6
     pub ofChannel : (k : Channel) → BitsOf k
-
--- the two bytes before a reply's CRC, low byte first
-abbrev pub statusIn : List ℕ → ℕ
-statusIn r = byte r (length r - 3) + 256 * byte r (length r - 2)
 
 -- "whose .. status [is] the old one. All other replies show the status after the command"; an error changes no state
 abbrev pub ShowsStatus : World → List ℕ → Type 0

@@ -11,7 +11,7 @@ use Rattle.rules.specs.Rules.Wires as W
 use Rattle.rules.specs.Rules.Channel.{Channel, peripheral, wires, Board, on}
 use Rattle.rules.specs.Rules.Step.{World, Call, reset, exchange, board, short, lend, Outcome, step}
 use Rattle.rules.specs.Statements.Fields.{byte, registerAt, registerValue}
-use Rattle.rules.specs.Statements.Events.{accepted, registerOf, endsWith}
+use Rattle.rules.specs.Statements.Events.{accepted, enablesAt, endsWith}
 
 -- ---- events: refused calls are idle, what an accepted exchange was its bytes say
 
@@ -21,7 +21,7 @@ pub data WireEvent : Type 0 where
 
 -- an enabling: SET_CONFIGURATION of 020h, bit 0 of the value being 1 while the register's is 0
 abbrev pub switchesOn : State → List ℕ → Bool
-switchesOn s b = eqb (byte b 0) 0x22 && (eqb (registerAt b) (registerOf wires) && (not (on wires (s .config)) && eqb (registerValue b % 2) 1))
+switchesOn s b = eqb (byte b 0) 0x22 && (enablesAt wires (registerAt b) && (not (on wires (s .config)) && eqb (registerValue b % 2) 1))
 
 abbrev pub commandWire : State → List ℕ → WireEvent
 commandWire s b = pick (eqb (byte b 0) 0x04) puts (pick (eqb (byte b 0) 0x05) gets (pick (switchesOn s b) enables idle))

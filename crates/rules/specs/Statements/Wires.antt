@@ -1,5 +1,6 @@
 -- All that channel 1 does, each with the tests that led to it (01, Wires). The statements read this law and unfold no decision.
 pub mod Effects
+pub mod SoundMeans
 pub mod Rows
 use Prim.Native.Nat.{ℕ}
 use mathlib.Core.Bool.{true, false}

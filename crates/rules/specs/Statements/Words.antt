@@ -10,7 +10,7 @@ use Rattle.rules.specs.Rules.Reset.{Reset}
 use Rattle.rules.specs.Rules.Channel.{Channel, peripheral, wires}
 use Rattle.rules.specs.Rules.Step.{World, Call, reset, exchange, step}
 use Rattle.rules.specs.Statements.Fields.{byte, isNonPosted, accessAddress, accessLength, accessTag, requestKind, ioBytes, registerAt, registerValue}
-use Rattle.rules.specs.Statements.Events.{registerOf, ends}
+use Rattle.rules.specs.Statements.Events.{enablesAt, ends}
 use Rattle.rules.specs.Statements.Requests.{asks, tells, gets, event, answersWith, held}
 use Rattle.rules.specs.Statements.Requests as R
 
@@ -31,7 +31,7 @@ enableBit wires c = c .r020 .value % 2
 -- "a start, an eSPI reset, a platform reset or a disabling": SET_CONFIGURATION of that register, its bit 0 going from 1 to 0
 pub data Ending (k : Channel) (c : Config) : Call → Type 0 where
   byReset : {r : Reset} → Ending k c (reset r)
-  byWrite : {b r : List ℕ} → byte b 0 ≡ 0x22 → registerAt b ≡ registerOf k → enableBit k c ≡ 1 → registerValue b % 2 ≡ 0 → Ending k c (exchange b r)
+  byWrite : {b r : List ℕ} → byte b 0 ≡ 0x22 → enablesAt k (registerAt b) ≡ true → enableBit k c ≡ 1 → registerValue b % 2 ≡ 0 → Ending k c (exchange b r)
 
 abbrev pub Exactly : Type 0 → Type 0 → Type 0
 Exactly A B = (A → B) × (B → A)

@@ -1,4 +1,4 @@
-use mathlib.Core.Path.{refl}
+use native.Mathlib.Omega.{arith}
 use Rattle.state.specs.Coded.{loaded-by}
 use borrow.Author.Needs.{needs}
 use Rattle.state.proofs.load.Statement.{statement}
@@ -7,32 +7,41 @@ use Rattle.state.proofs.load.Tie as tie
 unpack-requires : tie.Need-unpack-requires
 unpack-requires c κs = search needs
 
-sound-requires : tie.Need-sound-requires
-sound-requires c κs = search needs
+on-requires : tie.Need-on-requires
+on-requires c κs = search needs
 
-slice-aggregate-pack : tie.Need-slice-aggregate-pack
-slice-aggregate-pack c = search needs
+holds-requires : tie.Need-holds-requires
+holds-requires c κs = search needs
 
-pack-requires : tie.Need-pack-requires
-pack-requires c κs = search needs
+on-requires-2 : tie.Need-on-requires-2
+on-requires-2 c κs = search needs
 
-slice-aggregate-same : tie.Need-slice-aggregate-same
-slice-aggregate-same c = search needs
+holds-requires-2 : tie.Need-holds-requires-2
+holds-requires-2 c κs = search needs
 
-same-requires : tie.Need-same-requires
-same-requires c κs = search needs
+reachable-requires : tie.Need-reachable-requires
+reachable-requires c κs = search needs
 
 returns : tie.Need-returns
-returns c = loaded-by (c .before .before .before .before .before .before .before .before .args .b .now) _ _ _ _ _ refl (c .before .before .before .before .before .before .unpack .ensures) (c .before .before .before .before .before .sound .ensures) (c .before .before .before .pack .ensures) (c .same .ensures)
+returns c =
+    let w = c .before in
+    let p = w .before .before in
+    let u = p .before .before .before in
+    let a = u .before .before in
+    loaded-by (a .args .b .now) _ _ _ _ (λ k. omega (arith, u .before .shared-slice-known .given k)) (a .pre)
+    (u .unpack .ensures)
+    (c .reachable .ensures)
+    (rw (p .before .on .ensures) at (p .holds .ensures))
+    (rw (w .before .on2 .ensures) at (w .holds2 .ensures))
 
 pub load-spec : {M : Type 1} → statement M
 load-spec =
     tie.close
     (tie.spec
     unpack-requires
-    sound-requires
-    slice-aggregate-pack
-    pack-requires
-    slice-aggregate-same
-    same-requires
+    on-requires
+    holds-requires
+    on-requires-2
+    holds-requires-2
+    reachable-requires
     returns)

@@ -1,6 +1,6 @@
 -- Channel 0's rows of the table of effects, from its law.
 use Prim.Native.Nat.{ℕ, _+_, _≤_}
-use mathlib.Core.Bool.{Bool, true, false}
+use mathlib.Core.Bool.{Bool, true, false, true≢false}
 use mathlib.Core.List.{List, [], _∷_}
 use mathlib.Core.Path.{_≡_, refl, sym, ap, _∙_}
 use native.Mathlib.Omega.{arith}
@@ -27,6 +27,7 @@ use Rattle.rules.specs.Statements.Reads as S
 use Rattle.rules.specs.Statements.Peripheral as L
 use Rattle.rules.specs.Statements.Peripheral.Effects.{afterCompletion, completed, commandPart, commandWrite, answeredWith, requestNow, boardPart, boardRead, switched}
 use Rattle.rules.specs.Proofs.Fields.{asked-not-posted}
+use Rattle.rules.specs.Statements.ConfigWrites.{turns}
 use Rattle.rules.specs.Proofs.Becomes.{Becomes}
 use Rattle.rules.specs.declared.PeripheralChange.{PeripheralChange}
 
@@ -78,7 +79,7 @@ answered-as p {q} failed t e f = ap (requestNow p) (sym (ap (answeredWith failed
 
 pub board-row : {p : Peripheral} {o : P.Board} {x : PeripheralChange} → L.Settled p o x → Becomes peripheral (boardPart p o) (boardRead o) (P.given o) x
 unfolding over
-board-row (L.looked e) z = (refl, λ l. refl)
+board-row (L.lookDone e) z = (refl, λ l. refl)
 board-row (L.noLook e) z = absurd (omega arith)
 board-row (L.noSuch e) z = absurd (omega arith)
 board-row (L.miscounted e f g) z = absurd (omega arith)
@@ -89,8 +90,18 @@ board-row (L.took e) z = (refl, λ l. refl)
 
 -- ---- an edge of the enable bit
 
-pub edge-row : (was is : Bool) (p : Peripheral) → P.edge was is p ≡ switched was is p
+pub edge-row : (was is : Bool) (p : Peripheral) → P.enableEdge was is p ≡ switched was is p
 edge-row true true p = refl
 edge-row true false p = refl
 edge-row false true p = refl
 edge-row false false p = refl
+
+pub no-turn : (was is : Bool) (p : Peripheral) → turns peripheral was is ≡ false → switched was is p ≡ p
+no-turn true true p e = refl
+no-turn true false p e = absurd (true≢false e)
+no-turn false true p e = refl
+no-turn false false p e = refl
+
+pub switched-same : (t : Bool) (p : Peripheral) → switched t t p ≡ p
+switched-same true p = refl
+switched-same false p = refl

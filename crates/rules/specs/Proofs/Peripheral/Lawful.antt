@@ -39,7 +39,7 @@ no-report (Ready q sent) serial e = refl
 no-report (Failed q) serial e = refl
 
 pub settles : {p : Peripheral} {o : P₀.Board} {x : PeripheralChange} → P.Settled p o x → Settles peripheral p o x
-settles (P.looked e) = L.Settles.accepted _ _ refl
+settles (P.lookDone e) = L.Settles.accepted _ _ refl
 settles {p} (P.noLook e) = L.Settles.refused 23 (omega arith) (omega arith) (no-report (p .request) (p .serial) e) refl
 settles (P.noSuch e) = L.Settles.refused 20 (omega arith) (omega arith) refl refl
 settles (P.miscounted e f g) = L.Settles.refused 21 (omega arith) (omega arith) refl refl
@@ -75,7 +75,7 @@ success-bytes n m true e f = absurd (true≢false (sym e))
 success-bytes n m false e f = omega arith
 
 pub settled-keep : {p : Peripheral} {o : P₀.Board} {x : PeripheralChange} → P.Settled p o x → keptCount (x .out .kept) ≤ answerBytes o
-settled-keep (P.looked e) = zero-le
+settled-keep (P.lookDone e) = zero-le
 settled-keep (P.noLook e) = zero-le
 settled-keep (P.noSuch e) = zero-le
 settled-keep (P.miscounted e f g) = zero-le

@@ -209,7 +209,7 @@ module _ (p : Peripheral) where
     counted n success f = ap not (ap (λ (r : Np). eqb n (bytesWanted r success)) e ∙ ap (eqb n) (sym (wanted q success)) ∙ f)
 
   pub settle-number : {o : Board} {x : PeripheralChange} → P.Settled p o x → x .out .number ≡ firstOf (boardRows p o)
-  settle-number (P.looked e) = passed 23 0 (ap (λ (r : Np). not (unanswered r)) e) refl
+  settle-number (P.lookDone e) = passed 23 0 (ap (λ (r : Np). not (unanswered r)) e) refl
   settle-number (P.noLook e) = taken 23 0 (ap not e) refl
   settle-number (P.noSuch e) = taken 20 _ (ap not e) refl
   settle-number (P.miscounted {success = t} {bytes = d} e f g) = passed 20 _ (named e f) (taken 21 0 (counted e (length d) t g) refl)

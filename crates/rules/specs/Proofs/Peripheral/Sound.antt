@@ -32,7 +32,7 @@ use Rattle.peripheral.specs.Sound.{within, shortSize, ioMade, madeAs, requestMa
 use Rattle.rules.specs.Rules.Reset.{Reset, start, espiReset, platformReset}
 use Rattle.rules.specs.Rules.Peripheral as P₀
 use Rattle.rules.specs.Rules.Peripheral.{Act, posts, asks, gets, Board, requestOf, bytesOf, sizeFor, holding, asking, withRequest, emptied}
-use Rattle.rules.specs.Statements.Peripheral.{Did, writeHeld, writeLarge, posted, requestHeld, requestLarge, asked, noneReady, handedOver, Settled, looked, noLook, noSuch, miscounted, succeeds, fails, noTake, took}
+use Rattle.rules.specs.Statements.Peripheral.{Did, writeHeld, writeLarge, posted, requestHeld, requestLarge, asked, noneReady, handedOver, Settled, lookDone, noLook, noSuch, miscounted, succeeds, fails, noTake, took}
 use Rattle.rules.specs.Proofs.SoundBytes.{io-bytes}
 use Rattle.rules.specs.declared.PeripheralChange.{PeripheralChange}
 
@@ -219,7 +219,7 @@ module _ {on : Bool} {c : Config} {p : Peripheral} (reached : reachable c ≡ tr
   acts-ok e f (handedOver d) = request-ok h _ e (handed-ok _ (h .request))
 
 pub settled-ok : {on : Bool} {p : Peripheral} {o : Board} {x : PeripheralChange} → PeripheralOk on p → Settled p o x → PeripheralOk on (x .next)
-settled-ok h (looked e) = h
+settled-ok h (lookDone e) = h
 settled-ok h (noLook e) = h
 settled-ok h (noSuch e) = h
 settled-ok h (miscounted e f g) = h
@@ -230,7 +230,7 @@ settled-ok h (took e) = emptied-ok h
 
 -- ---- edges and resets: "drop held write, request and completions"
 
-pub edge-ok : (was is : Bool) (p : Peripheral) → PeripheralOk was p → PeripheralOk is (P₀.edge was is p)
+pub edge-ok : (was is : Bool) (p : Peripheral) → PeripheralOk was p → PeripheralOk is (P₀.enableEdge was is p)
 edge-ok true true p h = h
 edge-ok true false p h = idle-ok false (h .serial)
 edge-ok false true p h = record { off = refl; request = h .request; write = h .write; serial = h .serial }

@@ -1,6 +1,6 @@
 -- Channel 1's rows of the table of effects, from its law.
 use Prim.Native.Nat.{ℕ}
-use mathlib.Core.Bool.{Bool, true, false}
+use mathlib.Core.Bool.{Bool, true, false, true≢false}
 use mathlib.Core.List.{List, []}
 use mathlib.Core.Path.{_≡_, refl, sym, ap}
 use native.Mathlib.Omega.{arith}
@@ -15,6 +15,7 @@ use Rattle.rules.specs.Statements.Fields.{byte, isChannel1}
 use Rattle.rules.specs.Statements.Reads as S
 use Rattle.rules.specs.Statements.Wires as L
 use Rattle.rules.specs.Statements.Wires.Effects.{commandPart, boardPart, switched}
+use Rattle.rules.specs.Statements.ConfigWrites.{turns}
 use Rattle.rules.specs.Proofs.Becomes.{Becomes}
 use Rattle.rules.specs.declared.WiresChange.{WiresChange}
 
@@ -41,8 +42,18 @@ board-row (L.read e) z = (refl, over-none)
 
 -- ---- an edge of the enable bit
 
-pub edge-row : (was is : Bool) (v : Wires) → W.edge was is v ≡ switched was is v
+pub edge-row : (was is : Bool) (v : Wires) → W.enableEdge was is v ≡ switched was is v
 edge-row true true v = refl
 edge-row true false v = refl
 edge-row false true v = refl
 edge-row false false v = refl
+
+pub no-turn : (was is : Bool) (v : Wires) → turns wires was is ≡ false → switched was is v ≡ v
+no-turn true true v e = refl
+no-turn true false v e = absurd (true≢false e)
+no-turn false true v e = absurd (true≢false e)
+no-turn false false v e = refl
+
+pub switched-same : (t : Bool) (v : Wires) → switched t t v ≡ v
+switched-same true v = refl
+switched-same false v = refl

@@ -35,7 +35,7 @@ module _ {on : Bool} {w : Wires} (h : WiresOk on w) where
   pub platform-ok : WiresOk on (platformWires w)
   platform-ok = record { right = sound-platform on w (h .right); fit = whole-platform w ∙ h .fit }
 
-pub edge-ok : (was is : Bool) (w : Wires) → WiresOk was w → WiresOk is (W₀.edge was is w)
+pub edge-ok : (was is : Bool) (w : Wires) → WiresOk was w → WiresOk is (W₀.enableEdge was is w)
 edge-ok true true w h = h
 edge-ok true false w h = record { right = sound-disabled true w (h .right); fit = whole-remarked false w 4 (h .fit) }
 edge-ok false true w h = record { right = sound-enabled w (h .right); fit = whole-remarked true w (w .place) (h .fit) }

@@ -5,7 +5,8 @@ use mathlib.Core.List.{List, [], _∷_}
 use mathlib.Core.Path.{_≡_, refl, sym, ap, _∙_}
 use native.Mathlib.Omega.{arith}
 use Rattle.base.specs.Pick.{pick}
-use Rattle.registers.specs.Registers.{on1}
+use Rattle.base.specs.Bytes.{bit}
+use Rattle.registers.specs.Registers.{field, on1}
 use Rattle.wires.specs.Below.{none-at}
 use Rattle.wires.specs.Table.{senders}
 use Rattle.wires.specs.Groups.{waiting, markAt}
@@ -14,6 +15,7 @@ use Rattle.wires.specs.Kept as K
 use Rattle.wires.specs.Kept.{sound-view}
 use Rattle.wires.specs.Sent.{pending-any}
 use Rattle.wires.specs.declared.Wires.{Wires}
+use Rattle.state.specs.Status.{status}
 use Rattle.state.specs.declared.State.{State}
 use Rattle.state.specs.Facts.{sound-wires}
 use Rattle.state.specs.Sound.{Sound}
@@ -23,7 +25,12 @@ use Rattle.rules.specs.Statements.Sizes.{isEnabled}
 use Rattle.rules.specs.Statements.Wires.Rows.{groupPending}
 use Rattle.rules.specs.Statements.Status.{numberGot, ShowsAvail}
 use Rattle.rules.specs.Proofs.Sizes.{on-as}
-use Rattle.rules.specs.Proofs.Status.{word-bits, avail, ByRows}
+use Rattle.rules.specs.Proofs.Reply.{status-bits}
+use Rattle.rules.specs.Proofs.Status.{avail, ByRows}
+
+pub word-bit : (s : State) → field (status s) 6 1 ≡ bit (groupPending (s .wires))
+unfolding status
+word-bit s = omega (arith, status-bits s, ap bit (pending-any (s .wires)))
 
 module _ (w : World) (lent : List ℕ) (sound : Sound (w .state)) (by-rows : ByRows w lent) where
   abbrev s : State
@@ -46,6 +53,6 @@ module _ (w : World) (lent : List ℕ) (sound : Sound (w .state)) (by-rows : ByR
 
   pub get-vwire : ShowsAvail w lent 6 0x05
   get-vwire x crc =
-      avail _ (numberGot w lent (0x05 ∷ x ∷ [])) (isEnabled wires (s .config)) (groupPending (s .wires)) off-marks (word-bits s .at6)
+      avail _ (numberGot w lent (0x05 ∷ x ∷ [])) (isEnabled wires (s .config)) (groupPending (s .wires)) off-marks (word-bit s)
       (by-rows (0x05 ∷ x ∷ [])
       ∙ ap (λ (t : Bool). pick (not (isEnabled wires (s .config))) 14 (pick t 16 (pick (not (groupPending (s .wires))) 1 0))) crc)

@@ -1,0 +1,19 @@
+use mathlib.Core.Path.{sym, ap, subst, _∙_}
+use Prim.Native.Nat.{ℕ, _≤_}
+use Rattle.command.specs.Decode.{highFirst}
+use Rattle.command.specs.Facts.{address-few}
+use borrow.Author.Needs.{needs}
+use Rattle.command.proofs.address_in.Statement.{statement}
+use Rattle.command.proofs.address_in.Tie as tie
+
+address-bytes-requires : tie.Need-address-bytes-requires
+address-bytes-requires c κs = search needs
+
+high-first-requires : tie.Need-high-first-requires
+high-first-requires c κs = subst (λ (n : ℕ). n ≤ 8) (sym (c .address-bytes .ensures)) (address-few (c .before .before .args .r) (c .before .before .args .b .now) (c .before .before .pre))
+
+returns : tie.Need-returns
+returns c = let a = c .before .before .before .args in c .high-first .ensures .0 ∙ ap (λ (n : ℕ). highFirst n (a .r .from) (a .b .now)) (c .before .address-bytes .ensures)
+
+pub address-in-spec : {M : Type 1} → statement M
+address-in-spec = tie.close (tie.spec address-bytes-requires high-first-requires returns)

@@ -1,0 +1,131 @@
+-- One part stored in the bytes of a state is the whole next state stored.
+use Prim.Native.Nat.{ℕ}
+use mathlib.Core.Bool.{Bool, true, false, true≢false, not, _&&_}
+use mathlib.Core.List.{List}
+use mathlib.Core.Path.{_≡_, refl, sym, ap, subst, _∙_}
+use native.Mathlib.Nat.{le-of-eq}
+use lib.Dec.{eqb}
+use lib.ListN.{take}
+use Rattle.base.specs.Pick.{pick}
+use Rattle.base.specs.Bytes as B
+use Rattle.base.specs.Bytes.{over, over-take, take-over, over-over}
+use Rattle.registers.specs.Layout.{configBytes}
+use Rattle.registers.specs.declared.Config.{Config}
+use Rattle.wires.specs.Groups.{enabled, disabled}
+use Rattle.command.specs.declared.Channels.{Channels}
+use Rattle.peripheral.specs.Queues.{dropped}
+use Rattle.state.specs.Status.{status}
+use Rattle.state.specs.Layout.{stateLength, packed}
+use Rattle.state.specs.Packing.{packed-length}
+use Rattle.state.specs.Stored.{stored-config, stored-peripheral, stored-wires}
+use Rattle.state.specs.declared.State.{State}
+use Rattle.rules.specs.Rules.Out.{fatal, number}
+use Rattle.rules.specs.Rules.Channel.{Channel, peripheral, wires, Part, Act, Board, Change, nextOf, outOf, part, put, on, acting, settle, enableEdge}
+use Rattle.rules.specs.Rules.Lift.{lift, withStatus}
+use Rattle.rules.specs.Rules.Calls.{kept}
+use Rattle.rules.specs.Rules.Exchange.{channelsOf, reconfigured, reset008h}
+use Rattle.rules.specs.Statements.Channels as L
+use Rattle.rules.specs.Statements.Channels.{Acts, Settles}
+use Rattle.rules.specs.Proofs.Lift.{lift-change, lift-stays, put-same}
+use Rattle.rules.specs.Proofs.Plans.{did}
+use Rattle.rules.specs.Proofs.Channels as H
+use Rattle.rules.specs.declared.Reply.{Reply}
+use Rattle.rules.specs.declared.Plan.{Plan}
+use Rattle.engine.specs.Carried.{Packs, carried, carriedBy, outgoing, putPart, storedBy, edgeStored, Stays}
+use Rattle.engine.specs.declared.Outgoing.{Outgoing}
+
+-- ---- a refused call's state
+
+module _ (k : Channel) (s : State) where
+  acts-stay : (a : Act k) {x : Change k} → Acts k (part k s) a x → Stays s (lift k s x)
+  acts-stay a L.Acts.refused = subst (Stays s) (sym (lift-stays k s fatal)) (λ e. refl)
+  acts-stay a (L.Acts.accepted q body kept e f) = subst (Stays s) (sym (lift-change k s q _)) (λ t. absurd (true≢false t))
+
+  pub acting-stays : (a : Act k) (x : Change k) → x ≡ acting k (s .config) (part k s) a → Stays s (lift k s x)
+  acting-stays a x e = subst (λ (z : Change k). Stays s (lift k s z)) (sym e) (acts-stay a (H.acts k (s .config) (part k s) a _ (did k (s .config) (part k s) a)))
+
+  settles-stay : (o : Board k) {x : Change k} → Settles k (part k s) o x → Stays s (lift k s x)
+  settles-stay o (L.Settles.refused n l m r v) = subst (Stays s) (sym (lift-stays k s (number n))) (λ e. refl)
+  settles-stay o (L.Settles.accepted q kept e) = subst (Stays s) (sym (lift-change k s q _)) (λ t. absurd (true≢false t))
+
+  pub settle-stays : (o : Board k) (x : Change k) → x ≡ settle k (s .config) (part k s) o → Stays s (lift k s x)
+  settle-stays o x e = subst (λ (z : Change k). Stays s (lift k s z)) (sym e) (settles-stay o (H.board-settles k s o))
+
+-- ---- bytes that stay
+
+unchanged : (s : State) (l : List ℕ) → Packs s l → l ≡ kept s l
+unchanged s l h = sym (over-take l stateLength (h .long)) ∙ ap (λ (z : List ℕ). over z l) (h .bytes)
+
+pub stays-carried : (s : State) (l : List ℕ) (p : Plan) (r : Outgoing) → Packs s l → p .next ≡ s → r ≡ outgoing p → carried r l ≡ carriedBy p l
+stays-carried s l p r h e k = ap (λ (z : Outgoing). carried z l) k ∙ ap (carried (outgoing p)) (unchanged s l h ∙ ap (λ (z : State). kept z l) (sym e))
+
+-- ---- a part put where the state's bytes stand
+
+module _ (s : State) (l₀ l : List ℕ) (e : l ≡ kept s l₀) where
+  found : take stateLength l ≡ packed s
+  found = ap (take stateLength) e ∙ take-over (packed s) l₀ stateLength (packed-length s)
+
+  -- what is put over the state's bytes is put over those before
+  again : (t : State) → kept t l ≡ kept t l₀
+  again t = ap (kept t) e ∙ over-over (packed s) (packed t) l₀ (le-of-eq (packed-length s ∙ sym (packed-length t)))
+
+  config-stored : (c : Config) → B.put 0 (configBytes c) l ≡ kept (record { config = c; peripheral = s .peripheral; wires = s .wires }) l₀
+  config-stored c = stored-config s l found c ∙ again _
+
+  part-stored : (k : Channel) (q : Part k) → putPart k q l ≡ kept (put k q s) l₀
+  part-stored peripheral q = stored-peripheral s l found q ∙ again _
+  part-stored wires q = stored-wires s l found q ∙ again _
+
+  -- the part that a test picks: the one that stands there is not stored
+  picked-stored : (k : Channel) (t : Bool) (q : Part k) → pick t (putPart k q l) l ≡ kept (put k (pick t q (part k s)) s) l₀
+  picked-stored k true q = part-stored k q
+  picked-stored k false q = e ∙ ap (λ (z : State). kept z l₀) (sym (put-same k s))
+
+-- ---- a channel's change
+
+module _ (k : Channel) (s : State) (x : Change k) (l : List ℕ) (h : Packs s l) (f : Stays s (lift k s x)) where
+  change-stored : storedBy k (outOf k x .number) (nextOf k x) l ≡ kept (put k (nextOf k x) s) l
+  unfolding lift
+  change-stored = go (eqb (outOf k x .number) 0) refl
+    where
+      go : (t : Bool) → eqb (outOf k x .number) 0 ≡ t → pick t (putPart k (nextOf k x) l) l ≡ kept (put k (nextOf k x) s) l
+      go true e = part-stored s l l (unchanged s l h) k (nextOf k x)
+      go false e = unchanged s l h ∙ ap (λ (z : State). kept z l) (sym (f e))
+
+  pub lift-carried : (l′ : List ℕ) (r : Reply) → l′ ≡ storedBy k (outOf k x .number) (nextOf k x) l → r ≡ withStatus (outOf k x .say) (status (put k (nextOf k x) s))
+      → carried (record { number = outOf k x .number; reply = r; kept = outOf k x .kept }) l′ ≡ carriedBy (lift k s x) l
+  unfolding lift
+  lift-carried l′ r es er = rw (es ∙ change-stored, er)
+
+-- ---- configuration: its bytes, then those of each channel that has an enableEdge
+
+edge-stored : (k : Channel) (s : State) (l₀ l : List ℕ) (was is : Bool) → l ≡ kept s l₀ → edgeStored k was is (part k s) l ≡ kept (put k (enableEdge k was is (part k s)) s) l₀
+edge-stored peripheral s l₀ l was is e = picked-stored s l₀ l e peripheral (was && not is) (dropped (s .peripheral))
+edge-stored wires s l₀ l was is e = go (was && not is)
+  where
+    go : (t : Bool)
+        → pick t (putPart wires (disabled (s .wires)) l) (pick (not was && is) (putPart wires (enabled (s .wires)) l) l)
+        ≡ kept (put wires (pick t (disabled (s .wires)) (pick (not was && is) (enabled (s .wires)) (s .wires))) s) l₀
+    go true = part-stored s l₀ l e wires (disabled (s .wires))
+    go false = picked-stored s l₀ l e wires (not was && is) (enabled (s .wires))
+
+-- RESET
+pub cleared-by : (s : State) (l l′ : List ℕ) → Packs s l → l′ ≡ B.put 0 (configBytes (reset008h s .config)) l → l′ ≡ kept (reset008h s) l
+cleared-by s l l′ h e = e ∙ config-stored s l l (unchanged s l h) (reset008h s .config)
+
+pub reconfigured-by : (s : State) (c : Config) (was is : Channels) (l l₁ l₂ l₃ : List ℕ)
+    → Packs s l
+    → was ≡ channelsOf (s .config)
+    → is ≡ channelsOf c
+    → l₁ ≡ B.put 0 (configBytes c) l
+    → l₂ ≡ edgeStored peripheral (was .peripheral) (is .peripheral) (s .peripheral) l₁
+    → l₃ ≡ edgeStored wires (was .wires) (is .wires) (s .wires) l₂
+    → l₃ ≡ kept (reconfigured s c) l
+reconfigured-by s c was is l l₁ l₂ l₃ h ew ei e₁ e₂ e₃ =
+    let s₁ : State = record { config = c; peripheral = s .peripheral; wires = s .wires } in
+    let s₂ : State = put peripheral (enableEdge peripheral (was .peripheral) (is .peripheral) (s .peripheral)) s₁ in
+    let f₁ : l₁ ≡ kept s₁ l = e₁ ∙ config-stored s l l (unchanged s l h) c in
+    let f₂ : l₂ ≡ kept s₂ l = e₂ ∙ edge-stored peripheral s₁ l l₁ (was .peripheral) (is .peripheral) f₁ in
+    e₃ ∙ edge-stored wires s₂ l l₂ (was .wires) (is .wires) f₂
+    ∙ ap (λ (z : Channels). kept (record { config = c; peripheral = enableEdge peripheral (z .peripheral) (is .peripheral) (s .peripheral); wires = enableEdge wires (z .wires) (is .wires) (s .wires) }) l) ew
+    ∙ ap (λ (z : Channels). kept (record { config = c; peripheral = enableEdge peripheral (on peripheral (s .config)) (z .peripheral) (s .peripheral); wires = enableEdge wires (on wires (s .config)) (z .wires) (s .wires) }) l) ei
