@@ -97,6 +97,10 @@ sent w capacity = sentFrom w (w .place) capacity
 abbrev pub groupAfter : ℕ → ℕ
 groupAfter i = groupAt (after senders (senderOf i))
 
+-- the group of the row at a place that goes up, or else the one that comes next
+abbrev pub upOr : ℕ → ℕ → ℕ
+upOr at next = pick (rowAt at .down) next (rowAt at .index)
+
 -- "and their pending marks go"; the place follows the one just sent
 abbrev pub leftBy : Wires → ℕ → Wires
 leftBy w k = withGroup w (groupAt k) (levelAt w (groupAt k)) false (groupAt (after senders k))

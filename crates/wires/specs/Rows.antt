@@ -1,6 +1,7 @@
 -- P18: the six rows of the wire table and the senders among them, by computed tests, and what the tests on an index, a bit and a value say.
 use Prim.Native.Nat.{ℕ, zero, suc, _+_, _-_, _*_, _/_, _%_, _^_, _≤_, _<_}
 use mathlib.Core.Bool.{Bool, true, false, _&&_, _||_, not}
+use mathlib.Core.List.{List, [], _∷_}
 use mathlib.Core.Path.{_≡_, refl, sym, subst, _∙_}
 use native.Mathlib.Omega.{arith}
 use native.Mathlib.Nat.{one-mul}
@@ -9,12 +10,12 @@ use lib.Pow.{shl-exact}
 use lib.Dec.{eqb, ltb, leb}
 use lib.ListN.{getD, length}
 use borrow.Author.Tests.{leb-true, ltb-true, eqb-true, le-leb, not-true}
-use Rattle.base.specs.Pick.{pick, and-left, and-right, and-true}
+use Rattle.base.specs.Pick.{pick, and-left, and-right}
 use Rattle.base.specs.Bytes.{bit}
-use Rattle.wires.specs.Below.{every, some, at-every, at-both}
+use Rattle.wires.specs.Below.{every, some, at-every}
 use Rattle.wires.specs.Table.{table, rowAt, isGroup, upsBefore, senders, groupAt, senderOf, isUp}
 use Rattle.wires.specs.Turn.{after}
-use Rattle.wires.specs.Groups.{definedBit, settable, firstPlace, waiting, anyPending, groupAfter}
+use Rattle.wires.specs.Groups.{definedBit, settable, firstPlace, waiting, anyPending, groupAfter, upOr}
 use Rattle.wires.specs.declared.Wires.{Wires}
 
 -- ---- the rows
@@ -118,35 +119,21 @@ some-next w (suc (suc (suc (suc zero)))) h = refl
 some-next w (suc (suc (suc (suc (suc zero))))) h = or-none (anyPending w)
 some-next w (suc (suc (suc (suc (suc (suc i)))))) h = absurd (omega arith)
 
--- how many rows it is from a place of the table to the next group that goes up after group i
-abbrev pub toGo : ℕ → ℕ → ℕ
-toGo i at = (groupAfter i - 2 + 6 - at) % 6
+-- the group that comes after each row, from the last row back
+abbrev pub afterRows : List ℕ
+afterRows =
+    let e = upOr 5 firstPlace in
+    let d = upOr 4 e in
+    let c = upOr 3 d in
+    let b = upOr 2 c in
+    upOr 1 b ∷ b ∷ c ∷ d ∷ e ∷ firstPlace ∷ []
 
--- on the way there: a down row is passed, and the first up row is that group's
-abbrev Walk : ℕ → ℕ → Bool
-Walk i at =
-    pick (isUp i && leb (toGo i at) (toGo i (after 6 (i - 2))))
-    (pick (rowAt at .down) (ltb (toGo i (after 6 at)) (toGo i at)) (eqb (rowAt at .index) (groupAfter i)))
-    true
+pub rows-back : {a b c d e : ℕ} → a ≡ upOr 1 b → b ≡ upOr 2 c → c ≡ upOr 3 d → d ≡ upOr 4 e → e ≡ upOr 5 firstPlace → a ∷ b ∷ c ∷ d ∷ e ∷ firstPlace ∷ [] ≡ afterRows
+rows-back p q r s t = rw (p, q, r, s, t)
 
-walk-table : every 8 (λ (i : ℕ). every 6 (Walk i)) ≡ true
+pub after-rows : (i : ℕ) → isUp i ≡ true → getD afterRows (i - 2) 0 ≡ groupAfter i
 unfolding after
-walk-table = refl
-
-module _ (i at : ℕ) (up : isUp i ≡ true) (small : at < 6) (way : toGo i at ≤ toGo i (after 6 (i - 2))) where
-  abbrev Step : Bool → Bool
-  Step b = pick b (ltb (toGo i (after 6 at)) (toGo i at)) (eqb (rowAt at .index) (groupAfter i))
-
-  walked : Step (rowAt at .down) ≡ true
-  walked =
-      subst (λ (b : Bool). pick b (Step (rowAt at .down)) true ≡ true) (and-true up (le-leb (toGo i at) (toGo i (after 6 (i - 2))) way))
-      (at-both 8 6 Walk walk-table i at (omega (arith, up-group i up .upto)) small)
-
-  pub down-nearer : rowAt at .down ≡ true → toGo i (after 6 at) < toGo i at
-  down-nearer e = ltb-true _ _ (subst (λ (b : Bool). Step b ≡ true) e walked)
-
-  pub up-there : rowAt at .down ≡ false → rowAt at .index ≡ groupAfter i
-  up-there e = eqb-true _ _ (subst (λ (b : Bool). Step b ≡ true) e walked)
+after-rows i u = eqb-true _ _ (where-holds 8 isUp (λ (k : ℕ). eqb (getD afterRows (k - 2) 0) (groupAfter k)) refl i (omega (arith, up-group i u .upto)) u)
 
 -- ---- the tests on an index, a bit and a value
 

@@ -5,10 +5,9 @@ ghost use Prim.Native.Nat.{_+_, _-_, _*_, _≤_, _<_};
 ghost use lib.ListN.{length, take};
 ghost use mathlib.Core.List.{_++_};
 ghost use Rattle.base.specs.Bytes.{put, low4, low8};
-ghost use Rattle.wires.specs.Turn.{after};
 ghost use Rattle.wires.specs.Table.{senders, senderOf, isUp};
 ghost use Rattle.wires.specs.Sending.{begun, takes, past, sending};
-ghost use Rattle.wires.specs.Groups.{senderSize, groupAfter, pairOf, freshWires, withGroup, levelAt, nibble, putPair, putPairs, definedBit, settable, setWire, readWire, anyPending, wiresStatus, remarked, enabled, disabled, resetGroup, platformWires, inRow};
+ghost use Rattle.wires.specs.Groups.{senderSize, groupAfter, upOr, pairOf, freshWires, withGroup, levelAt, nibble, putPair, putPairs, definedBit, settable, setWire, readWire, anyPending, wiresStatus, remarked, enabled, disabled, resetGroup, platformWires, inRow};
 ghost use Rattle.wires.specs.Layout.{wiresBytes, wiresIn, holdsWires, levelsFit, marksIn};
 
 pub struct WireRow {
@@ -115,26 +114,29 @@ fn row_of(group: u8) -> usize
     (group - 2) as usize
 }
 
-fn row_after(at: usize) -> usize
+// The group of a row that goes up, or else the one that comes next.
+fn up_or(at: usize, next: u8) -> u8
     requires { ⌜ at < 6 ⌝ }
-    ensures { λ r. ⌜ (r ≡ after 6 at) × (r < 6) ⌝ }
+    ensures { λ r. ⌜ r ≡ upOr at next ⌝ }
 {
-    if at + 1 < 6 {
-        return at + 1;
+    if TABLE[at].down {
+        return next;
     }
-    0
+    TABLE[at].index
 }
 
-// The next group that goes up, going round.
+// The next group that goes up, going round: after the last row the first place. The compiler knows every entry.
 fn group_after(group: u8) -> u8
     requires { ⌜ isUp group ≡ true ⌝ }
     ensures { λ r. ⌜ r ≡ groupAfter group ⌝ }
 {
-    let mut at = row_after(row_of(group));
-    while TABLE[at].down {
-        at = row_after(at);
-    }
-    TABLE[at].index
+    let e = up_or(5, FIRST_PLACE);
+    let d = up_or(4, e);
+    let c = up_or(3, d);
+    let b = up_or(2, c);
+    let a = up_or(1, b);
+    let next = [a, b, c, d, e, FIRST_PLACE];
+    next[row_of(group)]
 }
 
 // A group is one entry of a packet.
