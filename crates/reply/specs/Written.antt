@@ -1,18 +1,21 @@
 -- Laws by which the reply's writers meet their contracts: each follows the writes in the code's order.
 use Prim.Native.Nat.{ℕ, suc, _+_, _-_, _≤_, _<_}
-use mathlib.Core.Bool.{Bool, true, false}
+use mathlib.Core.Bool.{Bool, true, false, _&&_, true≢false}
 use mathlib.Core.List.{List, [], _∷_, _++_, append-nil, append-assoc}
 use mathlib.Core.Path.{_≡_, refl, sym, ap, ap₂, subst, _∙_}
 use native.Mathlib.Omega.{arith}
-use lib.ListN.{length, take, drop, length-append, length-drop, take-append-drop}
+use lib.ListN.{getD, length, take, drop, length-append, length-drop, take-append-drop}
 use lib.Seq.{length-take-le}
+use lib.Dec.{ltb}
+use borrow.Author.Tests.{ltb-true, ltb-false}
 use borrow.Rule.Slice.PartMut.{midOf, putMid}
-use Rattle.base.specs.Pick.{pick}
+use Rattle.base.specs.Pick.{pick, and-left, and-right}
 use Rattle.base.specs.Bytes.{low2, put, over, copied, put-over, put-first, take-over, over-over, tail-lent, tail-back, over-take, drop-over, over-parts, copied-over}
 use Rattle.crc.specs.Crc.{crc}
 use Rattle.wires.specs.Table.{groupAt, senderOf, isUp}
-use Rattle.wires.specs.Groups.{groupByte, pairOf, pairBytes, packetBytes}
-use Rattle.wires.specs.Sending.{begun, turnOf, takes, past, nowTaken, step, turn-over, begun-turn}
+use Rattle.wires.specs.Groups.{levelAt, groupByte, pairAt, pairBytes, packetBytes}
+use Rattle.wires.specs.Rows.{up-group}
+use Rattle.wires.specs.Sending.{begun, turnOf, goTakes, takes, past, nowTaken, step, begun-turn, turn-over, turn-closed}
 use Rattle.wires.specs.Sent.{packet-length}
 use Rattle.wires.specs.declared.Wires.{Wires}
 use Rattle.wires.specs.declared.Going.{Going}
@@ -102,19 +105,47 @@ unfolding pairBytes
 pairs-both w [] ys = refl
 pairs-both w (x ∷ xs) ys = ap (λ (l : List ℕ). groupAt x ∷ groupByte w (groupAt x) ∷ l) (pairs-both w xs ys)
 
-pub pair-passed : (w : Wires) (g : Going) (at : ℕ) (l : List ℕ) → takes w g ≡ false
-    → (l ≡ put at (pairBytes w (nowTaken w g)) l) × (at ≡ at + length (pairBytes w (nowTaken w g)))
-unfolding pairBytes
-pair-passed w g at l e =
-    let z : nowTaken w g ≡ [] = ap (λ (b : Bool). pick b (senderOf (g .group) ∷ []) []) e in
-    (sym (ap (λ (ks : List ℕ). put at (pairBytes w ks) l) z ∙ put-none l at), omega (arith, ap (λ (ks : List ℕ). length (pairBytes w ks)) z))
+-- the pair of the group asked now, which waits or not, at its level
+abbrev pub pairNow : Going → Bool → ℕ → List ℕ
+pairNow g waits level = pick (goTakes waits g) (pairAt (g .group) level) []
 
-pub pair-taken : (w : Wires) (g : Going) (at : ℕ) (l l₁ pair : List ℕ) → takes w g ≡ true → pair ≡ pairOf w (senderOf (g .group)) → l₁ ≡ put at pair l
-    → (l₁ ≡ put at (pairBytes w (nowTaken w g)) l) × (at + 2 ≡ at + length (pairBytes w (nowTaken w g)))
+pub pair-passed : (g : Going) (waits : Bool) (level at : ℕ) (l : List ℕ) → goTakes waits g ≡ false
+    → (l ≡ put at (pairNow g waits level) l) × (at ≡ at + length (pairNow g waits level))
+pair-passed g waits level at l e =
+    let z : pairNow g waits level ≡ [] = ap (λ (b : Bool). pick b (pairAt (g .group) level) []) e in
+    (sym (ap (λ (ks : List ℕ). put at ks l) z ∙ put-none l at), omega (arith, ap length z))
+
+pub pair-taken : (g : Going) (waits : Bool) (level at : ℕ) (l l₁ pair : List ℕ) → goTakes waits g ≡ true → pair ≡ pairAt (g .group) level → l₁ ≡ put at pair l
+    → (l₁ ≡ put at (pairNow g waits level) l) × (at + 2 ≡ at + length (pairNow g waits level))
+pair-taken g waits level at l l₁ pair e ep h =
+    let z : pairNow g waits level ≡ pairAt (g .group) level = ap (λ (b : Bool). pick b (pairAt (g .group) level) []) e in
+    (h ∙ ap (λ (p : List ℕ). put at p l) (ep ∙ sym z), omega (arith, ap length z))
+
+-- over the wires it is what the packet takes now; mark and level are read at the group's row
+pub pair-is : (w : Wires) (g : Going) (row : ℕ) → isUp (g .group) ≡ true → row ≡ g .group - 2
+    → pairNow g (getD (w .pending) row false) (getD (w .level) row 0) ≡ pairBytes w (nowTaken w g)
 unfolding pairBytes
-pair-taken w g at l l₁ pair e ep h =
-    let z : nowTaken w g ≡ senderOf (g .group) ∷ [] = ap (λ (b : Bool). pick b (senderOf (g .group) ∷ []) []) e in
-    (h ∙ ap (λ (p : List ℕ). put at p l) (ep ∙ sym (ap (pairBytes w) z)), omega (arith, ap (λ (ks : List ℕ). length (pairBytes w ks)) z))
+pair-is w g row up e = ap (λ (i : ℕ). pairNow g (getD (w .pending) i false) (getD (w .level) i 0)) e ∙ go (takes w g)
+  where
+    go : (b : Bool) → pick b (pairAt (g .group) (levelAt w (g .group))) [] ≡ pairBytes w (pick b (senderOf (g .group) ∷ []) [])
+    go true = ap (λ (i : ℕ). pairAt i (levelAt w i)) (sym (up-group (g .group) up .back))
+    go false = refl
+
+-- the loop's test: some are still to be asked, and there is room
+pub record GoesOn (g : Going) : Type 0 where
+  pub left : 0 < g .left
+  pub room : 0 < g .room
+
+pub goes-on : (g : Going) → ltb 0 (g .left) && ltb 0 (g .room) ≡ true → GoesOn g
+goes-on g e = record { left = ltb-true 0 (g .left) (and-left (ltb 0 (g .left)) _ e); room = ltb-true 0 (g .room) (and-right (ltb 0 (g .left)) _ e) }
+
+pub full : (w : Wires) (g : Going) → ltb 0 (g .left) && ltb 0 (g .room) ≡ false → turnOf w g ≡ []
+full w g = go (ltb 0 (g .left)) (ltb 0 (g .room)) refl refl
+  where
+    go : (a b : Bool) → ltb 0 (g .left) ≡ a → ltb 0 (g .room) ≡ b → a && b ≡ false → turnOf w g ≡ []
+    go true true p q e = absurd (true≢false e)
+    go true false p q e = let h = ltb-false 0 (g .room) q in turn-closed w g (omega arith)
+    go false b p q e = let h = ltb-false 0 (g .left) p in turn-over w g (omega arith)
 
 -- so far written: with the pairs that still come it is the packet
 pub record Written (w : Wires) (g : Going) (at : ℕ) (l whole : List ℕ) (n : ℕ) : Type 0 where
@@ -148,12 +179,12 @@ written-next w g g′ at at′ n l l′ whole small more h e ea eg s =
       end = omega (arith, s .end, ap length t, length-append us vs, ap length f, ea);
     }
 
-pub written-whole : (w : Wires) (p : Packet) (g : Going) (code at : ℕ) (l l₁ : List ℕ) → p .count ≤ 64 → g .left ≡ 0
+pub written-whole : (w : Wires) (p : Packet) (g : Going) (code at : ℕ) (l l₁ : List ℕ) → p .count ≤ 64 → turnOf w g ≡ []
     → Written w g at l₁ (over (code ∷ packetBytes w p) l) (length (code ∷ packetBytes w p))
     → (l₁ ≡ over (code ∷ packetBytes w p) l) × (at ≡ length (code ∷ packetBytes w p)) × (at ≤ 260)
 unfolding pairBytes
 written-whole w p g code at l l₁ h z s =
-    let t = ap (pairBytes w) (turn-over w g z) in
+    let t = ap (pairBytes w) z in
     let n = ap length t in
     (sym (put-none l₁ at) ∙ ap (λ (ks : List ℕ). put at ks l₁) (sym t) ∙ s .rest, omega (arith, s .end, n), omega (arith, s .end, n, packet-length w p))
 

@@ -17,11 +17,12 @@ ghost use Prim.Native.Nat.{_+_, _*_, _≤_, _<_};
 ghost use lib.ListN.{length, take, drop};
 ghost use Rattle.base.specs.Bytes.{put, over};
 ghost use Rattle.wires.specs.Table.{isUp};
-ghost use Rattle.wires.specs.Groups.{levelAt, pairBytes, packetBytes};
-ghost use Rattle.wires.specs.Sending.{nowTaken, PacketFits};
+ghost use Rattle.wires.specs.Groups.{packetBytes};
+ghost use Rattle.wires.specs.Sending.{PacketFits};
 ghost use Rattle.rules.specs.Rules.Out.{responseByte};
 ghost use Rattle.rules.specs.Rules.Peripheral.{requestReport, postedReport, takeReport};
 ghost use Rattle.rules.specs.Rules.Reply.{headerBytes, dataBytes, bodyBytes, closed, replyBytes, keptBytes};
+ghost use Rattle.reply.specs.Written.{pairNow};
 ghost use Rattle.rules.specs.Rules.Fits.{BodyFits, ReplyFits, KeptFits};
 
 fn response_byte(r: Response) -> u8
@@ -60,20 +61,20 @@ fn put_piece(reply: &mut [u8], code: u8, c: Completion, reads: &[u8]) -> usize
     4 + n
 }
 
-// The pair of the sender that is asked now, if the packet takes it; where the next pair goes.
-fn put_pair(reply: &mut [u8], at: usize, w: Wires, g: Going) -> usize
-    requires { ⌜ (at + 2 ≤ length (now reply)) × (isUp (g .group) ≡ true) × (levelAt w (g .group) < 16) ⌝ }
-    ensures { λ r. ⌜ (now (reply .exit) ≡ put at (pairBytes w (nowTaken w g)) (now (reply .entry))) × (r ≡ at + length (pairBytes w (nowTaken w g))) ⌝ }
+// The pair of the group that is asked now, if the packet takes it; where the next pair goes.
+fn put_pair(reply: &mut [u8], at: usize, g: Going, waits: bool, level: u8) -> usize
+    requires { ⌜ (at + 2 ≤ length (now reply)) × (isUp (g .group) ≡ true) × (level < 16) ⌝ }
+    ensures { λ r. ⌜ (now (reply .exit) ≡ put at (pairNow g waits level) (now (reply .entry))) × (r ≡ at + length (pairNow g waits level)) ⌝ }
 {
-    if !w.takes(g) {
+    if !g.takes(waits) {
         return at;
     }
-    let pair = w.pair(g.group);
+    let pair = wires::pair(g.group, level);
     base::put_at(reply, at, &pair);
     at + 2
 }
 
-// The response byte and a wire packet, sender by sender over the wires as they were.
+// The response byte and a wire packet, group by group over the wires as they were, until it is full.
 fn put_groups(reply: &mut [u8], code: u8, w: Wires, p: Packet) -> usize
     requires { ⌜ (263 ≤ length (now reply)) × PacketFits w p ⌝ }
     ensures { λ r. ⌜ (now (reply .exit) ≡ over (code ∷ packetBytes w p) (now (reply .entry))) × (r ≡ length (code ∷ packetBytes w p)) × (r ≤ 260) ⌝ }
@@ -81,9 +82,11 @@ fn put_groups(reply: &mut [u8], code: u8, w: Wires, p: Packet) -> usize
     base::put_at(reply, 0, &[code, p.count - 1]);
     let mut at: usize = 2;
     let mut g = wires::go_round(p.place, p.count as u32);
-    while 0 < g.left {
-        at = put_pair(reply, at, w, g);
-        g = w.past(g);
+    while (0 < g.left) & (0 < g.room) {
+        let row = wires::row_of(g.group);
+        let waits = w.pending[row];
+        at = put_pair(reply, at, g, waits, w.level[row]);
+        g = g.past(waits);
     }
     at
 }

@@ -114,11 +114,11 @@ abbrev pub packetOf : Wires → List ℕ → Packet
 packetOf w ks = record { place = w .place; count = sizes senderSize ks }
 
 -- "with all defined bits valid"
+abbrev pub pairAt : (i level : ℕ) → List ℕ
+pairAt i level = i ∷ (rowAt (i - 2) .defined * 16 + level) ∷ []
+
 abbrev pub groupByte : Wires → ℕ → ℕ
 groupByte w i = rowAt (i - 2) .defined * 16 + levelAt w i
-
-abbrev pub pairOf : Wires → ℕ → List ℕ
-pairOf w k = groupAt k ∷ groupByte w (groupAt k) ∷ []
 
 unfoldable pub pairBytes : Wires → List ℕ → List ℕ
 pairBytes w [] = []

@@ -77,6 +77,15 @@ turn-again size waits n (suc left) capacity i h = go (waits i) (leb (size i) cap
         ∙ ap (λ (c : ℕ). i ∷ t c) e
         ∙ ap (λ (is : List ℕ). i ∷ is) (f (capacity - size i))
 
+-- a full packet takes none
+pub turn-full : (size : ℕ → ℕ) (waits : ℕ → Bool) (n left i : ℕ) → ((k : ℕ) → 1 ≤ size k) → turn size waits n left 0 i ≡ []
+unfolding turn
+turn-full size waits n zero i h = refl
+turn-full size waits n (suc left) i h =
+    pick-ind (λ (is : List ℕ). is ≡ []) (waits i)
+    (λ _. ap (λ (b : Bool). pick b (i ∷ turn size waits n left (0 - size i) (after n i)) []) (lt-leb (size i) 0 (h i)))
+    (λ _. turn-full size waits n left (after n i) h)
+
 -- ---- steps round
 
 -- j steps on from i

@@ -5,10 +5,11 @@ use mathlib.Core.List.{List, [], _∷_, _++_}
 use mathlib.Core.Path.{_≡_, refl, sym, ap, _∙_}
 use native.Mathlib.Omega.{arith}
 use lib.Dec.{leb}
+use lib.ListN.{getD}
 use borrow.Author.Tests.{leb-true}
 use Rattle.base.specs.Pick.{pick}
 use Rattle.wires.specs.Turn.{turn, after, sizes}
-use Rattle.wires.specs.Round.{after-below}
+use Rattle.wires.specs.Round.{after-below, turn-full}
 use Rattle.wires.specs.Table.{senders, senderOf, isUp}
 use Rattle.wires.specs.Rows.{Sender, sender, up-group}
 use Rattle.wires.specs.Groups.{levelAt, markAt, waiting, senderSize, sentFrom, sent, packetOf, withGroup, groupAfter, afterSent}
@@ -39,16 +40,22 @@ abbrev pub turnOf : Wires → Going → List ℕ
 turnOf w g = turn senderSize (waiting w) senders (g .left) (g .room) (senderOf (g .group))
 
 -- the group asked now waits and fits
-abbrev pub takes : Wires → Going → Bool
-takes w g = markAt w (g .group) && leb (senderSize (senderOf (g .group))) (g .room)
+abbrev pub goTakes : Bool → Going → Bool
+goTakes waits g = waits && leb (senderSize (senderOf (g .group))) (g .room)
 
-abbrev pub past : Wires → Going → Going
-past w g =
-    pick (markAt w (g .group))
+abbrev pub goPast : Bool → Going → Going
+goPast waits g =
+    pick waits
     (pick (leb (senderSize (senderOf (g .group))) (g .room))
     (record { group = groupAfter (g .group); left = g .left - 1; room = g .room - senderSize (senderOf (g .group)) })
     (record { group = g .group; left = 0; room = g .room }))
     (record { group = groupAfter (g .group); left = g .left - 1; room = g .room })
+
+abbrev pub takes : Wires → Going → Bool
+takes w g = goTakes (markAt w (g .group)) g
+
+abbrev pub past : Wires → Going → Going
+past w g = goPast (markAt w (g .group)) g
 
 -- what asking the group now adds to the packet
 abbrev pub nowTaken : Wires → Going → List ℕ
@@ -63,6 +70,11 @@ begun-turn w p capacity = refl
 pub turn-over : (w : Wires) (g : Going) → g .left ≡ 0 → turnOf w g ≡ []
 unfolding turn
 turn-over w g e = ap (λ (l : ℕ). turn senderSize (waiting w) senders l (g .room) (senderOf (g .group))) e
+
+pub turn-closed : (w : Wires) (g : Going) → g .room ≡ 0 → turnOf w g ≡ []
+turn-closed w g e =
+    ap (λ (n : ℕ). turn senderSize (waiting w) senders (g .left) n (senderOf (g .group))) e
+    ∙ turn-full senderSize (waiting w) senders (g .left) (senderOf (g .group)) (λ k. omega arith)
 
 -- a step: nearer the end, what it takes and then the rest, and the room that is left
 pub record Step (w : Wires) (g : Going) (now : List ℕ) (h : Going) : Type 0 where
@@ -160,3 +172,10 @@ gone-on {w} {next} {capacity} {g} next′ h s more e q =
 
 pub gone-less : (w : Wires) (g h : Going) → isUp (g .group) ≡ true → 0 < g .left → h ≡ past w g → h .left < g .left
 gone-less w g h up more e = omega (arith, ap (λ (x : Going). x .left) e, step w g up more .less)
+
+-- with the mark read at the group's row
+pub past-at : (w : Wires) (g h : Going) {row : ℕ} → row ≡ g .group - 2 → h ≡ goPast (getD (w .pending) row false) g → h ≡ past w g
+past-at w g h r e = e ∙ ap (λ (i : ℕ). goPast (getD (w .pending) i false) g) r
+
+pub takes-at : (w : Wires) (g : Going) {t b : Bool} {row : ℕ} → row ≡ g .group - 2 → t ≡ goTakes (getD (w .pending) row false) g → t ≡ b → takes w g ≡ b
+takes-at w g r e h = sym (e ∙ ap (λ (i : ℕ). goTakes (getD (w .pending) i false) g) r) ∙ h

@@ -6,8 +6,8 @@ ghost use lib.ListN.{length, take};
 ghost use mathlib.Core.List.{_++_};
 ghost use Rattle.base.specs.Bytes.{put, low4, low8};
 ghost use Rattle.wires.specs.Table.{senders, senderOf, isUp};
-ghost use Rattle.wires.specs.Sending.{begun, takes, past, sending};
-ghost use Rattle.wires.specs.Groups.{senderSize, groupAfter, upOr, pairOf, freshWires, withGroup, levelAt, nibble, putPair, putPairs, definedBit, settable, setWire, readWire, anyPending, wiresStatus, remarked, enabled, disabled, resetGroup, platformWires, inRow};
+ghost use Rattle.wires.specs.Sending.{begun, goTakes, goPast, sending};
+ghost use Rattle.wires.specs.Groups.{senderSize, groupAfter, upOr, pairAt, freshWires, withGroup, levelAt, nibble, putPair, putPairs, definedBit, settable, setWire, readWire, anyPending, wiresStatus, remarked, enabled, disabled, resetGroup, platformWires, inRow};
 ghost use Rattle.wires.specs.Layout.{wiresBytes, wiresIn, holdsWires, levelsFit, marksIn};
 
 pub struct WireRow {
@@ -107,7 +107,7 @@ fn senders() -> u8
 }
 
 // The place in the table of a group that goes up.
-fn row_of(group: u8) -> usize
+pub fn row_of(group: u8) -> usize
     requires { ⌜ isUp group ≡ true ⌝ }
     ensures { λ r. ⌜ (r ≡ group - 2) × (2 ≤ group) × (r < 6) ⌝ }
 {
@@ -155,6 +155,52 @@ pub fn go_round(place: u8, capacity: u32) -> Going
         left: senders(),
         room: capacity,
     }
+}
+
+impl Going {
+    // Whether the group asked now is taken: it waits, and it fits.
+    pub fn takes(self, waits: bool) -> bool
+        ensures { λ r. ⌜ r ≡ goTakes waits self ⌝ }
+    {
+        waits & (sender_size(self.group) <= self.room)
+    }
+
+    // The next group is asked; at the first that does not fit the packet closes.
+    pub fn past(self, waits: bool) -> Going
+        requires { ⌜ (isUp (self .group) ≡ true) × (0 < self .left) ⌝ }
+        ensures { λ r. ⌜ r ≡ goPast waits self ⌝ }
+    {
+        let next = group_after(self.group);
+        if !waits {
+            return Going {
+                group: next,
+                left: self.left - 1,
+                room: self.room,
+            };
+        }
+        let size = sender_size(self.group);
+        if self.room < size {
+            return Going {
+                group: self.group,
+                left: 0,
+                room: self.room,
+            };
+        }
+        Going {
+            group: next,
+            left: self.left - 1,
+            room: self.room - size,
+        }
+    }
+}
+
+// Index and data of a group, "with all defined bits valid".
+pub fn pair(group: u8, level: u8) -> [u8; 2]
+    requires { ⌜ (isUp group ≡ true) × (level < 16) ⌝ }
+    ensures { λ r. ⌜ r ≡ pairAt group level ⌝ }
+{
+    let valid = TABLE[row_of(group)].defined;
+    [group, valid * 16 + level]
 }
 
 pub fn defined_bit(index: u32, bit: u32) -> bool
@@ -268,63 +314,6 @@ impl Wires {
         ((self.level[at] >> bit) % 2) as u32
     }
 
-    // Whether the group asked now is taken: it waits, and it fits.
-    pub fn takes(self, g: Going) -> bool
-        requires { ⌜ isUp (g .group) ≡ true ⌝ }
-        ensures { λ r. ⌜ r ≡ takes self g ⌝ }
-    {
-        let at = row_of(g.group);
-        self.pending[at] & (sender_size(g.group) <= g.room)
-    }
-
-    // The next group is asked; at the first that does not fit the packet closes.
-    pub fn past(self, g: Going) -> Going
-        requires { ⌜ (isUp (g .group) ≡ true) × (0 < g .left) ⌝ }
-        ensures { λ r. ⌜ r ≡ past self g ⌝ }
-    {
-        let at = row_of(g.group);
-        let next = group_after(g.group);
-        if !self.pending[at] {
-            return Going {
-                group: next,
-                left: g.left - 1,
-                room: g.room,
-            };
-        }
-        let size = sender_size(g.group);
-        if g.room < size {
-            return Going {
-                group: g.group,
-                left: 0,
-                room: g.room,
-            };
-        }
-        Going {
-            group: next,
-            left: g.left - 1,
-            room: g.room - size,
-        }
-    }
-
-    // Index and data of a group, "with all defined bits valid".
-    pub fn pair(self, group: u8) -> [u8; 2]
-        requires { ⌜ (isUp group ≡ true) × (levelAt self group < 16) ⌝ }
-        ensures { λ r. ⌜ r ≡ pairOf self (senderOf group) ⌝ }
-    {
-        let at = row_of(group);
-        let valid = TABLE[at].defined;
-        [group, valid * 16 + self.level[at]]
-    }
-
-    // A group is sent: its mark goes, and the place moves on.
-    fn left_by(self, group: u8, place: u8) -> Wires
-        requires { ⌜ isUp group ≡ true ⌝ }
-        ensures { λ r. ⌜ r ≡ withGroup self group (levelAt self group) false place ⌝ }
-    {
-        let at = row_of(group);
-        self.with(group as usize, self.level[at], false, place)
-    }
-
     pub fn send(self, capacity: u32) -> Sending
         requires { ⌜ (4 ≤ self .place) × (self .place ≤ 6) × (capacity ≤ 64) ⌝ }
         ensures { λ r. ⌜ r ≡ sending self capacity ⌝ }
@@ -333,9 +322,11 @@ impl Wires {
         let mut next = self;
         let mut g = go_round(place, capacity);
         while 0 < g.left {
-            let on = self.past(g);
-            if self.takes(g) {
-                next = next.left_by(g.group, on.group);
+            let at = row_of(g.group);
+            let waits = self.pending[at];
+            let on = g.past(waits);
+            if g.takes(waits) {
+                next = next.with(g.group as usize, next.level[at], false, on.group);
             }
             g = on;
         }

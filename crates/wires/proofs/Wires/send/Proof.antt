@@ -2,10 +2,11 @@ use Prim.Native.Nat.{ℕ, _-_}
 use mathlib.Core.Bool.{false}
 use mathlib.Core.Path.{_≡_, sym, ap, ap₂, _∙_}
 use native.Mathlib.Omega.{arith}
+use lib.ListN.{getD}
 use Rattle.wires.specs.Turn.{sizes}
 use Rattle.wires.specs.Rows.{place-group}
-use Rattle.wires.specs.Groups.{senderSize, sent, afterSent, withGroup, levelAt}
-use Rattle.wires.specs.Sending.{Gone, gone-first, gone-on, gone-less, turnOf, past, left-taken, left-passed, left-over, sizes-over}
+use Rattle.wires.specs.Groups.{senderSize, sent, afterSent, withGroup}
+use Rattle.wires.specs.Sending.{Gone, gone-first, gone-on, gone-less, turnOf, past, past-at, takes-at, left-taken, left-passed, left-over, sizes-over}
 use Rattle.wires.specs.declared.Wires.{Wires}
 use Rattle.wires.specs.declared.Going.{Going}
 use borrow.Author.Needs.{needs}
@@ -13,60 +14,60 @@ use Rattle.wires.proofs.Wires.send.Statement.{statement}
 use Rattle.wires.proofs.Wires.send.Tie as tie
 
 abbrev Inv-loop : tie.InvT-loop
-Inv-loop self capacity place next₀ g₀ next g = Gone self capacity next g
+Inv-loop capacity self place next₀ g₀ next g = Gone self capacity next g
 
 abbrev μ-loop : tie.MeasureT-loop
-μ-loop self capacity place next₀ g₀ next g = g .left
-
-go-round-requires : tie.Need-go-round-requires Inv-loop μ-loop
-go-round-requires c κs = search needs
+μ-loop capacity self place next₀ g₀ next g = g .left
 
 loop-holds : tie.Need-loop-holds Inv-loop μ-loop
-loop-holds c = let w = c .before .args .self in gone-first w (c .before .args .capacity) _ (place-group (w .place) (c .before .pre .0) (c .before .pre .1)) (c .go-round .ensures)
+loop-holds c = let w = c .before .args .t1 in gone-first w (c .before .args .capacity) _ (place-group (w .place) (c .before .pre .0) (c .before .pre .1)) (c .go-round .ensures)
+
+row-of-requires : tie.Need-row-of-requires Inv-loop μ-loop
+row-of-requires c κs = c .before .before .loop .inv .up
 
 past-requires : tie.Need-past-requires Inv-loop μ-loop
-past-requires c κs = (c .before .before .loop .inv .up, c .if1 .taken)
+past-requires c κs = (c .before .before .before .before .loop .inv .up, c .before .before .if1 .taken)
 
-takes-requires : tie.Need-takes-requires Inv-loop μ-loop
-takes-requires c κs = c .before .before .before .loop .inv .up
-
-left-by-requires : tie.Need-left-by-requires Inv-loop μ-loop
-left-by-requires c κs = c .before .before .before .before .before .loop .inv .up
+with-requires : tie.Need-with-requires Inv-loop μ-loop
+with-requires c κs = let r = c .before .before .before .before .before .before .row-of .ensures in (r .1, omega (arith, r .0, r .2))
 
 loop-less : tie.Need-loop-less Inv-loop μ-loop
-loop-less c = let s = c .before .before .before .before in
-    let l = s .before .before .loop in
-    gone-less (s .before .before .before .before .args .self) (l .g) _ (l .inv .up) (s .if1 .taken) (c .before .before .before .past .ensures)
+loop-less c = let s = c .before .before .before .before .before .before .before in
+    let l = s .before .before .before .loop in
+    let w = s .before .before .before .before .before .args .t1 in
+    gone-less w (l .g) _ (l .inv .up) (s .before .if1 .taken) (past-at w (l .g) _ (s .row-of .ensures .0) (c .before .before .before .before .before .past .ensures))
 
 loop-again : tie.Need-loop-again Inv-loop μ-loop
-loop-again c = let s = c .before .before .before .before in
-    let l = s .before .before .loop in
-    let w = s .before .before .before .before .args .self in
-    let e = c .before .before .before .past .ensures in
-    gone-on _ _ (l .inv) (s .if1 .taken) e
-    (ap (λ (v : Wires). afterSent v (turnOf w (past w (l .g)))) (c .left-by .ensures ∙ ap (λ (h : Going). withGroup (l .next) (l .g .group) (levelAt (l .next) (l .g .group)) false (h .group)) e)
-    ∙ left-taken w (l .g) (l .inv .up) (s .if1 .taken) (l .next) (sym (c .before .before .takes .ensures) ∙ c .before .if2 .taken))
+loop-again c = let s = c .before .before .before .before .before .before .before in
+    let l = s .before .before .before .loop in
+    let w = s .before .before .before .before .before .args .t1 in
+    let r = s .row-of .ensures .0 in
+    let e = past-at w (l .g) _ r (c .before .before .before .before .before .past .ensures) in
+    gone-on _ _ (l .inv) (s .before .if1 .taken) e
+    (ap (λ (v : Wires). afterSent v (turnOf w (past w (l .g))))
+    (c .with .ensures ∙ ap₂ (λ (i : ℕ) (h : Going). withGroup (l .next) (l .g .group) (getD (l .next .level) i 0) false (h .group)) r e)
+    ∙ left-taken w (l .g) (l .inv .up) (s .before .if1 .taken) (l .next) (takes-at w (l .g) r (c .before .before .before .before .takes .ensures) (c .before .before .before .if2 .taken)))
 
 loop-less-2 : tie.Need-loop-less-2 Inv-loop μ-loop
-loop-less-2 c = let s = c .before .before .before in
-    let l = s .before .before .loop in
-    gone-less (s .before .before .before .before .args .self) (l .g) _ (l .inv .up) (s .if1 .taken) (c .before .before .past .ensures)
+loop-less-2 c = let s = c .before .before .before .before in
+    let l = s .before .before .before .loop in
+    let w = s .before .before .before .before .before .args .t1 in
+    gone-less w (l .g) _ (l .inv .up) (s .before .if1 .taken) (past-at w (l .g) _ (s .row-of .ensures .0) (c .before .before .past .ensures))
 
 loop-again-2 : tie.Need-loop-again-2 Inv-loop μ-loop
-loop-again-2 c = let s = c .before .before .before in
-    let l = s .before .before .loop in
-    gone-on _ _ (l .inv) (s .if1 .taken) (c .before .before .past .ensures)
-    (left-passed (s .before .before .before .before .args .self) (l .g) (l .inv .up) (s .if1 .taken) (l .next) (sym (c .before .takes .ensures) ∙ c .if2 .left))
+loop-again-2 c = let s = c .before .before .before .before in
+    let l = s .before .before .before .loop in
+    let w = s .before .before .before .before .before .args .t1 in
+    let r = s .row-of .ensures .0 in
+    gone-on _ _ (l .inv) (s .before .if1 .taken) (past-at w (l .g) _ r (c .before .before .past .ensures))
+    (left-passed w (l .g) (l .inv .up) (s .before .if1 .taken) (l .next) (takes-at w (l .g) r (c .before .takes .ensures) (c .if2 .left)))
 
 sub-count : tie.Need-sub-count Inv-loop μ-loop
 sub-count c = let l = c .before .before .before .loop in
-    omega (arith, l .inv .room, sizes-over (c .before .before .before .before .before .args .self) (l .g) (omega (arith, c .before .if1 .left)))
-
-cast-count : tie.Need-cast-count Inv-loop μ-loop
-cast-count c = search needs
+    omega (arith, l .inv .room, sizes-over (c .before .before .before .before .before .args .t1) (l .g) (omega (arith, c .before .if1 .left)))
 
 returns : tie.Need-returns Inv-loop μ-loop
-returns c = let w = c .before .before .before .before .before .args .self in
+returns c = let w = c .before .before .before .before .before .args .t1 in
     let n = c .before .before .before .before .before .args .capacity in
     let l = c .before .before .before .loop in
     let z : l .g .left ≡ 0 = omega (arith, c .before .if1 .left) in
@@ -79,15 +80,19 @@ send-spec =
     (tie.spec
     Inv-loop
     μ-loop
-    go-round-requires
+    (λ c κs. search needs)
     loop-holds
+    row-of-requires
+    (λ c. search needs)
     past-requires
-    takes-requires
-    left-by-requires
+    (λ c κs. search needs)
+    (λ c. search needs)
+    (λ c. search needs)
+    with-requires
     loop-less
     loop-again
     loop-less-2
     loop-again-2
     sub-count
-    cast-count
+    (λ c. search needs)
     returns)
