@@ -83,7 +83,7 @@ fn put_groups(reply: &mut [u8], code: u8, w: Wires, p: Packet) -> usize
     let mut at: usize = 2;
     let mut g = wires::go_round(p.place, p.count as u32);
     while (0 < g.left) & (0 < g.room) {
-        let row = wires::row_of(g.group);
+        let row = (g.group - 2) as usize;
         let waits = w.pending[row];
         at = put_pair(reply, at, g, waits, w.level[row]);
         g = g.past(waits);

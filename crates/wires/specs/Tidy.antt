@@ -154,7 +154,7 @@ module _ (on : Bool) (l : List ℕ) where
       (and-true (unmarked-zero (m 71) (and-left (leb (m 71) 1) _ p₁) (down 3 (omega arith) (omega arith) refl))
       (and-true (unmarked-zero (m 75) (and-right (leb (m 74) 1) _ p₄) (down 7 (omega arith) (omega arith) refl))
       (and-true c (and-true d (and-true e
-      (on-or on (λ o. and-true (unmarked-zero (m 72) c (off o 4 (omega arith) (omega arith))) (and-true (unmarked-zero (m 73) d (off o 5 (omega arith) (omega arith))) (unmarked-zero (m 74) e (off o 6 (omega arith) (omega arith)))))))))))) 
+      (on-or on (λ o. and-true (unmarked-zero (m 72) c (off o 4 (omega arith) (omega arith))) (and-true (unmarked-zero (m 73) d (off o 5 (omega arith) (omega arith))) (unmarked-zero (m 74) e (off o 6 (omega arith) (omega arith))))))))))))
       (and-true (le-leb 4 (m 76) (s .from)) (le-leb (m 76) 6 (s .upto))))
 
 -- levels and marks by the bytes of the words that hold them

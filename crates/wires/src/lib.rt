@@ -107,7 +107,7 @@ fn senders() -> u8
 }
 
 // The place in the table of a group that goes up.
-pub fn row_of(group: u8) -> usize
+fn row_of(group: u8) -> usize
     requires { ⌜ isUp group ≡ true ⌝ }
     ensures { λ r. ⌜ (r ≡ group - 2) × (2 ≤ group) × (r < 6) ⌝ }
 {

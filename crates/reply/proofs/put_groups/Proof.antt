@@ -3,10 +3,10 @@ use mathlib.Core.Bool.{true}
 use mathlib.Core.List.{List}
 use mathlib.Core.Path.{_≡_, refl, ap, _∙_}
 use native.Mathlib.Omega.{arith}
-use lib.ListN.{getD, length}
+use lib.ListN.{length}
 use Rattle.base.specs.Bytes.{put}
 use Rattle.wires.specs.Table.{isUp}
-use Rattle.wires.specs.Rows.{place-group}
+use Rattle.wires.specs.Rows.{place-group, up-group}
 use Rattle.wires.specs.Groups.{pairBytes}
 use Rattle.wires.specs.Sending.{turnOf, step, past-at, gone-less}
 use Rattle.wires.specs.declared.Going.{Going}
@@ -32,16 +32,21 @@ loop-holds c = let s = c .before .before .before .before .before .before .before
   record { rest = refl; end = refl },
 )
 
-row-of-requires : tie.Need-row-of-requires Inv-loop μ-loop
-row-of-requires c κs = c .before .before .before .loop .inv .0
+sub-row : tie.Need-sub-row Inv-loop μ-loop
+sub-row c = let l = c .before .before .before .before .loop in omega (arith, up-group (l .g .group) (l .inv .0) .from)
+
+element-copy-out-waits : tie.Need-element-copy-out-waits Inv-loop μ-loop
+element-copy-out-waits c = let l = c .before .before .before .before .loop in omega (arith, up-group (l .g .group) (l .inv .0) .upto)
+
+element-copy-out-put-pair : tie.Need-element-copy-out-put-pair Inv-loop μ-loop
+element-copy-out-put-pair c = let l = c .before .before .before .before .before .before .loop in omega (arith, up-group (l .g .group) (l .inv .0) .upto)
 
 put-pair-requires : tie.Need-put-pair-requires Inv-loop μ-loop
 put-pair-requires c κs = let s = c .before .before .before .before .before .before .before .before .before .before .before .before .before .before .before .before .before in
-    let l = c .before .before .before .before .before .before .before .loop in
-    let r = c .before .before .before .row-of .ensures .0 in (
+    let l = c .before .before .before .before .before .before .before .loop in (
       omega (arith, s .pre .0, l .inv .1, l .inv .2 .end, pairs-small (s .args .t3) (s .args .p) (c .before .before .before .before .before .before .before .before .go-round .result) (c .before .before .before .before .before .before .before .before .go-round .ensures) (s .pre .1 .most)),
       l .inv .0,
-      omega (arith, ap (λ (i : ℕ). getD (s .args .t3 .level) i 0) r, s .pre .1 .small (l .g .group) (l .inv .0)),
+      s .pre .1 .small (l .g .group) (l .inv .0),
     )
 
 past-requires : tie.Need-past-requires Inv-loop μ-loop
@@ -50,16 +55,15 @@ past-requires c κs = let l = c .before .before .before .before .before .before 
 loop-less : tie.Need-loop-less Inv-loop μ-loop
 loop-less c = let l = c .before .before .before .before .before .before .before .before .before .before .before .loop in
     let w = c .before .before .before .before .before .before .before .before .before .before .before .before .before .before .before .before .before .before .before .before .before .args .t3 in
-    gone-less w (l .g) _ (l .inv .0) (goes-on (l .g) (c .before .before .before .before .before .before .before .before .if1 .taken) .left) (past-at w (l .g) _ (c .before .before .before .before .before .before .before .row-of .ensures .0) (c .past .ensures))
+    gone-less w (l .g) _ (l .inv .0) (goes-on (l .g) (c .before .before .before .before .before .before .before .before .if1 .taken) .left) (past-at w (l .g) _ refl (c .past .ensures))
 
 loop-again : tie.Need-loop-again Inv-loop μ-loop
 loop-again c = let s = c .before .before .before .before .before .before .before .before .before .before .before .before .before .before .before .before .before .before .before .before .before in
     let l = c .before .before .before .before .before .before .before .before .before .before .before .loop in
     let w = s .args .t3 in
-    let r = c .before .before .before .before .before .before .before .row-of in
     let m = goes-on (l .g) (c .before .before .before .before .before .before .before .before .if1 .taken) .left in
-    let e = past-at w (l .g) _ (r .ensures .0) (c .past .ensures) in
-    let q = pair-is w (l .g) (r .result) (l .inv .0) (r .ensures .0) in
+    let e = past-at w (l .g) _ refl (c .past .ensures) in
+    let q = pair-is w (l .g) _ (l .inv .0) refl in
     let n = c .before .before .before .put-pair .ensures in
     let fit = pairs-small w (s .args .p) (c .before .before .before .before .before .before .before .before .before .before .before .before .go-round .result) (c .before .before .before .before .before .before .before .before .before .before .before .before .go-round .ensures) (s .pre .1 .most) in
     let room : l .at ≤ length (l .reply) = omega (arith, s .pre .0, l .inv .1, l .inv .2 .end, fit, c .before .before .before .before .before .before .before .before .before .before .before .before .before .before .before .reply .given) in (
@@ -87,9 +91,10 @@ put-groups-spec =
     (λ c. search needs)
     (λ c κs. search needs)
     loop-holds
-    row-of-requires
+    sub-row
     (λ c. search needs)
-    (λ c. search needs)
+    element-copy-out-waits
+    element-copy-out-put-pair
     put-pair-requires
     past-requires
     loop-less
