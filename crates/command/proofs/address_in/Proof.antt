@@ -6,9 +6,6 @@ use borrow.Author.Needs.{needs}
 use Rattle.command.proofs.address_in.Statement.{statement}
 use Rattle.command.proofs.address_in.Tie as tie
 
-address-bytes-requires : tie.Need-address-bytes-requires
-address-bytes-requires c κs = search needs
-
 high-first-requires : tie.Need-high-first-requires
 high-first-requires c κs = subst (λ (n : ℕ). n ≤ 8) (sym (c .address-bytes .ensures)) (address-few (c .before .before .args .r) (c .before .before .args .b .now) (c .before .before .pre))
 
@@ -16,4 +13,4 @@ returns : tie.Need-returns
 returns c = let a = c .before .before .before .args in c .high-first .ensures .0 ∙ ap (λ (n : ℕ). highFirst n (a .r .from) (a .b .now)) (c .before .address-bytes .ensures)
 
 pub address-in-spec : {M : Type 1} → statement M
-address-in-spec = tie.close (tie.spec address-bytes-requires high-first-requires returns)
+address-in-spec = tie.close (tie.spec (λ c κs. search needs) high-first-requires returns)

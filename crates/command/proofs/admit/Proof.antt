@@ -8,15 +8,6 @@ use borrow.Author.Needs.{needs}
 use Rattle.command.proofs.admit.Statement.{statement}
 use Rattle.command.proofs.admit.Tie as tie
 
-need-in-requires : tie.Need-need-in-requires
-need-in-requires c κs = search needs
-
-enum-known-need : tie.Need-enum-known-need
-enum-known-need c = search needs
-
-cast-if1 : tie.Need-cast-if1
-cast-if1 c = search needs
-
 returns : tie.Need-returns
 returns c =
     let a = c .before .before .before .before .before .before .args in
@@ -27,12 +18,6 @@ checked-as-requires c κs =
     let a = c .before .before .before .before .before .before .args in
     passes-ready (a .on) (a .b .now) (need-is (a .on) (a .b .now) _ (sym (c .before .before .before .before .need-in .ensures) ∙ c .before .before .need .given .1))
 
-enum-told : tie.Need-enum-told
-enum-told c = search needs
-
-enum-known-need-2 : tie.Need-enum-known-need-2
-enum-known-need-2 c = search needs
-
 returns-2 : tie.Need-returns-2
 returns-2 c =
     let a = c .before .before .before .before .before .before .args in
@@ -42,9 +27,6 @@ checked-as-requires-2 : tie.Need-checked-as-requires-2
 checked-as-requires-2 c κs =
     let a = c .before .before .before .before .before .before .args in
     passes-ready (a .on) (a .b .now) (need-is (a .on) (a .b .now) _ (sym (c .before .before .before .before .need-in .ensures) ∙ c .before .before .need2 .given .1))
-
-enum-known-need-3 : tie.Need-enum-known-need-3
-enum-known-need-3 c = search needs
 
 returns-3 : tie.Need-returns-3
 returns-3 c =
@@ -70,16 +52,16 @@ pub admit-spec : {M : Type 1} → statement M
 admit-spec =
     tie.close
     (tie.spec
-    need-in-requires
-    enum-known-need
-    cast-if1
+    (λ c κs. search needs)
+    (λ c. search needs)
+    (λ c. search needs)
     returns
     checked-as-requires
-    enum-told
-    enum-known-need-2
+    (λ c. search needs)
+    (λ c. search needs)
     returns-2
     checked-as-requires-2
-    enum-known-need-3
+    (λ c. search needs)
     returns-3
     returns-4
     returns-5

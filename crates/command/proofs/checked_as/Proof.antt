@@ -5,17 +5,11 @@ use borrow.Author.Needs.{needs}
 use Rattle.command.proofs.checked_as.Statement.{statement}
 use Rattle.command.proofs.checked_as.Tie as tie
 
-crc-wrong-requires : tie.Need-crc-wrong-requires
-crc-wrong-requires c κs = search needs
-
 returns : tie.Need-returns
 returns c = taken _ _ (sym (c .before .crc-wrong .ensures) ∙ c .if1 .taken) refl
-
-command-of-requires : tie.Need-command-of-requires
-command-of-requires c κs = search needs
 
 returns-2 : tie.Need-returns-2
 returns-2 c = passed _ _ (sym (c .before .before .crc-wrong .ensures) ∙ c .before .if1 .left) (ap Known (c .command-of .ensures))
 
 pub checked-as-spec : {M : Type 1} → statement M
-checked-as-spec = tie.close (tie.spec crc-wrong-requires returns command-of-requires returns-2)
+checked-as-spec = tie.close (tie.spec (λ c κs. search needs) returns (λ c κs. search needs) returns-2)

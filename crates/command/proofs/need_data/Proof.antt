@@ -3,51 +3,6 @@ use borrow.Author.Needs.{needs}
 use Rattle.command.proofs.need_data.Statement.{statement}
 use Rattle.command.proofs.need_data.Tie as tie
 
-enum-known-carries : tie.Need-enum-known-carries
-enum-known-carries c = search needs
-
-cast-whole-with : tie.Need-cast-whole-with
-cast-whole-with c = search needs
-
-whole-with-requires : tie.Need-whole-with-requires
-whole-with-requires c κs = search needs
-
-enum-told : tie.Need-enum-told
-enum-told c = search needs
-
-byte-at-requires : tie.Need-byte-at-requires
-byte-at-requires c κs = search needs
-
-byte-at-requires-2 : tie.Need-byte-at-requires-2
-byte-at-requires-2 c κs = search needs
-
-length-of-requires : tie.Need-length-of-requires
-length-of-requires c κs = search needs
-
-whole-with-requires-2 : tie.Need-whole-with-requires-2
-whole-with-requires-2 c κs = search needs
-
-enum-told-2 : tie.Need-enum-told-2
-enum-told-2 c = search needs
-
-byte-at-requires-3 : tie.Need-byte-at-requires-3
-byte-at-requires-3 c κs = search needs
-
-group-count-requires : tie.Need-group-count-requires
-group-count-requires c κs = search needs
-
-mul-whole-with : tie.Need-mul-whole-with
-mul-whole-with c = search needs
-
-whole-with-requires-3 : tie.Need-whole-with-requires-3
-whole-with-requires-3 c κs = search needs
-
-enum-told-3 : tie.Need-enum-told-3
-enum-told-3 c = search needs
-
-all-ff-requires : tie.Need-all-ff-requires
-all-ff-requires c κs = search needs
-
 returns : tie.Need-returns
 returns c = simp (c .before .before .enum-told3 .given .1, sym (c .before .all-ff .ensures) ∙ c .if1 .taken)
 
@@ -67,21 +22,21 @@ pub need-data-spec : {M : Type 1} → statement M
 need-data-spec =
     tie.close
     (tie.spec
-    enum-known-carries
-    cast-whole-with
-    whole-with-requires
-    enum-told
-    byte-at-requires
-    byte-at-requires-2
-    length-of-requires
-    whole-with-requires-2
-    enum-told-2
-    byte-at-requires-3
-    group-count-requires
-    mul-whole-with
-    whole-with-requires-3
-    enum-told-3
-    all-ff-requires
+    (λ c. search needs)
+    (λ c. search needs)
+    (λ c κs. search needs)
+    (λ c. search needs)
+    (λ c κs. search needs)
+    (λ c κs. search needs)
+    (λ c κs. search needs)
+    (λ c κs. search needs)
+    (λ c. search needs)
+    (λ c κs. search needs)
+    (λ c κs. search needs)
+    (λ c. search needs)
+    (λ c κs. search needs)
+    (λ c. search needs)
+    (λ c κs. search needs)
     returns
     returns-2
     returns-3

@@ -10,21 +10,6 @@ returns : tie.Need-returns
 unfolding needIn
 returns c = taken _ _ (eq-eqb _ _ (c .if1 .taken)) refl
 
-shared-slice-read-row-of : tie.Need-shared-slice-read-row-of
-shared-slice-read-row-of c = search needs
-
-row-of-requires : tie.Need-row-of-requires
-row-of-requires c κs = search needs
-
-enum-known-listed : tie.Need-enum-known-listed
-enum-known-listed c = search needs
-
-need-row-requires : tie.Need-need-row-requires
-need-row-requires c κs = search needs
-
-enum-told : tie.Need-enum-told
-enum-told c = search needs
-
 returns-2 : tie.Need-returns-2
 unfolding needIn
 returns-2 c =
@@ -42,10 +27,10 @@ need-in-spec =
     tie.close
     (tie.spec
     returns
-    shared-slice-read-row-of
-    row-of-requires
-    enum-known-listed
-    need-row-requires
-    enum-told
+    (λ c. search needs)
+    (λ c κs. search needs)
+    (λ c. search needs)
+    (λ c κs. search needs)
+    (λ c. search needs)
     returns-2
     returns-3)

@@ -13,35 +13,14 @@ denied e h = ap not (sym e) ∙ h
 both : {t b v : Bool} (u : Bool) → t ≡ b → not t && u ≡ v → not b && u ≡ v
 both u e h = ap (λ (x : Bool). not x && u) (sym e) ∙ h
 
-channel-on-requires : tie.Need-channel-on-requires
-channel-on-requires c κs = search needs
-
 returns : tie.Need-returns
 returns c = taken _ _ (denied (c .before .channel-on .ensures) (c .if1 .taken)) refl
-
-cycle-listed-requires : tie.Need-cycle-listed-requires
-cycle-listed-requires c κs = search needs
 
 returns-2 : tie.Need-returns-2
 returns-2 c = passed _ _ (denied (c .before .before .before .channel-on .ensures) (c .before .before .if1 .left)) (taken _ _ (both _ (c .before .cycle-listed .ensures) (c .if2 .taken)) refl)
 
-cast-if3 : tie.Need-cast-if3
-cast-if3 c = search needs
-
-cast-t11 : tie.Need-cast-t11
-cast-t11 c = search needs
-
-cast-t13 : tie.Need-cast-t13
-cast-t13 c = search needs
-
-sub-t14 : tie.Need-sub-t14
-sub-t14 c = search needs
-
 returns-3 : tie.Need-returns-3
 returns-3 c = passed _ _ (denied (c .before .before .before .before .before .before .channel-on .ensures) (c .before .before .before .before .before .if1 .left)) (passed _ _ (both _ (c .before .before .before .before .cycle-listed .ensures) (c .before .before .before .if2 .left)) (taken _ _ (lt-ltb _ _ (c .before .if3 .taken)) refl))
-
-need-data-requires : tie.Need-need-data-requires
-need-data-requires c κs = search needs
 
 returns-4 : tie.Need-returns-4
 returns-4 c = passed _ _ (denied (c .before .before .before .before .before .before .channel-on .ensures) (c .before .before .before .before .before .if1 .left)) (passed _ _ (both _ (c .before .before .before .before .cycle-listed .ensures) (c .before .before .before .if2 .left)) (passed _ _ (le-ltb _ _ (c .before .if3 .left)) (c .need-data .ensures)))
@@ -50,14 +29,14 @@ pub need-row-spec : {M : Type 1} → statement M
 need-row-spec =
     tie.close
     (tie.spec
-    channel-on-requires
+    (λ c κs. search needs)
     returns
-    cycle-listed-requires
+    (λ c κs. search needs)
     returns-2
-    cast-if3
-    cast-t11
-    cast-t13
-    sub-t14
+    (λ c. search needs)
+    (λ c. search needs)
+    (λ c. search needs)
+    (λ c. search needs)
     returns-3
-    need-data-requires
+    (λ c κs. search needs)
     returns-4)

@@ -6,39 +6,6 @@ use borrow.Author.Needs.{needs}
 use Rattle.command.proofs.row_of.Statement.{statement}
 use Rattle.command.proofs.row_of.Tie as tie
 
-headed-requires : tie.Need-headed-requires
-headed-requires c κs = search needs
-
-plain-requires : tie.Need-plain-requires
-plain-requires c κs = search needs
-
-headed-requires-2 : tie.Need-headed-requires-2
-headed-requires-2 c κs = search needs
-
-plain-requires-2 : tie.Need-plain-requires-2
-plain-requires-2 c κs = search needs
-
-plain-requires-3 : tie.Need-plain-requires-3
-plain-requires-3 c κs = search needs
-
-plain-requires-4 : tie.Need-plain-requires-4
-plain-requires-4 c κs = search needs
-
-plain-requires-5 : tie.Need-plain-requires-5
-plain-requires-5 c κs = search needs
-
-short-requires : tie.Need-short-requires
-short-requires c κs = search needs
-
-short-requires-2 : tie.Need-short-requires-2
-short-requires-2 c κs = search needs
-
-short-requires-3 : tie.Need-short-requires-3
-short-requires-3 c κs = search needs
-
-short-requires-4 : tie.Need-short-requires-4
-short-requires-4 c κs = search needs
-
 returns : tie.Need-returns
 returns c = simp (c .before .match .keys1, c .headed .ensures)
 
@@ -100,17 +67,17 @@ pub row-of-spec : {M : Type 1} → statement M
 row-of-spec =
     tie.close
     (tie.spec
-    headed-requires
-    plain-requires
-    headed-requires-2
-    plain-requires-2
-    plain-requires-3
-    plain-requires-4
-    plain-requires-5
-    short-requires
-    short-requires-2
-    short-requires-3
-    short-requires-4
+    (λ c κs. search needs)
+    (λ c κs. search needs)
+    (λ c κs. search needs)
+    (λ c κs. search needs)
+    (λ c κs. search needs)
+    (λ c κs. search needs)
+    (λ c κs. search needs)
+    (λ c κs. search needs)
+    (λ c κs. search needs)
+    (λ c κs. search needs)
+    (λ c κs. search needs)
     returns
     returns-2
     returns-3

@@ -6,17 +6,8 @@ use Rattle.command.proofs.short.Tie as tie
 returns : tie.Need-returns
 returns c = simp (eq-eqb _ _ (c .if1 .taken))
 
-size-of-code-requires : tie.Need-size-of-code-requires
-size-of-code-requires c κs = search needs
-
-plain-requires : tie.Need-plain-requires
-plain-requires c κs = search needs
-
 returns-2 : tie.Need-returns-2
 returns-2 c = simp (ne-eqb _ _ (c .before .before .before .if1 .left), c .before .if2 .taken, c .plain .ensures, c .before .before .size-of-code .ensures)
-
-plain-requires-2 : tie.Need-plain-requires-2
-plain-requires-2 c κs = search needs
 
 returns-3 : tie.Need-returns-3
 returns-3 c = simp (ne-eqb _ _ (c .before .before .before .if1 .left), c .before .if2 .left, c .plain2 .ensures, c .before .before .size-of-code .ensures)
@@ -24,4 +15,4 @@ returns-3 c = simp (ne-eqb _ _ (c .before .before .before .if1 .left), c .before
 pub short-spec : {M : Type 1} → statement M
 short-spec =
     tie.close
-    (tie.spec returns size-of-code-requires plain-requires returns-2 plain-requires-2 returns-3)
+    (tie.spec returns (λ c κs. search needs) (λ c κs. search needs) returns-2 (λ c κs. search needs) returns-3)

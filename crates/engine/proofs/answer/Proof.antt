@@ -10,18 +10,12 @@ use borrow.Author.Needs.{needs}
 use Rattle.engine.proofs.answer.Statement.{statement}
 use Rattle.engine.proofs.answer.Tie as tie
 
-answer-to-requires : tie.Need-answer-to-requires
-answer-to-requires c κs = search needs
-
 lift-peripheral-requires : tie.Need-lift-peripheral-requires
 unfolding P.settle
 lift-peripheral-requires c κs = let a = c .before .before .before .before .args in (c .before .before .before .before .pre, settle-stays peripheral (a .s) (P.answer (a .serial) (a .success) (now (a .bytes))) _ (c .before .answer-to .ensures))
-
-same-length : tie.Need-same-length
-same-length c = search needs
 
 returns : tie.Need-returns
 returns c = let a = c .before .before .before .before .before .before .before .args in c .before .before .lift-peripheral .ensures ∙ ap (λ (x : PeripheralChange). carriedBy (lift peripheral (a .s) x) (now (a .state))) (c .before .before .before .before .answer-to .ensures)
 
 pub answer-spec : {M : Type 1} → statement M
-answer-spec = tie.close (tie.spec answer-to-requires lift-peripheral-requires same-length returns)
+answer-spec = tie.close (tie.spec (λ c κs. search needs) lift-peripheral-requires (λ c. search needs) returns)

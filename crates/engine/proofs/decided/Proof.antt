@@ -19,18 +19,12 @@ use borrow.Author.Needs.{needs}
 use Rattle.engine.proofs.decided.Statement.{statement}
 use Rattle.engine.proofs.decided.Tie as tie
 
-enum-known-o : tie.Need-enum-known-o
-enum-known-o c = search needs
-
 decide-requires : tie.Need-decide-requires
 decide-requires c κs = let a = c .before .before .before .before .before .before .args in let p = c .before .before .before .before .before .before .pre in (sound-config (a .s) (p .0 .good), sound-request (a .s) (p .0 .good), subst (λ (z : Command). CommandFits z (now (a .b))) (c .before .o .given .1) (p .1))
 
 lift-peripheral-requires : tie.Need-lift-peripheral-requires
 unfolding P.decide W.decide
 lift-peripheral-requires c κs = let a = c .before .before .before .before .before .before .before .before .args in (c .before .before .before .before .before .before .before .before .pre .0, acting-stays peripheral (a .s) (P.actOf (a .s .config) (c .before .before .before .o .given .0 .0) (now (a .b))) _ (c .before .decide .ensures))
-
-enum-known-o-2 : tie.Need-enum-known-o-2
-enum-known-o-2 c = search needs
 
 decide-requires-2 : tie.Need-decide-requires-2
 decide-requires-2 c κs = let a = c .before .before .before .before .before .before .args in let p = c .before .before .before .before .before .before .pre in (sound-config (a .s) (p .0 .good), sound-wires (a .s) (p .0 .good), subst (λ (z : Command). CommandFits z (now (a .b))) (c .before .o2 .given .1) (p .1))
@@ -39,45 +33,9 @@ lift-wires-requires : tie.Need-lift-wires-requires
 unfolding P.decide W.decide
 lift-wires-requires c κs = let a = c .before .before .before .before .before .before .before .before .args in (c .before .before .before .before .before .before .before .before .pre .0, acting-stays wires (a .s) (W.actOf (c .before .before .before .o2 .given .0 .0) (now (a .b))) _ (c .before .decide2 .ensures))
 
-enum-known-o-3 : tie.Need-enum-known-o-3
-enum-known-o-3 c = search needs
-
-read-requires : tie.Need-read-requires
-read-requires c κs = search needs
-
-shown-requires : tie.Need-shown-requires
-shown-requires c κs = search needs
-
-enum-known-o-4 : tie.Need-enum-known-o-4
-enum-known-o-4 c = search needs
-
-set-requires : tie.Need-set-requires
-set-requires c κs = search needs
-
-enum-told : tie.Need-enum-told
-enum-told c = search needs
-
-shown-requires-2 : tie.Need-shown-requires-2
-shown-requires-2 c κs = search needs
-
-enum-told-2 : tie.Need-enum-told-2
-enum-told-2 c = search needs
-
-reset-008-requires : tie.Need-reset-008-requires
-reset-008-requires c κs = search needs
-
-silently-requires : tie.Need-silently-requires
-silently-requires c κs = search needs
-
-same-length : tie.Need-same-length
-same-length c = search needs
-
 returns : tie.Need-returns
 unfolding decide P.decide W.decide
 returns c = let a = c .before .before .before .before .before .before .before .before .before .before .before .args in c .before .before .lift-peripheral .ensures ∙ ap (λ (x : PeripheralChange). carriedBy (lift peripheral (a .s) x) (now (a .state))) (c .before .before .before .before .decide .ensures) ∙ ap (λ (z : Command). carriedBy (decide (a .s) z (now (a .b))) (now (a .state))) (sym (c .before .before .before .before .before .before .o .given .1))
-
-same-length-2 : tie.Need-same-length-2
-same-length-2 c = search needs
 
 returns-2 : tie.Need-returns-2
 unfolding decide P.decide W.decide
@@ -87,9 +45,6 @@ returns-3 : tie.Need-returns-3
 unfolding decide P.decide W.decide
 returns-3 c = let a = c .before .before .before .before .before .before .before .before .args in shown-decided (a .s) (now (a .b)) (now (a .state)) (a .o) _ _ (c .before .before .before .before .before .before .before .before .pre .0) (ap (λ (z : Command). decide (a .s) z (now (a .b))) (c .before .before .before .o3 .given .1) ∙ ap (λ (z : ℕ). show (B.Word z) (a .s)) (sym (c .before .read .ensures))) (c .shown .ensures)
 
-same-length-3 : tie.Need-same-length-3
-same-length-3 c = search needs
-
 returns-4 : tie.Need-returns-4
 unfolding decide P.decide W.decide
 returns-4 c = let a = c .before .before .before .before .before .before .before .before .before .before .args in c .before .before .set .ensures ∙ ap (λ (z : Command). carriedBy (decide (a .s) z (now (a .b))) (now (a .state))) (sym (c .before .before .before .before .before .o4 .given .1))
@@ -97,9 +52,6 @@ returns-4 c = let a = c .before .before .before .before .before .before .before 
 returns-5 : tie.Need-returns-5
 unfolding decide P.decide W.decide
 returns-5 c = let a = c .before .before .before .before .before .before .args in shown-decided (a .s) (now (a .b)) (now (a .state)) (a .o) _ _ (c .before .before .before .before .before .before .pre .0) (ap (λ (z : Command). decide (a .s) z (now (a .b))) (c .before .enum-told .given .1)) (c .shown2 .ensures)
-
-same-length-4 : tie.Need-same-length-4
-same-length-4 c = search needs
 
 returns-6 : tie.Need-returns-6
 unfolding decide P.decide W.decide
@@ -109,29 +61,29 @@ pub decided-spec : {M : Type 1} → statement M
 decided-spec =
     tie.close
     (tie.spec
-    enum-known-o
+    (λ c. search needs)
     decide-requires
     lift-peripheral-requires
-    enum-known-o-2
+    (λ c. search needs)
     decide-requires-2
     lift-wires-requires
-    enum-known-o-3
-    read-requires
-    shown-requires
-    enum-known-o-4
-    set-requires
-    enum-told
-    shown-requires-2
-    enum-told-2
-    reset-008-requires
-    silently-requires
-    same-length
+    (λ c. search needs)
+    (λ c κs. search needs)
+    (λ c κs. search needs)
+    (λ c. search needs)
+    (λ c κs. search needs)
+    (λ c. search needs)
+    (λ c κs. search needs)
+    (λ c. search needs)
+    (λ c κs. search needs)
+    (λ c κs. search needs)
+    (λ c. search needs)
     returns
-    same-length-2
+    (λ c. search needs)
     returns-2
     returns-3
-    same-length-3
+    (λ c. search needs)
     returns-4
     returns-5
-    same-length-4
+    (λ c. search needs)
     returns-6)

@@ -6,18 +6,9 @@ use borrow.Author.Needs.{needs}
 use Rattle.engine.proofs.lift_wires.Statement.{statement}
 use Rattle.engine.proofs.lift_wires.Tie as tie
 
-store-requires : tie.Need-store-requires
-store-requires c κs = search needs
-
-reply-with-requires : tie.Need-reply-with-requires
-reply-with-requires c κs = search needs
-
-same-length : tie.Need-same-length
-same-length c = search needs
-
 returns : tie.Need-returns
 unfolding status
 returns c = let a = c .before .before .before .before .before .before .before .before .args in lift-carried wires (a .s) (a .x) (now (a .state)) (c .before .before .before .before .before .before .before .before .pre .0) (c .before .before .before .before .before .before .before .before .pre .1) _ _ (c .before .before .before .store .ensures) (c .reply-with .ensures)
 
 pub lift-wires-spec : {M : Type 1} → statement M
-lift-wires-spec = tie.close (tie.spec store-requires reply-with-requires same-length returns)
+lift-wires-spec = tie.close (tie.spec (λ c κs. search needs) (λ c κs. search needs) (λ c. search needs) returns)

@@ -4,18 +4,6 @@ use borrow.Author.Needs.{needs}
 use Rattle.engine.proofs.refused.Statement.{statement}
 use Rattle.engine.proofs.refused.Tie as tie
 
-enum-told : tie.Need-enum-told
-enum-told c = search needs
-
-silently-requires : tie.Need-silently-requires
-silently-requires c κs = search needs
-
-enum-known-d : tie.Need-enum-known-d
-enum-known-d c = search needs
-
-silently-requires-2 : tie.Need-silently-requires-2
-silently-requires-2 c κs = search needs
-
 returns : tie.Need-returns
 returns c = c .silently .ensures ∙ ap refusedBy (sym (c .before .enum-told .given .1))
 
@@ -25,4 +13,4 @@ returns-2 c = c .silently2 .ensures ∙ ap refusedBy (sym (c .before .before .d 
 pub refused-spec : {M : Type 1} → statement M
 refused-spec =
     tie.close
-    (tie.spec enum-told silently-requires enum-known-d silently-requires-2 returns returns-2)
+    (tie.spec (λ c. search needs) (λ c κs. search needs) (λ c. search needs) (λ c κs. search needs) returns returns-2)

@@ -10,18 +10,12 @@ use borrow.Author.Needs.{needs}
 use Rattle.engine.proofs.set_wire.Statement.{statement}
 use Rattle.engine.proofs.set_wire.Tie as tie
 
-setting-requires : tie.Need-setting-requires
-setting-requires c κs = search needs
-
 lift-wires-requires : tie.Need-lift-wires-requires
 unfolding W.settle
 lift-wires-requires c κs = let a = c .before .before .before .args in (c .before .before .before .pre, settle-stays wires (a .s) (W.setWire (a .index) (a .bit) (a .value)) _ (c .before .setting .ensures))
-
-same-length : tie.Need-same-length
-same-length c = search needs
 
 returns : tie.Need-returns
 returns c = let a = c .before .before .before .before .before .before .args in c .before .before .lift-wires .ensures ∙ ap (λ (x : WiresChange). carriedBy (lift wires (a .s) x) (now (a .state))) (c .before .before .before .before .setting .ensures)
 
 pub set-wire-spec : {M : Type 1} → statement M
-set-wire-spec = tie.close (tie.spec setting-requires lift-wires-requires same-length returns)
+set-wire-spec = tie.close (tie.spec (λ c κs. search needs) lift-wires-requires (λ c. search needs) returns)

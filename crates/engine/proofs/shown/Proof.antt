@@ -2,11 +2,8 @@ use borrow.Author.Needs.{needs}
 use Rattle.engine.proofs.shown.Statement.{statement}
 use Rattle.engine.proofs.shown.Tie as tie
 
-status-requires : tie.Need-status-requires
-status-requires c κs = search needs
-
 returns : tie.Need-returns
 returns c = rw (c .status .ensures)
 
 pub shown-spec : {M : Type 1} → statement M
-shown-spec = tie.close (tie.spec status-requires returns)
+shown-spec = tie.close (tie.spec (λ c κs. search needs) returns)

@@ -11,18 +11,12 @@ use borrow.Author.Needs.{needs}
 use Rattle.engine.proofs.take_write.Statement.{statement}
 use Rattle.engine.proofs.take_write.Tie as tie
 
-taken-requires : tie.Need-taken-requires
-taken-requires c κs = search needs
-
 lift-peripheral-requires : tie.Need-lift-peripheral-requires
 unfolding P.settle
 lift-peripheral-requires c κs = let a = c .before .before .before .args in (c .before .before .before .pre, settle-stays peripheral (a .s) (P.takeWrite []) _ (c .before .taken .ensures))
-
-same-length : tie.Need-same-length
-same-length c = search needs
 
 returns : tie.Need-returns
 returns c = let a = c .before .before .before .before .before .before .args in c .before .before .lift-peripheral .ensures ∙ ap (λ (x : PeripheralChange). carriedBy (lift peripheral (a .s) x) (now (a .state))) (c .before .before .before .before .taken .ensures)
 
 pub take-write-spec : {M : Type 1} → statement M
-take-write-spec = tie.close (tie.spec taken-requires lift-peripheral-requires same-length returns)
+take-write-spec = tie.close (tie.spec (λ c κs. search needs) lift-peripheral-requires (λ c. search needs) returns)

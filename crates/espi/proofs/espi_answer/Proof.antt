@@ -22,12 +22,6 @@ returns-2 : tie.Need-returns-2
 unfolding answerCall settle
 returns-2 c = passed _ _ (le-ltb _ _ (c .before .if1 .left)) (taken _ _ (lt-ltb _ _ (c .if2 .taken)) refl)
 
-load-requires : tie.Need-load-requires
-load-requires c κs = search needs
-
-same-length : tie.Need-same-length
-same-length c = search needs
-
 returns-3 : tie.Need-returns-3
 unfolding answerCall settle
 returns-3 c = passed _ _ (le-ltb _ _ (c .before .before .before .before .before .if1 .left)) (passed _ _ (le-ltb _ _ (c .before .before .before .before .if2 .left)) (taken _ _ (ok-is _ (c .before .before .load .result) (c .before .before .load .ensures) (c .if3 .taken)) refl))
@@ -37,15 +31,6 @@ answer-requires c κs = loaded-packs (now (c .before .before .before .before .be
 
 keep-requires : tie.Need-keep-requires
 keep-requires c κs = let a = c .before .before .before .before .before .before .before .before .before .before .before .before .before .before .before .args in kept-wider (c .before .before .before .answer .result .kept) (length (now (a .bytes))) 4096 (length (now (a .read-store))) (omega arith) (answer-fits (c .before .before .before .before .before .before .before .before .load .result .state) (a .serial) (a .success) (now (a .state)) _ (now (a .bytes)) (c .before .before .before .answer .result) (loaded-sound (now (a .state)) (c .before .before .before .before .before .before .before .before .load .result) (c .before .before .before .before .before .before .before .before .load .ensures) (c .before .before .before .before .before .before .if3 .left)) (c .before .before .before .answer .ensures))
-
-cast-result : tie.Need-cast-result
-cast-result c = search needs
-
-same-length-2 : tie.Need-same-length-2
-same-length-2 c = search needs
-
-same-length-3 : tie.Need-same-length-3
-same-length-3 c = search needs
 
 returns-4 : tie.Need-returns-4
 unfolding answerCall settle
@@ -57,12 +42,12 @@ espi-answer-spec =
     (tie.spec
     returns
     returns-2
-    load-requires
-    same-length
+    (λ c κs. search needs)
+    (λ c. search needs)
     returns-3
     answer-requires
     keep-requires
-    cast-result
-    same-length-2
-    same-length-3
+    (λ c. search needs)
+    (λ c. search needs)
+    (λ c. search needs)
     returns-4)

@@ -25,12 +25,6 @@ returns-4 : tie.Need-returns-4
 unfolding exchangeCall
 returns-4 c = passed _ _ (le-ltb _ _ (c .before .before .before .if1 .left)) (passed _ _ (le-ltb _ _ (c .before .before .if2 .left)) (passed _ _ (le-ltb _ _ (c .before .if3 .left)) (taken _ _ (lt-ltb _ _ (c .if4 .taken)) refl)))
 
-load-requires : tie.Need-load-requires
-load-requires c κs = search needs
-
-same-length : tie.Need-same-length
-same-length c = search needs
-
 returns-5 : tie.Need-returns-5
 unfolding exchangeCall
 returns-5 c = passed _ _ (le-ltb _ _ (c .before .before .before .before .before .before .before .if1 .left)) (passed _ _ (le-ltb _ _ (c .before .before .before .before .before .before .if2 .left)) (passed _ _ (le-ltb _ _ (c .before .before .before .before .before .if3 .left)) (passed _ _ (le-ltb _ _ (c .before .before .before .before .if4 .left)) (taken _ _ (ok-is _ (c .before .before .load .result) (c .before .before .load .ensures) (c .if5 .taken)) refl))))
@@ -40,15 +34,6 @@ exchange-requires c κs = loaded-packs (now (c .before .before .before .before .
 
 commit-requires : tie.Need-commit-requires
 commit-requires c κs = let a = c .before .before .before .before .before .before .before .before .before .before .before .before .before .before .before .before .before .before .before .before .args in let f = exchange-fits (c .before .before .before .before .before .before .before .before .before .load .result .state) (now (a .state)) _ (now (a .command)) _ (loaded-sound (now (a .state)) (c .before .before .before .before .before .before .before .before .before .load .result) (c .before .before .before .before .before .before .before .before .before .load .ensures) (c .before .before .before .before .before .before .before .if5 .left)) (c .before .before .before .before .exchange .ensures) in (omega arith, omega arith, omega arith, f .0, f .1)
-
-same-length-2 : tie.Need-same-length-2
-same-length-2 c = search needs
-
-same-length-3 : tie.Need-same-length-3
-same-length-3 c = search needs
-
-same-length-4 : tie.Need-same-length-4
-same-length-4 c = search needs
 
 returns-6 : tie.Need-returns-6
 unfolding exchangeCall
@@ -62,12 +47,12 @@ espi-exchange-spec =
     returns-2
     returns-3
     returns-4
-    load-requires
-    same-length
+    (λ c κs. search needs)
+    (λ c. search needs)
     returns-5
     exchange-requires
     commit-requires
-    same-length-2
-    same-length-3
-    same-length-4
+    (λ c. search needs)
+    (λ c. search needs)
+    (λ c. search needs)
     returns-6)

@@ -18,34 +18,13 @@ returns-2 : tie.Need-returns-2
 unfolding lookCall
 returns-2 c = passed _ _ (le-ltb _ _ (c .before .if1 .left)) (taken _ _ (lt-ltb _ _ (c .if2 .taken)) refl)
 
-load-requires : tie.Need-load-requires
-load-requires c κs = search needs
-
 returns-3 : tie.Need-returns-3
 unfolding lookCall
 returns-3 c = passed _ _ (le-ltb _ _ (c .before .before .before .before .if1 .left)) (passed _ _ (le-ltb _ _ (c .before .before .before .if2 .left)) (taken _ _ (ok-is _ (c .before .before .load .result) (c .before .before .load .ensures) (c .if3 .taken)) refl))
 
-enum-told : tie.Need-enum-told
-enum-told c = search needs
-
-enum-known-n : tie.Need-enum-known-n
-enum-known-n c = search needs
-
-put-request-requires : tie.Need-put-request-requires
-put-request-requires c κs = search needs
-
-enum-told-2 : tie.Need-enum-told-2
-enum-told-2 c = search needs
-
-enum-told-3 : tie.Need-enum-told-3
-enum-told-3 c = search needs
-
 returns-4 : tie.Need-returns-4
 unfolding lookCall
 returns-4 c = passed _ _ (le-ltb _ _ (c .before .before .before .before .before .before .before .before .if1 .left)) (passed _ _ (le-ltb _ _ (c .before .before .before .before .before .before .before .if2 .left)) (passed _ _ (ok-is _ (c .before .before .before .before .before .before .load .result) (c .before .before .before .before .before .before .load .ensures) (c .before .before .before .before .if3 .left)) (looked-by (now (c .before .before .before .before .before .before .before .before .before .before .before .args .state)) (c .before .before .before .before .before .before .load .result) (c .before .before .before .before .before .before .load .ensures) _ 23 _ _ (c .enum-told .given .1) refl (sym (over-none _)))))
-
-same-length : tie.Need-same-length
-same-length c = search needs
 
 returns-5 : tie.Need-returns-5
 unfolding lookCall
@@ -65,15 +44,15 @@ espi-look-spec =
     (tie.spec
     returns
     returns-2
-    load-requires
+    (λ c κs. search needs)
     returns-3
-    enum-told
-    enum-known-n
-    put-request-requires
-    enum-told-2
-    enum-told-3
+    (λ c. search needs)
+    (λ c. search needs)
+    (λ c κs. search needs)
+    (λ c. search needs)
+    (λ c. search needs)
     returns-4
-    same-length
+    (λ c. search needs)
     returns-5
     returns-6
     returns-7)

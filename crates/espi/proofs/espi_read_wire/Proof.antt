@@ -15,15 +15,9 @@ returns : tie.Need-returns
 unfolding readWireCall
 returns c = taken _ _ (lt-ltb _ _ (c .if1 .taken)) refl
 
-load-requires : tie.Need-load-requires
-load-requires c κs = search needs
-
 returns-2 : tie.Need-returns-2
 unfolding readWireCall
 returns-2 c = passed _ _ (le-ltb _ _ (c .before .before .before .if1 .left)) (taken _ _ (ok-is _ (c .before .before .load .result) (c .before .before .load .ensures) (c .if2 .taken)) refl)
-
-defined-bit-requires : tie.Need-defined-bit-requires
-defined-bit-requires c κs = search needs
 
 returns-3 : tie.Need-returns-3
 unfolding readWireCall
@@ -31,9 +25,6 @@ returns-3 c = let a = c .before .before .before .before .before .before .before 
 
 read-requires : tie.Need-read-requires
 read-requires c κs = sym (c .before .before .before .defined-bit .ensures) ∙ not-false _ (c .before .before .if3 .left)
-
-mul-result : tie.Need-mul-result
-mul-result c = search needs
 
 returns-4 : tie.Need-returns-4
 unfolding readWireCall
@@ -44,10 +35,10 @@ espi-read-wire-spec =
     tie.close
     (tie.spec
     returns
-    load-requires
+    (λ c κs. search needs)
     returns-2
-    defined-bit-requires
+    (λ c κs. search needs)
     returns-3
     read-requires
-    mul-result
+    (λ c. search needs)
     returns-4)

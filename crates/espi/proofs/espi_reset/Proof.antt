@@ -14,24 +14,9 @@ returns : tie.Need-returns
 unfolding espiResetCall resetCall
 returns c = taken _ _ (lt-ltb _ _ (c .if1 .taken)) refl
 
-load-requires : tie.Need-load-requires
-load-requires c κs = search needs
-
-same-length : tie.Need-same-length
-same-length c = search needs
-
 returns-2 : tie.Need-returns-2
 unfolding espiResetCall resetCall
 returns-2 c = passed _ _ (le-ltb _ _ (c .before .before .before .before .if1 .left)) (taken _ _ (ok-is _ (c .before .before .load .result) (c .before .before .load .ensures) (c .if2 .taken)) refl)
-
-espi-reset-requires : tie.Need-espi-reset-requires
-espi-reset-requires c κs = search needs
-
-pack-requires : tie.Need-pack-requires
-pack-requires c κs = search needs
-
-same-length-2 : tie.Need-same-length-2
-same-length-2 c = search needs
 
 returns-3 : tie.Need-returns-3
 unfolding espiResetCall resetCall
@@ -42,10 +27,10 @@ espi-reset-spec =
     tie.close
     (tie.spec
     returns
-    load-requires
-    same-length
+    (λ c κs. search needs)
+    (λ c. search needs)
     returns-2
-    espi-reset-requires
-    pack-requires
-    same-length-2
+    (λ c κs. search needs)
+    (λ c κs. search needs)
+    (λ c. search needs)
     returns-3)

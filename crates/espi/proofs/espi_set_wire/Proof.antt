@@ -17,24 +17,12 @@ returns : tie.Need-returns
 unfolding setWireCall W.settle
 returns c = taken _ _ (lt-ltb _ _ (c .if1 .taken)) refl
 
-load-requires : tie.Need-load-requires
-load-requires c κs = search needs
-
-same-length : tie.Need-same-length
-same-length c = search needs
-
 returns-2 : tie.Need-returns-2
 unfolding setWireCall W.settle
 returns-2 c = passed _ _ (le-ltb _ _ (c .before .before .before .before .if1 .left)) (taken _ _ (ok-is _ (c .before .before .load .result) (c .before .before .load .ensures) (c .if2 .taken)) refl)
 
 set-wire-requires : tie.Need-set-wire-requires
 set-wire-requires c κs = loaded-packs (now (c .before .before .before .before .before .before .before .before .args .state)) (c .before .before .before .before .load .result) (c .before .before .before .before .load .ensures) (omega arith) (c .before .before .if2 .left)
-
-cast-result : tie.Need-cast-result
-cast-result c = search needs
-
-same-length-2 : tie.Need-same-length-2
-same-length-2 c = search needs
 
 returns-3 : tie.Need-returns-3
 unfolding setWireCall W.settle
@@ -45,10 +33,10 @@ espi-set-wire-spec =
     tie.close
     (tie.spec
     returns
-    load-requires
-    same-length
+    (λ c κs. search needs)
+    (λ c. search needs)
     returns-2
     set-wire-requires
-    cast-result
-    same-length-2
+    (λ c. search needs)
+    (λ c. search needs)
     returns-3)

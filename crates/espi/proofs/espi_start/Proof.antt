@@ -12,18 +12,9 @@ returns : tie.Need-returns
 unfolding startCall
 returns c = taken _ _ (lt-ltb _ _ (c .if1 .taken)) refl
 
-fresh-requires : tie.Need-fresh-requires
-fresh-requires c κs = search needs
-
-pack-requires : tie.Need-pack-requires
-pack-requires c κs = search needs
-
-same-length : tie.Need-same-length
-same-length c = search needs
-
 returns-2 : tie.Need-returns-2
 unfolding startCall
 returns-2 c = passed _ _ (le-ltb _ _ (c .before .before .before .before .before .if1 .left)) (ap (done 0) (c .before .before .pack .ensures ∙ ap (λ (z : State). kept z (now (c .before .before .before .before .before .before .before .args .state))) (c .before .before .before .before .fresh .ensures)))
 
 pub espi-start-spec : {M : Type 1} → statement M
-espi-start-spec = tie.close (tie.spec returns fresh-requires pack-requires same-length returns-2)
+espi-start-spec = tie.close (tie.spec returns (λ c κs. search needs) (λ c κs. search needs) (λ c. search needs) returns-2)

@@ -25,30 +25,12 @@ returns-3 : tie.Need-returns-3
 unfolding takeWriteCall P.settle
 returns-3 c = passed _ _ (le-ltb _ _ (c .before .before .if1 .left)) (passed _ _ (le-ltb _ _ (c .before .if2 .left)) (taken _ _ (lt-ltb _ _ (c .if3 .taken)) refl))
 
-load-requires : tie.Need-load-requires
-load-requires c κs = search needs
-
-same-length : tie.Need-same-length
-same-length c = search needs
-
 returns-4 : tie.Need-returns-4
 unfolding takeWriteCall P.settle
 returns-4 c = passed _ _ (le-ltb _ _ (c .before .before .before .before .before .before .if1 .left)) (passed _ _ (le-ltb _ _ (c .before .before .before .before .before .if2 .left)) (passed _ _ (le-ltb _ _ (c .before .before .before .before .if3 .left)) (taken _ _ (ok-is _ (c .before .before .load .result) (c .before .before .load .ensures) (c .if4 .taken)) refl)))
 
 take-write-requires : tie.Need-take-write-requires
 take-write-requires c κs = loaded-packs (now (c .before .before .before .before .before .before .before .before .before .before .before .before .before .args .state)) (c .before .before .before .before .before .load .result) (c .before .before .before .before .before .load .ensures) (omega arith) (c .before .before .before .if4 .left)
-
-put-write-requires : tie.Need-put-write-requires
-put-write-requires c κs = search needs
-
-cast-result : tie.Need-cast-result
-cast-result c = search needs
-
-same-length-2 : tie.Need-same-length-2
-same-length-2 c = search needs
-
-same-length-3 : tie.Need-same-length-3
-same-length-3 c = search needs
 
 returns-5 : tie.Need-returns-5
 unfolding takeWriteCall P.settle
@@ -61,12 +43,12 @@ espi-take-write-spec =
     returns
     returns-2
     returns-3
-    load-requires
-    same-length
+    (λ c κs. search needs)
+    (λ c. search needs)
     returns-4
     take-write-requires
-    put-write-requires
-    cast-result
-    same-length-2
-    same-length-3
+    (λ c κs. search needs)
+    (λ c. search needs)
+    (λ c. search needs)
+    (λ c. search needs)
     returns-5)

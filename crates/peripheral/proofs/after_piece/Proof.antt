@@ -5,9 +5,6 @@ use borrow.Author.Needs.{needs}
 use Rattle.peripheral.proofs.after_piece.Statement.{statement}
 use Rattle.peripheral.proofs.after_piece.Tie as tie
 
-next-size-requires : tie.Need-next-size-requires
-next-size-requires c κs = search needs
-
 add-gone : tie.Need-add-gone
 add-gone c = let a = c .before .args in record { fits = omega (arith, c .next-size .ensures, next-le (a .q .address) (a .q .length) (a .q .payload) (a .sent) (c .before .pre .0)) }
 
@@ -18,4 +15,4 @@ returns-2 : tie.Need-returns-2
 returns-2 c = piece-more (c .before .before .before .args .q) (c .before .before .before .args .sent) _ (c .before .before .next-size .ensures) (c .if1 .left)
 
 pub after-piece-spec : {M : Type 1} → statement M
-after-piece-spec = tie.close (tie.spec next-size-requires add-gone returns returns-2)
+after-piece-spec = tie.close (tie.spec (λ c κs. search needs) add-gone returns returns-2)

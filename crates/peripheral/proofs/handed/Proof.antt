@@ -5,20 +5,8 @@ use borrow.Author.Needs.{needs}
 use Rattle.peripheral.proofs.handed.Statement.{statement}
 use Rattle.peripheral.proofs.handed.Tie as tie
 
-enum-told : tie.Need-enum-told
-enum-told c = search needs
-
-enum-told-2 : tie.Need-enum-told-2
-enum-told-2 c = search needs
-
-enum-known-n : tie.Need-enum-known-n
-enum-known-n c = search needs
-
 after-success-requires : tie.Need-after-success-requires
 after-success-requires c κs = piece-facts (c .before .before .before .args .n) (c .before .n .given .0 .0) (c .before .n .given .0 .1 .0) (c .before .before .before .pre) (c .before .n .given .1)
-
-enum-told-3 : tie.Need-enum-told-3
-enum-told-3 c = search needs
 
 returns : tie.Need-returns
 unfolding handed
@@ -40,11 +28,11 @@ pub handed-spec : {M : Type 1} → statement M
 handed-spec =
     tie.close
     (tie.spec
-    enum-told
-    enum-told-2
-    enum-known-n
+    (λ c. search needs)
+    (λ c. search needs)
+    (λ c. search needs)
     after-success-requires
-    enum-told-3
+    (λ c. search needs)
     returns
     returns-2
     returns-3

@@ -4,14 +4,8 @@ use borrow.Author.Needs.{needs}
 use Rattle.peripheral.proofs.io_write_made.Statement.{statement}
 use Rattle.peripheral.proofs.io_write_made.Tie as tie
 
-io-made-requires : tie.Need-io-made-requires
-io-made-requires c κs = search needs
-
 returns : tie.Need-returns
 returns c = stops _ (refused (c .before .io-made .ensures) (c .if1 .taken))
-
-within-requires : tie.Need-within-requires
-within-requires c κs = search needs
 
 bytes-fit-requires : tie.Need-bytes-fit-requires
 bytes-fit-requires c κs = io-short (c .before .before .before .args .q) (admitted (c .before .before .io-made .ensures) (c .before .if1 .left))
@@ -21,4 +15,4 @@ returns-2 c = rw (c .before .within .ensures, c .bytes-fit .ensures) (goes-on _ 
 
 pub io-write-made-spec : {M : Type 1} → statement M
 io-write-made-spec =
-    tie.close (tie.spec io-made-requires returns within-requires bytes-fit-requires returns-2)
+    tie.close (tie.spec (λ c κs. search needs) returns (λ c κs. search needs) bytes-fit-requires returns-2)

@@ -5,24 +5,6 @@ use borrow.Author.Needs.{needs}
 use Rattle.peripheral.proofs.made_as.Statement.{statement}
 use Rattle.peripheral.proofs.made_as.Tie as tie
 
-enum-told : tie.Need-enum-told
-enum-told c = search needs
-
-memory-read-made-requires : tie.Need-memory-read-made-requires
-memory-read-made-requires c κs = search needs
-
-enum-told-2 : tie.Need-enum-told-2
-enum-told-2 c = search needs
-
-io-read-made-requires : tie.Need-io-read-made-requires
-io-read-made-requires c κs = search needs
-
-enum-told-3 : tie.Need-enum-told-3
-enum-told-3 c = search needs
-
-io-write-made-requires : tie.Need-io-write-made-requires
-io-write-made-requires c κs = search needs
-
 returns : tie.Need-returns
 returns c = c .memory-read-made .ensures ∙ ap (λ (k : Kind). madeAs k (c .before .before .before .args .q)) (sym (c .before .enum-told .given .1))
 
@@ -36,12 +18,12 @@ pub made-as-spec : {M : Type 1} → statement M
 made-as-spec =
     tie.close
     (tie.spec
-    enum-told
-    memory-read-made-requires
-    enum-told-2
-    io-read-made-requires
-    enum-told-3
-    io-write-made-requires
+    (λ c. search needs)
+    (λ c κs. search needs)
+    (λ c. search needs)
+    (λ c κs. search needs)
+    (λ c. search needs)
+    (λ c κs. search needs)
     returns
     returns-2
     returns-3)

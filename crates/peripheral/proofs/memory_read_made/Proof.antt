@@ -2,11 +2,8 @@ use borrow.Author.Needs.{needs}
 use Rattle.peripheral.proofs.memory_read_made.Statement.{statement}
 use Rattle.peripheral.proofs.memory_read_made.Tie as tie
 
-within-requires : tie.Need-within-requires
-within-requires c κs = search needs
-
 returns : tie.Need-returns
 returns c = cc
 
 pub memory-read-made-spec : {M : Type 1} → statement M
-memory-read-made-spec = tie.close (tie.spec within-requires returns)
+memory-read-made-spec = tie.close (tie.spec (λ c κs. search needs) returns)

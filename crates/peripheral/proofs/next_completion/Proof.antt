@@ -8,23 +8,8 @@ use borrow.Author.Needs.{needs}
 use Rattle.peripheral.proofs.next_completion.Statement.{statement}
 use Rattle.peripheral.proofs.next_completion.Tie as tie
 
-enum-told : tie.Need-enum-told
-enum-told c = search needs
-
-enum-told-2 : tie.Need-enum-told-2
-enum-told-2 c = search needs
-
-enum-known-n : tie.Need-enum-known-n
-enum-known-n c = search needs
-
 success-of-requires : tie.Need-success-of-requires
 success-of-requires c κs = piece-facts (c .before .before .before .args .n) (c .before .n .given .0 .0) (c .before .n .given .0 .1 .0) (c .before .before .before .pre) (c .before .n .given .1)
-
-enum-known-n-2 : tie.Need-enum-known-n-2
-enum-known-n-2 c = search needs
-
-bare-requires : tie.Need-bare-requires
-bare-requires c κs = search needs
 
 returns : tie.Need-returns
 unfolding upward
@@ -46,12 +31,12 @@ pub next-completion-spec : {M : Type 1} → statement M
 next-completion-spec =
     tie.close
     (tie.spec
-    enum-told
-    enum-told-2
-    enum-known-n
+    (λ c. search needs)
+    (λ c. search needs)
+    (λ c. search needs)
     success-of-requires
-    enum-known-n-2
-    bare-requires
+    (λ c. search needs)
+    (λ c κs. search needs)
     returns
     returns-2
     returns-3

@@ -5,21 +5,6 @@ use borrow.Author.Needs.{needs}
 use Rattle.peripheral.proofs.np_in.Statement.{statement}
 use Rattle.peripheral.proofs.np_in.Tie as tie
 
-shared-slice-read-n : tie.Need-shared-slice-read-n
-shared-slice-read-n c = search needs
-
-request-in-requires : tie.Need-request-in-requires
-request-in-requires c κs = search needs
-
-request-in-requires-2 : tie.Need-request-in-requires-2
-request-in-requires-2 c κs = search needs
-
-get4-requires : tie.Need-get4-requires
-get4-requires c κs = search needs
-
-request-in-requires-3 : tie.Need-request-in-requires-3
-request-in-requires-3 c κs = search needs
-
 returns : tie.Need-returns
 returns c = simp (c .match .keys1)
 
@@ -38,11 +23,11 @@ pub np-in-spec : {M : Type 1} → statement M
 np-in-spec =
     tie.close
     (tie.spec
-    shared-slice-read-n
-    request-in-requires
-    request-in-requires-2
-    get4-requires
-    request-in-requires-3
+    (λ c. search needs)
+    (λ c κs. search needs)
+    (λ c κs. search needs)
+    (λ c κs. search needs)
+    (λ c κs. search needs)
     returns
     returns-2
     returns-3

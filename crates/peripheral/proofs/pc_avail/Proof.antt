@@ -3,18 +3,6 @@ use borrow.Author.Needs.{needs}
 use Rattle.peripheral.proofs.pc_avail.Statement.{statement}
 use Rattle.peripheral.proofs.pc_avail.Tie as tie
 
-enum-told : tie.Need-enum-told
-enum-told c = search needs
-
-enum-told-2 : tie.Need-enum-told-2
-enum-told-2 c = search needs
-
-enum-told-3 : tie.Need-enum-told-3
-enum-told-3 c = search needs
-
-enum-told-4 : tie.Need-enum-told-4
-enum-told-4 c = search needs
-
 returns : tie.Need-returns
 unfolding upward
 returns c = cc
@@ -34,4 +22,4 @@ returns-4 c = cc
 pub pc-avail-spec : {M : Type 1} → statement M
 pc-avail-spec =
     tie.close
-    (tie.spec enum-told enum-told-2 enum-told-3 enum-told-4 returns returns-2 returns-3 returns-4)
+    (tie.spec (λ c. search needs) (λ c. search needs) (λ c. search needs) (λ c. search needs) returns returns-2 returns-3 returns-4)

@@ -7,9 +7,6 @@ use borrow.Author.Needs.{needs}
 use Rattle.peripheral.proofs.ready_made.Statement.{statement}
 use Rattle.peripheral.proofs.ready_made.Tie as tie
 
-request-made-requires : tie.Need-request-made-requires
-request-made-requires c κs = search needs
-
 returns : tie.Need-returns
 returns c = stops _ (refused (c .before .request-made .ensures) (c .if1 .taken))
 
@@ -20,4 +17,4 @@ returns-2 : tie.Need-returns-2
 returns-2 c = c .sent-right .ensures ∙ goes-on _ (admitted (c .before .before .request-made .ensures) (c .before .if1 .left))
 
 pub ready-made-spec : {M : Type 1} → statement M
-ready-made-spec = tie.close (tie.spec request-made-requires returns sent-right-requires returns-2)
+ready-made-spec = tie.close (tie.spec (λ c κs. search needs) returns sent-right-requires returns-2)

@@ -5,54 +5,6 @@ use borrow.Author.Needs.{needs}
 use Rattle.peripheral.proofs.request_holds.Statement.{statement}
 use Rattle.peripheral.proofs.request_holds.Tie as tie
 
-shared-slice-read-n : tie.Need-shared-slice-read-n
-shared-slice-read-n c = search needs
-
-blank-requires : tie.Need-blank-requires
-blank-requires c κs = search needs
-
-shared-slice-read-unsent : tie.Need-shared-slice-read-unsent
-shared-slice-read-unsent c = search needs
-
-get4-requires : tie.Need-get4-requires
-get4-requires c κs = search needs
-
-unsent-requires : tie.Need-unsent-requires
-unsent-requires c κs = search needs
-
-request-in-requires : tie.Need-request-in-requires
-request-in-requires c κs = search needs
-
-request-made-requires : tie.Need-request-made-requires
-request-made-requires c κs = search needs
-
-shared-slice-read-result : tie.Need-shared-slice-read-result
-shared-slice-read-result c = search needs
-
-request-in-requires-2 : tie.Need-request-in-requires-2
-request-in-requires-2 c κs = search needs
-
-get4-requires-2 : tie.Need-get4-requires-2
-get4-requires-2 c κs = search needs
-
-ready-made-requires : tie.Need-ready-made-requires
-ready-made-requires c κs = search needs
-
-shared-slice-read-unsent-2 : tie.Need-shared-slice-read-unsent-2
-shared-slice-read-unsent-2 c = search needs
-
-get4-requires-3 : tie.Need-get4-requires-3
-get4-requires-3 c κs = search needs
-
-unsent-requires-2 : tie.Need-unsent-requires-2
-unsent-requires-2 c κs = search needs
-
-request-in-requires-3 : tie.Need-request-in-requires-3
-request-in-requires-3 c κs = search needs
-
-request-made-requires-2 : tie.Need-request-made-requires-2
-request-made-requires-2 c κs = search needs
-
 returns : tie.Need-returns
 unfolding soundRequest
 returns c = phase-at (c .before .before .before .before .args .b .now) _ 0 (c .before .match .keys1) (c .blank .ensures ∙ then-true _)
@@ -76,22 +28,22 @@ pub request-holds-spec : {M : Type 1} → statement M
 request-holds-spec =
     tie.close
     (tie.spec
-    shared-slice-read-n
-    blank-requires
-    shared-slice-read-unsent
-    get4-requires
-    unsent-requires
-    request-in-requires
-    request-made-requires
-    shared-slice-read-result
-    request-in-requires-2
-    get4-requires-2
-    ready-made-requires
-    shared-slice-read-unsent-2
-    get4-requires-3
-    unsent-requires-2
-    request-in-requires-3
-    request-made-requires-2
+    (λ c. search needs)
+    (λ c κs. search needs)
+    (λ c. search needs)
+    (λ c κs. search needs)
+    (λ c κs. search needs)
+    (λ c κs. search needs)
+    (λ c κs. search needs)
+    (λ c. search needs)
+    (λ c κs. search needs)
+    (λ c κs. search needs)
+    (λ c κs. search needs)
+    (λ c. search needs)
+    (λ c κs. search needs)
+    (λ c κs. search needs)
+    (λ c κs. search needs)
+    (λ c κs. search needs)
     returns
     returns-2
     returns-3

@@ -7,14 +7,8 @@ use borrow.Author.Needs.{needs}
 use Rattle.peripheral.proofs.request_made.Statement.{statement}
 use Rattle.peripheral.proofs.request_made.Tie as tie
 
-payload-legal-requires : tie.Need-payload-legal-requires
-payload-legal-requires c κs = search needs
-
 returns : tie.Need-returns
 returns c = stops _ (refused (c .before .payload-legal .ensures) (c .if1 .taken))
-
-read-legal-requires : tie.Need-read-legal-requires
-read-legal-requires c κs = search needs
 
 returns-2 : tie.Need-returns-2
 returns-2 c = stops _ (refused (c .before .read-legal .ensures) (c .if2 .taken)) ∙ goes-on _ (admitted (c .before .before .before .payload-legal .ensures) (c .before .before .if1 .left))
@@ -29,9 +23,9 @@ pub request-made-spec : {M : Type 1} → statement M
 request-made-spec =
     tie.close
     (tie.spec
-    payload-legal-requires
+    (λ c κs. search needs)
     returns
-    read-legal-requires
+    (λ c κs. search needs)
     returns-2
     made-as-requires
     returns-3)

@@ -5,21 +5,6 @@ use borrow.Author.Needs.{needs}
 use Rattle.peripheral.proofs.sent_right.Statement.{statement}
 use Rattle.peripheral.proofs.sent_right.Tie as tie
 
-enum-told : tie.Need-enum-told
-enum-told c = search needs
-
-at-edge-requires : tie.Need-at-edge-requires
-at-edge-requires c κs = search needs
-
-enum-told-2 : tie.Need-enum-told-2
-enum-told-2 c = search needs
-
-at-edge-requires-2 : tie.Need-at-edge-requires-2
-at-edge-requires-2 c κs = search needs
-
-enum-told-3 : tie.Need-enum-told-3
-enum-told-3 c = search needs
-
 returns : tie.Need-returns
 returns c = c .at-edge .ensures ∙ ap (λ (k : Kind). sentRight k (c .before .before .before .args .q) (c .before .before .before .args .sent)) (sym (c .before .enum-told .given .1))
 
@@ -33,11 +18,11 @@ pub sent-right-spec : {M : Type 1} → statement M
 sent-right-spec =
     tie.close
     (tie.spec
-    enum-told
-    at-edge-requires
-    enum-told-2
-    at-edge-requires-2
-    enum-told-3
+    (λ c. search needs)
+    (λ c κs. search needs)
+    (λ c. search needs)
+    (λ c κs. search needs)
+    (λ c. search needs)
     returns
     returns-2
     returns-3)

@@ -4,15 +4,6 @@ use borrow.Author.Needs.{needs}
 use Rattle.peripheral.proofs.write_bytes.Statement.{statement}
 use Rattle.peripheral.proofs.write_bytes.Tie as tie
 
-enum-told : tie.Need-enum-told
-enum-told c = search needs
-
-enum-known-w : tie.Need-enum-known-w
-enum-known-w c = search needs
-
-posted-bytes-requires : tie.Need-posted-bytes-requires
-posted-bytes-requires c κs = search needs
-
 returns : tie.Need-returns
 returns c = ap writeBytes (sym (c .enum-told .given .1))
 
@@ -21,4 +12,4 @@ returns-2 c = c .posted-bytes .ensures ∙ ap writeBytes (sym (c .before .before
 
 pub write-bytes-spec : {M : Type 1} → statement M
 write-bytes-spec =
-    tie.close (tie.spec enum-told enum-known-w posted-bytes-requires returns returns-2)
+    tie.close (tie.spec (λ c. search needs) (λ c. search needs) (λ c κs. search needs) returns returns-2)

@@ -4,15 +4,6 @@ use borrow.Author.Needs.{needs}
 use Rattle.peripheral.proofs.write_holds.Statement.{statement}
 use Rattle.peripheral.proofs.write_holds.Tie as tie
 
-shared-slice-read-n : tie.Need-shared-slice-read-n
-shared-slice-read-n c = search needs
-
-posted-in-requires : tie.Need-posted-in-requires
-posted-in-requires c κs = search needs
-
-write-made-requires : tie.Need-write-made-requires
-write-made-requires c κs = search needs
-
 returns : tie.Need-returns
 unfolding soundWrite
 returns c = write-at (c .before .before .before .before .before .before .before .args .b .now) _ 0 (c .before .before .before .match .keys1) (rw (c .before .before .before .before .posted-in .ensures) (then-true _))
@@ -28,9 +19,9 @@ pub write-holds-spec : {M : Type 1} → statement M
 write-holds-spec =
     tie.close
     (tie.spec
-    shared-slice-read-n
-    posted-in-requires
-    write-made-requires
+    (λ c. search needs)
+    (λ c κs. search needs)
+    (λ c κs. search needs)
     returns
     returns-2
     returns-3)

@@ -5,12 +5,6 @@ use borrow.Author.Needs.{needs}
 use Rattle.peripheral.proofs.write_in.Statement.{statement}
 use Rattle.peripheral.proofs.write_in.Tie as tie
 
-shared-slice-read-n : tie.Need-shared-slice-read-n
-shared-slice-read-n c = search needs
-
-posted-in-requires : tie.Need-posted-in-requires
-posted-in-requires c κs = search needs
-
 returns : tie.Need-returns
 returns c = simp (c .match .keys1)
 
@@ -18,4 +12,4 @@ returns-2 : tie.Need-returns-2
 returns-2 c = ap Held (c .posted-in .ensures) ∙ writeOf-rest _ _ (c .before .match .rest .1)
 
 pub write-in-spec : {M : Type 1} → statement M
-write-in-spec = tie.close (tie.spec shared-slice-read-n posted-in-requires returns returns-2)
+write-in-spec = tie.close (tie.spec (λ c. search needs) (λ c κs. search needs) returns returns-2)

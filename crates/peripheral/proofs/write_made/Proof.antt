@@ -6,9 +6,6 @@ use borrow.Author.Needs.{needs}
 use Rattle.peripheral.proofs.write_made.Statement.{statement}
 use Rattle.peripheral.proofs.write_made.Tie as tie
 
-payload-legal-requires : tie.Need-payload-legal-requires
-payload-legal-requires c κs = search needs
-
 returns : tie.Need-returns
 returns c = stops _ (refused (c .before .payload-legal .ensures) (c .if1 .taken))
 
@@ -19,4 +16,4 @@ returns-2 : tie.Need-returns-2
 returns-2 c = rw (c .within .ensures) (goes-on _ (admitted (c .before .before .before .payload-legal .ensures) (c .before .before .if1 .left)))
 
 pub write-made-spec : {M : Type 1} → statement M
-write-made-spec = tie.close (tie.spec payload-legal-requires returns within-requires returns-2)
+write-made-spec = tie.close (tie.spec (λ c κs. search needs) returns within-requires returns-2)

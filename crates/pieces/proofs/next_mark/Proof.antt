@@ -6,20 +6,14 @@ use Rattle.pieces.specs.Pieces.{nextMark}
 use Rattle.pieces.proofs.next_mark.Statement.{statement}
 use Rattle.pieces.proofs.next_mark.Tie as tie
 
-next-size-requires : tie.Need-next-size-requires
-next-size-requires c κs = search needs
-
 add-mark-of : tie.Need-add-mark-of
 add-mark-of c =
     let a = c .before .args in
     record { fits = omega (arith, c .next-size .ensures, next-le (a .address) (a .length) (a .payload) (a .sent) (omega arith)) }
-
-mark-of-requires : tie.Need-mark-of-requires
-mark-of-requires c κs = search needs
 
 returns : tie.Need-returns
 unfolding nextMark
 returns c = cc
 
 pub next-mark-spec : {M : Type 1} → statement M
-next-mark-spec = tie.close (tie.spec next-size-requires add-mark-of mark-of-requires returns)
+next-mark-spec = tie.close (tie.spec (λ c κs. search needs) add-mark-of (λ c κs. search needs) returns)

@@ -6,23 +6,14 @@ use Rattle.pieces.specs.Pieces.{nextSize}
 use Rattle.pieces.proofs.next_size.Statement.{statement}
 use Rattle.pieces.proofs.next_size.Tie as tie
 
-rem-in-block : tie.Need-rem-in-block
-rem-in-block c = search needs
-
 cast-in-block : tie.Need-cast-in-block
 cast-in-block c = record { fits = omega (arith, mod-lt (c .args .address) {m = c .args .payload} (omega arith)) }
 
 add-room : tie.Need-add-room
 add-room c = record { fits = omega (arith, mod-lt (c .args .address) {m = c .args .payload} (omega arith)) }
 
-rem-room : tie.Need-rem-room
-rem-room c = search needs
-
 sub-room : tie.Need-sub-room
 sub-room c = le-of-lt (mod-lt _ (omega arith))
-
-sub-left : tie.Need-sub-left
-sub-left c = search needs
 
 returns : tie.Need-returns
 unfolding nextSize
@@ -33,4 +24,4 @@ unfolding nextSize
 returns-2 c = omega (arith, mod-add-mod (c .before .args .address) (c .before .args .payload) (c .before .args .sent))
 
 pub next-size-spec : {M : Type 1} → statement M
-next-size-spec = tie.close (tie.spec rem-in-block cast-in-block add-room rem-room sub-room sub-left returns returns-2)
+next-size-spec = tie.close (tie.spec (λ c. search needs) cast-in-block add-room (λ c. search needs) sub-room (λ c. search needs) returns returns-2)

@@ -6,20 +6,11 @@ use borrow.Author.Needs.{needs}
 use Rattle.registers.proofs.forbidden.Statement.{statement}
 use Rattle.registers.proofs.forbidden.Tie as tie
 
-bad008-requires : tie.Need-bad008-requires
-bad008-requires c κs = search needs
-
 returns : tie.Need-returns
 returns c = taken _ _ (eq-eqb _ _ (c .before .if1 .taken)) (c .bad008 .ensures)
 
-bad010-requires : tie.Need-bad010-requires
-bad010-requires c κs = search needs
-
 returns-2 : tie.Need-returns-2
 returns-2 c = passed _ _ (ne-eqb _ _ (c .before .before .if1 .left)) (taken _ _ (eq-eqb _ _ (c .before .if2 .taken)) (c .bad010 .ensures))
-
-bad020-requires : tie.Need-bad020-requires
-bad020-requires c κs = search needs
 
 returns-3 : tie.Need-returns-3
 returns-3 c = passed _ _ (ne-eqb _ _ (c .before .before .before .if1 .left)) (passed _ _ (ne-eqb _ _ (c .before .before .if2 .left)) (taken _ _ (eq-eqb _ _ (c .before .if3 .taken)) (c .bad020 .ensures)))
@@ -31,10 +22,10 @@ pub forbidden-spec : {M : Type 1} → statement M
 forbidden-spec =
     tie.close
     (tie.spec
-    bad008-requires
+    (λ c κs. search needs)
     returns
-    bad010-requires
+    (λ c κs. search needs)
     returns-2
-    bad020-requires
+    (λ c κs. search needs)
     returns-3
     returns-4)

@@ -4,11 +4,8 @@ use borrow.Author.Needs.{needs}
 use Rattle.registers.proofs.reachable_008.Statement.{statement}
 use Rattle.registers.proofs.reachable_008.Tie as tie
 
-bad008-requires : tie.Need-bad008-requires
-bad008-requires c κs = search needs
-
 returns : tie.Need-returns
 returns c = rw (c .bad008 .ensures, div-one)
 
 pub reachable-008-spec : {M : Type 1} → statement M
-reachable-008-spec = tie.close (tie.spec bad008-requires returns)
+reachable-008-spec = tie.close (tie.spec (λ c κs. search needs) returns)

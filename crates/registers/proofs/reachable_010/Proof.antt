@@ -2,11 +2,8 @@ use borrow.Author.Needs.{needs}
 use Rattle.registers.proofs.reachable_010.Statement.{statement}
 use Rattle.registers.proofs.reachable_010.Tie as tie
 
-bad010-requires : tie.Need-bad010-requires
-bad010-requires c κs = search needs
-
 returns : tie.Need-returns
 returns c = rw (c .bad010 .ensures)
 
 pub reachable-010-spec : {M : Type 1} → statement M
-reachable-010-spec = tie.close (tie.spec bad010-requires returns)
+reachable-010-spec = tie.close (tie.spec (λ c κs. search needs) returns)

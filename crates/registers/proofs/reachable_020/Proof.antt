@@ -2,11 +2,8 @@ use borrow.Author.Needs.{needs}
 use Rattle.registers.proofs.reachable_020.Statement.{statement}
 use Rattle.registers.proofs.reachable_020.Tie as tie
 
-bad020-requires : tie.Need-bad020-requires
-bad020-requires c κs = search needs
-
 returns : tie.Need-returns
 returns c = rw (c .bad020 .ensures)
 
 pub reachable-020-spec : {M : Type 1} → statement M
-reachable-020-spec = tie.close (tie.spec bad020-requires returns)
+reachable-020-spec = tie.close (tie.spec (λ c κs. search needs) returns)

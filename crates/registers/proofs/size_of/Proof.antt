@@ -11,15 +11,9 @@ returns : tie.Need-returns
 unfolding sizeOf
 returns c = simp (c .if1 .taken)
 
-sub-result : tie.Need-sub-result
-sub-result c = search needs
-
-shl-result : tie.Need-shl-result
-shl-result c = search needs
-
 returns-2 : tie.Need-returns-2
 unfolding sizeOf
 returns-2 c = shl-exact 7 (c .before .args .code - 1) 32 (omega arith) (omega arith)
 
 pub size-of-spec : {M : Type 1} → statement M
-size-of-spec = tie.close (tie.spec returns sub-result shl-result returns-2)
+size-of-spec = tie.close (tie.spec returns (λ c. search needs) (λ c. search needs) returns-2)

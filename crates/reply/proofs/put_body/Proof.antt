@@ -9,54 +9,21 @@ use borrow.Author.Needs.{needs}
 use Rattle.reply.proofs.put_body.Statement.{statement}
 use Rattle.reply.proofs.put_body.Tie as tie
 
-enum-told : tie.Need-enum-told
-enum-told c = search needs
-
-slice-aggregate-put-at : tie.Need-slice-aggregate-put-at
-slice-aggregate-put-at c = search needs
-
-put-at-requires : tie.Need-put-at-requires
-put-at-requires c κs = search needs
-
-enum-known-body : tie.Need-enum-known-body
-enum-known-body c = search needs
-
-put-word-requires : tie.Need-put-word-requires
-put-word-requires c κs = search needs
-
-enum-known-body-2 : tie.Need-enum-known-body-2
-enum-known-body-2 c = search needs
-
 put-piece-requires : tie.Need-put-piece-requires
 put-piece-requires c κs = let f = subst (λ (z : Body). BodyFits z (c .before .before .before .before .before .before .args .w)) (c .before .before .body2 .given .1) (c .before .before .before .before .before .before .pre .2) in (c .before .before .before .before .before .before .pre .0, c .before .before .before .before .before .before .pre .1, f .most, f .end)
-
-enum-known-body-3 : tie.Need-enum-known-body-3
-enum-known-body-3 c = search needs
 
 put-groups-requires : tie.Need-put-groups-requires
 put-groups-requires c κs =
     (c .before .before .before .before .before .before .pre .0, subst (λ (z : Body). BodyFits z (c .before .before .before .before .before .before .args .w)) (c .before .before .body3 .given .1) (c .before .before .before .before .before .before .pre .2))
 
-same-length : tie.Need-same-length
-same-length c = search needs
-
 returns : tie.Need-returns
 returns c = by-body _ _ _ _ _ _ _ _ (c .before .before .before .before .before .enum-told .given .1) (c .before .before .put-at .ensures ∙ put-first _ _) refl (omega arith)
-
-same-length-2 : tie.Need-same-length-2
-same-length-2 c = search needs
 
 returns-2 : tie.Need-returns-2
 returns-2 c = let p = c .before .before .put-word .ensures in by-body _ _ _ _ _ _ _ _ (c .before .before .before .before .before .body .given .1) (p .0) (p .1) (omega (arith, p .1))
 
-same-length-3 : tie.Need-same-length-3
-same-length-3 c = search needs
-
 returns-3 : tie.Need-returns-3
 returns-3 c = let g = c .before .before .before .before .before .body2 .given in let f = subst (λ (z : Body). BodyFits z (c .before .before .before .before .before .before .before .before .before .args .w)) (g .1) (c .before .before .before .before .before .before .before .before .before .pre .2) in let p = c .before .before .put-piece .ensures in by-body _ _ _ _ _ _ _ _ (g .1) (p .0) (piece-length (g .0 .0) _ (c .before .before .before .before .before .before .before .before .before .args .w) _ (c .before .before .before .before .before .before .before .before .before .pre .1) (f .end) (p .1) (c .before .before .before .before .before .before .before .before .before .args .code)) (omega (arith, f .most, p .1))
-
-same-length-4 : tie.Need-same-length-4
-same-length-4 c = search needs
 
 returns-4 : tie.Need-returns-4
 returns-4 c = let p = c .before .before .put-groups .ensures in by-body _ _ _ _ _ _ _ _ (c .before .before .before .before .before .body3 .given .1) (p .0) (p .1) (p .2)
@@ -65,20 +32,20 @@ pub put-body-spec : {M : Type 1} → statement M
 put-body-spec =
     tie.close
     (tie.spec
-    enum-told
-    slice-aggregate-put-at
-    put-at-requires
-    enum-known-body
-    put-word-requires
-    enum-known-body-2
+    (λ c. search needs)
+    (λ c. search needs)
+    (λ c κs. search needs)
+    (λ c. search needs)
+    (λ c κs. search needs)
+    (λ c. search needs)
     put-piece-requires
-    enum-known-body-3
+    (λ c. search needs)
     put-groups-requires
-    same-length
+    (λ c. search needs)
     returns
-    same-length-2
+    (λ c. search needs)
     returns-2
-    same-length-3
+    (λ c. search needs)
     returns-3
-    same-length-4
+    (λ c. search needs)
     returns-4)

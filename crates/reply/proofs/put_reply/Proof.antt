@@ -10,24 +10,12 @@ use borrow.Author.Needs.{needs}
 use Rattle.reply.proofs.put_reply.Statement.{statement}
 use Rattle.reply.proofs.put_reply.Tie as tie
 
-enum-told : tie.Need-enum-told
-enum-told c = search needs
-
-enum-known-r : tie.Need-enum-known-r
-enum-known-r c = search needs
-
-response-byte-requires : tie.Need-response-byte-requires
-response-byte-requires c κs = search needs
-
 say-requires : tie.Need-say-requires
 say-requires c κs = (c .before .before .before .before .before .before .before .pre .0, c .before .before .before .before .before .before .before .pre .1, subst (λ (z : Reply). ReplyFits z (c .before .before .before .before .before .before .before .args .w)) (c .before .before .before .r .given .1) (c .before .before .before .before .before .before .before .pre .2))
 
 returns : tie.Need-returns
 unfolding replyBytes
 returns c = by-reply _ _ _ _ _ _ _ (c .enum-told .given .1) (sym (over-none _), refl, omega arith)
-
-same-length : tie.Need-same-length
-same-length c = search needs
 
 returns-2 : tie.Need-returns-2
 unfolding replyBytes
@@ -37,10 +25,10 @@ pub put-reply-spec : {M : Type 1} → statement M
 put-reply-spec =
     tie.close
     (tie.spec
-    enum-told
-    enum-known-r
-    response-byte-requires
+    (λ c. search needs)
+    (λ c. search needs)
+    (λ c κs. search needs)
     say-requires
     returns
-    same-length
+    (λ c. search needs)
     returns-2)

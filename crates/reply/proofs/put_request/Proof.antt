@@ -4,22 +4,10 @@ use borrow.Author.Needs.{needs}
 use Rattle.reply.proofs.put_request.Statement.{statement}
 use Rattle.reply.proofs.put_request.Tie as tie
 
-request-report-requires : tie.Need-request-report-requires
-request-report-requires c κs = search needs
-
-slice-aggregate-put-at : tie.Need-slice-aggregate-put-at
-slice-aggregate-put-at c = search needs
-
-put-at-requires : tie.Need-put-at-requires
-put-at-requires c κs = search needs
-
-same-length : tie.Need-same-length
-same-length c = search needs
-
 returns : tie.Need-returns
 returns c = (rw (c .before .before .before .before .before .request-report .ensures) at (c .before .before .put-at .ensures)) ∙ put-first _ _
 
 pub put-request-spec : {M : Type 1} → statement M
 put-request-spec =
     tie.close
-    (tie.spec request-report-requires slice-aggregate-put-at put-at-requires same-length returns)
+    (tie.spec (λ c κs. search needs) (λ c. search needs) (λ c κs. search needs) (λ c. search needs) returns)

@@ -9,25 +9,10 @@ use borrow.Author.Needs.{needs}
 use Rattle.reply.proofs.say.Statement.{statement}
 use Rattle.reply.proofs.say.Tie as tie
 
-put-body-requires : tie.Need-put-body-requires
-put-body-requires c κs = search needs
-
-finish-requires : tie.Need-finish-requires
-finish-requires c κs = search needs
-
-add-result : tie.Need-add-result
-add-result c = search needs
-
-cast-result : tie.Need-cast-result
-cast-result c = search needs
-
-same-length : tie.Need-same-length
-same-length c = search needs
-
 returns : tie.Need-returns
 returns c = let p = c .before .before .before .before .before .before .put-body .ensures in (said-by (now (c .before .before .before .before .before .before .before .before .before .before .args .reply)) _ _ _ _ _ (p .0) (p .1) (c .before .before .finish .ensures), ap (λ (k : ℕ). k + 3) (p .1) ∙ sym (closed-length _ _), omega (arith, p .2))
 
 pub say-spec : {M : Type 1} → statement M
 say-spec =
     tie.close
-    (tie.spec put-body-requires finish-requires add-result cast-result same-length returns)
+    (tie.spec (λ c κs. search needs) (λ c κs. search needs) (λ c. search needs) (λ c. search needs) (λ c. search needs) returns)

@@ -3,18 +3,6 @@ use borrow.Author.Needs.{needs}
 use Rattle.state.proofs.pack.Statement.{statement}
 use Rattle.state.proofs.pack.Tie as tie
 
-pack-requires : tie.Need-pack-requires
-pack-requires c κs = search needs
-
-pack-requires-2 : tie.Need-pack-requires-2
-pack-requires-2 c κs = search needs
-
-pack-requires-3 : tie.Need-pack-requires-3
-pack-requires-3 c κs = search needs
-
-same-length : tie.Need-same-length
-same-length c = search needs
-
 returns : tie.Need-returns
 returns c =
     let p₃ = c .before .before in
@@ -24,4 +12,4 @@ returns c =
     packed-by (a .s) (a .dst .now) _ _ _ (p₁ .pack .ensures) (p₂ .pack2 .ensures) (p₃ .pack3 .ensures)
 
 pub pack-spec : {M : Type 1} → statement M
-pack-spec = tie.close (tie.spec pack-requires pack-requires-2 pack-requires-3 same-length returns)
+pack-spec = tie.close (tie.spec (λ c κs. search needs) (λ c κs. search needs) (λ c κs. search needs) (λ c. search needs) returns)

@@ -12,21 +12,6 @@ returns-2 c = simp (le-leb _ _ (c .before .if1 .left), lt-leb _ _ (c .if2 .taken
 returns-3 : tie.Need-returns-3
 returns-3 c = simp (le-leb _ _ (c .before .before .if1 .left), le-leb _ _ (c .before .if2 .left), le-ltb _ _ (c .if3 .taken))
 
-cast-at : tie.Need-cast-at
-cast-at c = search needs
-
-mul-result : tie.Need-mul-result
-mul-result c = search needs
-
-element-copy-out-result : tie.Need-element-copy-out-result
-element-copy-out-result c = search needs
-
-cast-result : tie.Need-cast-result
-cast-result c = search needs
-
-shr-result : tie.Need-shr-result
-shr-result c = search needs
-
 returns-4 : tie.Need-returns-4
 returns-4 c = simp (le-leb _ _ (c .before .before .if1 .left), le-leb _ _ (c .before .if2 .left), lt-ltb _ _ (c .if3 .left))
 
@@ -37,9 +22,9 @@ defined-bit-spec =
     returns
     returns-2
     returns-3
-    cast-at
-    mul-result
-    element-copy-out-result
-    cast-result
-    shr-result
+    (λ c. search needs)
+    (λ c. search needs)
+    (λ c. search needs)
+    (λ c. search needs)
+    (λ c. search needs)
     returns-4)

@@ -4,11 +4,8 @@ use borrow.Author.Needs.{needs}
 use Rattle.wires.proofs.go_round.Statement.{statement}
 use Rattle.wires.proofs.go_round.Tie as tie
 
-senders-requires : tie.Need-senders-requires
-senders-requires c κs = search needs
-
 returns : tie.Need-returns
 returns c = ap (λ (n : ℕ). record { group = c .before .args .place; left = n; room = c .before .args .capacity }) (c .senders .ensures)
 
 pub go-round-spec : {M : Type 1} → statement M
-go-round-spec = tie.close (tie.spec senders-requires returns)
+go-round-spec = tie.close (tie.spec (λ c κs. search needs) returns)

@@ -8,11 +8,8 @@ use Rattle.wires.proofs.row_of.Tie as tie
 sub-result : tie.Need-sub-result
 sub-result c = omega (arith, up-group (c .args .group) (c .pre) .from)
 
-cast-result : tie.Need-cast-result
-cast-result c = search needs
-
 returns : tie.Need-returns
 returns c = let u = up-group (c .args .group) (c .pre) in (refl, omega (arith, u .from), omega (arith, u .upto))
 
 pub row-of-spec : {M : Type 1} → statement M
-row-of-spec = tie.close (tie.spec sub-result cast-result returns)
+row-of-spec = tie.close (tie.spec sub-result (λ c. search needs) returns)

@@ -7,9 +7,6 @@ use Rattle.wires.specs.Rows.{defined-bit}
 use Rattle.wires.proofs.settable.Statement.{statement}
 use Rattle.wires.proofs.settable.Tie as tie
 
-defined-bit-requires : tie.Need-defined-bit-requires
-defined-bit-requires c κs = search needs
-
 returns : tie.Need-returns
 returns c = stops _ (sym (c .before .defined-bit .ensures) ∙ not-true (c .before .defined-bit .result) (c .if1 .taken))
 
@@ -18,12 +15,6 @@ sub-at c =
     let a = c .before .before .args in
     let e = sym (c .before .defined-bit .ensures) ∙ not-false (c .before .defined-bit .result) (c .if1 .left) in
     defined-bit (a .index) (a .bit) e .from
-
-cast-at : tie.Need-cast-at
-cast-at c = search needs
-
-mul-result : tie.Need-mul-result
-mul-result c = search needs
 
 element-copy-out-result : tie.Need-element-copy-out-result
 element-copy-out-result c =
@@ -38,10 +29,10 @@ pub settable-spec : {M : Type 1} → statement M
 settable-spec =
     tie.close
     (tie.spec
-    defined-bit-requires
+    (λ c κs. search needs)
     returns
     sub-at
-    cast-at
-    mul-result
+    (λ c. search needs)
+    (λ c. search needs)
     element-copy-out-result
     returns-2)

@@ -8,14 +8,5 @@ use Rattle.bench.proofs.calls.answer_part.Tie as tie
 slice-aggregate-answer : tie.Need-slice-aggregate-answer
 slice-aggregate-answer c = sym (length-take-le _ _ (c .before .before .before .if1 .taken))
 
-answer-requires : tie.Need-answer-requires
-answer-requires c κs = search needs
-
-returns : tie.Need-returns
-returns c = search needs
-
-returns-2 : tie.Need-returns-2
-returns-2 c = search needs
-
 pub answer-part-spec : {M : Type 1} → statement M
-answer-part-spec = tie.close (tie.spec slice-aggregate-answer answer-requires returns returns-2)
+answer-part-spec = tie.close (tie.spec slice-aggregate-answer (λ c κs. search needs) (λ c. search needs) (λ c. search needs))

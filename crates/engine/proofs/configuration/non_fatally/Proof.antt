@@ -2,11 +2,8 @@ use borrow.Author.Needs.{needs}
 use Rattle.engine.proofs.configuration.non_fatally.Statement.{statement}
 use Rattle.engine.proofs.configuration.non_fatally.Tie as tie
 
-status-requires : tie.Need-status-requires
-status-requires c κs = search needs
-
 returns : tie.Need-returns
 returns c = rw (c .status .ensures)
 
 pub non-fatally-spec : {M : Type 1} → statement M
-non-fatally-spec = tie.close (tie.spec status-requires returns)
+non-fatally-spec = tie.close (tie.spec (λ c κs. search needs) returns)

@@ -8,23 +8,8 @@ use borrow.Author.Needs.{needs}
 use Rattle.engine.proofs.peripheral_channel.answered.Statement.{statement}
 use Rattle.engine.proofs.peripheral_channel.answered.Tie as tie
 
-answer-length-requires : tie.Need-answer-length-requires
-answer-length-requires c κs = search needs
-
-with-request-requires : tie.Need-with-request-requires
-with-request-requires c κs = search needs
-
-keep-requires : tie.Need-keep-requires
-keep-requires c κs = search needs
-
 returns : tie.Need-returns
 returns c = let a = c .before .before .before .before .args in changed (c .before .with-request .ensures) (c .keep .ensures ∙ ap (λ (z : ℕ). keep (K.Data 0 z)) (c .before .before .answer-length .ensures)) ∙ ap (answered (a .p) (a .q)) (sym (c .before .before .before .if1 .taken))
-
-with-request-requires-2 : tie.Need-with-request-requires-2
-with-request-requires-2 c κs = search needs
-
-keep-requires-2 : tie.Need-keep-requires-2
-keep-requires-2 c κs = search needs
 
 returns-2 : tie.Need-returns-2
 returns-2 c = let a = c .before .before .before .args in changed (c .before .with-request2 .ensures) (c .keep2 .ensures) ∙ ap (answered (a .p) (a .q)) (sym (c .before .before .if1 .left))
@@ -33,10 +18,10 @@ pub answered-spec : {M : Type 1} → statement M
 answered-spec =
     tie.close
     (tie.spec
-    answer-length-requires
-    with-request-requires
-    keep-requires
+    (λ c κs. search needs)
+    (λ c κs. search needs)
+    (λ c κs. search needs)
     returns
-    with-request-requires-2
-    keep-requires-2
+    (λ c κs. search needs)
+    (λ c κs. search needs)
     returns-2)

@@ -8,23 +8,8 @@ use borrow.Author.Needs.{needs}
 use Rattle.engine.proofs.peripheral_channel.bytes_of.Statement.{statement}
 use Rattle.engine.proofs.peripheral_channel.bytes_of.Tie as tie
 
-shared-slice-read-join4 : tie.Need-shared-slice-read-join4
-shared-slice-read-join4 c = search needs
-
-join4-requires : tie.Need-join4-requires
-join4-requires c κs = search needs
-
 returns : tie.Need-returns
 returns c = let b = now (c .before .before .before .before .args .b) in c .join4 .ensures ∙ bytes-one b ∙ ap (λ (z : ℕ). bytesOf z b) (sym (c .before .before .if1 .taken))
-
-shared-slice-read-join4-2 : tie.Need-shared-slice-read-join4-2
-shared-slice-read-join4-2 c = search needs
-
-shared-slice-read-join4-3 : tie.Need-shared-slice-read-join4-3
-shared-slice-read-join4-3 c = search needs
-
-join4-requires-2 : tie.Need-join4-requires-2
-join4-requires-2 c κs = search needs
 
 returns-2 : tie.Need-returns-2
 returns-2 c = let b = now (c .before .before .before .before .before .before .args .b) in c .join42 .ensures ∙ bytes-two b ∙ ap (λ (z : ℕ). bytesOf z b) (sym (c .before .before .before .if2 .taken))
@@ -41,9 +26,6 @@ shared-slice-read-join4-6 c = omega (arith, last-size (c .before .before .before
 shared-slice-read-join4-7 : tie.Need-shared-slice-read-join4-7
 shared-slice-read-join4-7 c = omega (arith, last-size (c .before .before .before .before .before .before .before .args .size) (c .before .before .before .before .before .before .before .pre .1) (c .before .before .before .before .before .if1 .left) (c .before .before .before .before .if2 .left))
 
-join4-requires-3 : tie.Need-join4-requires-3
-join4-requires-3 c κs = search needs
-
 returns-3 : tie.Need-returns-3
 returns-3 c = let b = now (c .before .before .before .before .before .before .before .before .args .b) in c .join43 .ensures ∙ bytes-four b ∙ ap (λ (z : ℕ). bytesOf z b) (sym (last-size (c .before .before .before .before .before .before .before .before .args .size) (c .before .before .before .before .before .before .before .before .pre .1) (c .before .before .before .before .before .before .if1 .left) (c .before .before .before .before .before .if2 .left)))
 
@@ -51,16 +33,16 @@ pub bytes-of-spec : {M : Type 1} → statement M
 bytes-of-spec =
     tie.close
     (tie.spec
-    shared-slice-read-join4
-    join4-requires
+    (λ c. search needs)
+    (λ c κs. search needs)
     returns
-    shared-slice-read-join4-2
-    shared-slice-read-join4-3
-    join4-requires-2
+    (λ c. search needs)
+    (λ c. search needs)
+    (λ c κs. search needs)
     returns-2
     shared-slice-read-join4-4
     shared-slice-read-join4-5
     shared-slice-read-join4-6
     shared-slice-read-join4-7
-    join4-requires-3
+    (λ c κs. search needs)
     returns-3)

@@ -9,32 +9,8 @@ use borrow.Author.Needs.{needs}
 use Rattle.engine.proofs.peripheral_channel.decide.Statement.{statement}
 use Rattle.engine.proofs.peripheral_channel.decide.Tie as tie
 
-enum-known-o : tie.Need-enum-known-o
-enum-known-o c = search needs
-
-data-at-requires : tie.Need-data-at-requires
-data-at-requires c κs = search needs
-
-post-requires : tie.Need-post-requires
-post-requires c κs = search needs
-
-enum-told : tie.Need-enum-told
-enum-told c = search needs
-
-get-pc-requires : tie.Need-get-pc-requires
-get-pc-requires c κs = search needs
-
-enum-known-o-2 : tie.Need-enum-known-o-2
-enum-known-o-2 c = search needs
-
-request-of-requires : tie.Need-request-of-requires
-request-of-requires c κs = search needs
-
 ask-requires : tie.Need-ask-requires
 ask-requires c κs = let h = c .before .before .o2 .given .0 .0 in request-sizes (c .before .before .before .before .before .args .c) (c .before .before .before .before .before .pre .0) (c .request-of .result) R.MemoryRead (h .address) (h .length) (h .tag) 0 (c .request-of .ensures)
-
-enum-known-o-3 : tie.Need-enum-known-o-3
-enum-known-o-3 c = search needs
 
 short-access-requires : tie.Need-short-access-requires
 short-access-requires c κs = (c .before .before .before .before .pre .0, subst (λ (z : PeripheralCommand). PeripheralFits z (now (c .before .before .before .before .args .b))) (c .before .o3 .given .1) (c .before .before .before .before .pre .2))
@@ -59,15 +35,15 @@ pub decide-spec : {M : Type 1} → statement M
 decide-spec =
     tie.close
     (tie.spec
-    enum-known-o
-    data-at-requires
-    post-requires
-    enum-told
-    get-pc-requires
-    enum-known-o-2
-    request-of-requires
+    (λ c. search needs)
+    (λ c κs. search needs)
+    (λ c κs. search needs)
+    (λ c. search needs)
+    (λ c κs. search needs)
+    (λ c. search needs)
+    (λ c κs. search needs)
     ask-requires
-    enum-known-o-3
+    (λ c. search needs)
     short-access-requires
     returns
     returns-2

@@ -2,11 +2,8 @@ use borrow.Author.Needs.{needs}
 use Rattle.engine.proofs.peripheral_channel.fatally.Statement.{statement}
 use Rattle.engine.proofs.peripheral_channel.fatally.Tie as tie
 
-fatal-requires : tie.Need-fatal-requires
-fatal-requires c κs = search needs
-
 returns : tie.Need-returns
 returns c = rw (c .fatal .ensures)
 
 pub fatally-spec : {M : Type 1} → statement M
-fatally-spec = tie.close (tie.spec fatal-requires returns)
+fatally-spec = tie.close (tie.spec (λ c κs. search needs) returns)

@@ -3,32 +3,14 @@ use borrow.Author.Needs.{needs}
 use Rattle.engine.proofs.peripheral_channel.post.Statement.{statement}
 use Rattle.engine.proofs.peripheral_channel.post.Tie as tie
 
-pc-free-requires : tie.Need-pc-free-requires
-pc-free-requires c κs = search needs
-
-fatally-requires : tie.Need-fatally-requires
-fatally-requires c κs = search needs
-
 returns : tie.Need-returns
 returns c = let a = c .before .before .before .args in post-held (a .c) (a .p) (a .address) (a .length) (a .from) _ _ (c .before .before .pc-free .ensures) (c .before .if1 .taken) (c .fatally .ensures)
-
-payload-size-requires : tie.Need-payload-size-requires
-payload-size-requires c κs = search needs
 
 within-requires : tie.Need-within-requires
 within-requires c κs = rw (c .payload-size .ensures) (payload-pos (c .before .before .before .before .args .c) (c .before .before .before .before .pre))
 
-fatally-requires-2 : tie.Need-fatally-requires-2
-fatally-requires-2 c κs = search needs
-
 returns-2 : tie.Need-returns-2
 returns-2 c = let a = c .before .before .before .before .before .before .before .args in post-large (a .c) (a .p) (a .address) (a .length) (a .from) _ _ _ _ (c .before .before .before .before .before .before .pc-free .ensures) (c .before .before .before .before .before .if1 .left) (c .before .before .before .payload-size .ensures) (c .before .before .within .ensures) (c .before .if2 .taken) (c .fatally2 .ensures)
-
-holding-requires : tie.Need-holding-requires
-holding-requires c κs = search needs
-
-accept-requires : tie.Need-accept-requires
-accept-requires c κs = search needs
 
 returns-3 : tie.Need-returns-3
 returns-3 c = let a = c .before .before .before .before .before .before .before .before .args in post-done (a .c) (a .p) (a .address) (a .length) (a .from) _ _ _ _ _ (c .before .before .before .before .before .before .before .pc-free .ensures) (c .before .before .before .before .before .before .if1 .left) (c .before .before .before .before .payload-size .ensures) (c .before .before .before .within .ensures) (c .before .before .if2 .left) (c .before .holding .ensures) (c .accept .ensures)
@@ -37,13 +19,13 @@ pub post-spec : {M : Type 1} → statement M
 post-spec =
     tie.close
     (tie.spec
-    pc-free-requires
-    fatally-requires
+    (λ c κs. search needs)
+    (λ c κs. search needs)
     returns
-    payload-size-requires
+    (λ c κs. search needs)
     within-requires
-    fatally-requires-2
+    (λ c κs. search needs)
     returns-2
-    holding-requires
-    accept-requires
+    (λ c κs. search needs)
+    (λ c κs. search needs)
     returns-3)

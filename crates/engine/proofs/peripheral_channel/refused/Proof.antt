@@ -2,11 +2,8 @@ use borrow.Author.Needs.{needs}
 use Rattle.engine.proofs.peripheral_channel.refused.Statement.{statement}
 use Rattle.engine.proofs.peripheral_channel.refused.Tie as tie
 
-number-requires : tie.Need-number-requires
-number-requires c κs = search needs
-
 returns : tie.Need-returns
 returns c = rw (c .number .ensures)
 
 pub refused-spec : {M : Type 1} → statement M
-refused-spec = tie.close (tie.spec number-requires returns)
+refused-spec = tie.close (tie.spec (λ c κs. search needs) returns)

@@ -12,44 +12,17 @@ use borrow.Author.Needs.{needs}
 use Rattle.engine.proofs.peripheral_channel.short_access.Statement.{statement}
 use Rattle.engine.proofs.peripheral_channel.short_access.Tie as tie
 
-cast-n : tie.Need-cast-n
-cast-n c = search needs
-
-enum-told : tie.Need-enum-told
-enum-told c = search needs
-
-request-of-requires : tie.Need-request-of-requires
-request-of-requires c κs = search needs
-
 ask-requires : tie.Need-ask-requires
 ask-requires c κs = let a = c .before .before .before .before .before .args in request-sizes (a .c) (c .before .before .before .before .before .pre .0) (c .request-of .result) R.IoRead (a .at .address) (a .at .size) 0 0 (c .request-of .ensures)
-
-enum-told-2 : tie.Need-enum-told-2
-enum-told-2 c = search needs
 
 bytes-of-requires : tie.Need-bytes-of-requires
 bytes-of-requires c κs = let a = c .before .before .before .before .args in let f = subst (λ (z : Access). PeripheralFits (Short z (a .at)) (now (a .b))) (c .enum-told2 .given .1) (c .before .before .before .before .pre .1) in (omega (arith, f .0), f .1 .size)
 
-request-of-requires-2 : tie.Need-request-of-requires-2
-request-of-requires-2 c κs = search needs
-
 ask-requires-2 : tie.Need-ask-requires-2
 ask-requires-2 c κs = let a = c .before .before .before .before .before .before .args in request-sizes (a .c) (c .before .before .before .before .before .before .pre .0) (c .request-of2 .result) R.IoWrite (a .at .address) (a .at .size) 0 (c .before .bytes-of .result) (c .request-of2 .ensures)
 
-enum-told-3 : tie.Need-enum-told-3
-enum-told-3 c = search needs
-
-request-of-requires-3 : tie.Need-request-of-requires-3
-request-of-requires-3 c κs = search needs
-
 ask-requires-3 : tie.Need-ask-requires-3
 ask-requires-3 c κs = let a = c .before .before .before .before .before .args in request-sizes (a .c) (c .before .before .before .before .before .pre .0) (c .request-of3 .result) R.MemoryRead (a .at .address) (a .at .size) 0 0 (c .request-of3 .ensures)
-
-enum-told-4 : tie.Need-enum-told-4
-enum-told-4 c = search needs
-
-post-requires : tie.Need-post-requires
-post-requires c κs = search needs
 
 returns : tie.Need-returns
 returns c = let a = c .before .before .before .before .before .before .args in c .ask .ensures ∙ ap (ask (a .p)) (c .before .request-of .ensures) ∙ ap (λ (z : Access). acting (a .c) (a .p) (shortAct (a .c) z (a .at) (now (a .b)))) (sym (c .before .before .enum-told .given .1))
@@ -67,19 +40,19 @@ pub short-access-spec : {M : Type 1} → statement M
 short-access-spec =
     tie.close
     (tie.spec
-    cast-n
-    enum-told
-    request-of-requires
+    (λ c. search needs)
+    (λ c. search needs)
+    (λ c κs. search needs)
     ask-requires
-    enum-told-2
+    (λ c. search needs)
     bytes-of-requires
-    request-of-requires-2
+    (λ c κs. search needs)
     ask-requires-2
-    enum-told-3
-    request-of-requires-3
+    (λ c. search needs)
+    (λ c κs. search needs)
     ask-requires-3
-    enum-told-4
-    post-requires
+    (λ c. search needs)
+    (λ c κs. search needs)
     returns
     returns-2
     returns-3

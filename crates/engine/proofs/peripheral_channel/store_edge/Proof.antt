@@ -8,15 +8,6 @@ use borrow.Author.Needs.{needs}
 use Rattle.engine.proofs.peripheral_channel.store_edge.Statement.{statement}
 use Rattle.engine.proofs.peripheral_channel.store_edge.Tie as tie
 
-dropped-requires : tie.Need-dropped-requires
-dropped-requires c κs = search needs
-
-pack-requires : tie.Need-pack-requires
-pack-requires c κs = search needs
-
-same-length : tie.Need-same-length
-same-length c = search needs
-
 returns : tie.Need-returns
 returns c = taken _ _ (c .before .before .before .before .before .if1 .taken) (c .before .before .pack .ensures ∙ ap (λ (z : Peripheral). putPart peripheral z (now (c .before .before .before .before .before .before .before .args .state))) (c .before .before .before .before .dropped .ensures))
 
@@ -24,4 +15,4 @@ returns-2 : tie.Need-returns-2
 returns-2 c = passed _ _ (c .if1 .left) refl
 
 pub store-edge-spec : {M : Type 1} → statement M
-store-edge-spec = tie.close (tie.spec dropped-requires pack-requires same-length returns returns-2)
+store-edge-spec = tie.close (tie.spec (λ c κs. search needs) (λ c κs. search needs) (λ c. search needs) returns returns-2)

@@ -8,17 +8,8 @@ use borrow.Author.Needs.{needs}
 use Rattle.engine.proofs.wires_channel.decide.Statement.{statement}
 use Rattle.engine.proofs.wires_channel.decide.Tie as tie
 
-enum-known-o : tie.Need-enum-known-o
-enum-known-o c = search needs
-
 put-vwire-requires : tie.Need-put-vwire-requires
 put-vwire-requires c κs = let f = subst (λ (z : WiresCommand). WiresFits z (now (c .before .before .before .before .args .b))) (c .before .o .given .1) (c .before .before .before .before .pre .2) in omega (arith, f .0)
-
-enum-told : tie.Need-enum-told
-enum-told c = search needs
-
-get-vwire-requires : tie.Need-get-vwire-requires
-get-vwire-requires c κs = search needs
 
 returns : tie.Need-returns
 unfolding decide
@@ -31,4 +22,4 @@ returns-2 c = let a = c .before .before .before .before .args in c .get-vwire .e
 pub decide-spec : {M : Type 1} → statement M
 decide-spec =
     tie.close
-    (tie.spec enum-known-o put-vwire-requires enum-told get-vwire-requires returns returns-2)
+    (tie.spec (λ c. search needs) put-vwire-requires (λ c. search needs) (λ c κs. search needs) returns returns-2)

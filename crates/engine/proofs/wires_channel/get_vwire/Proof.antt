@@ -6,15 +6,6 @@ use borrow.Author.Needs.{needs}
 use Rattle.engine.proofs.wires_channel.get_vwire.Statement.{statement}
 use Rattle.engine.proofs.wires_channel.get_vwire.Tie as tie
 
-operating-count-requires : tie.Need-operating-count-requires
-operating-count-requires c κs = search needs
-
-any-pending-requires : tie.Need-any-pending-requires
-any-pending-requires c κs = search needs
-
-fatally-requires : tie.Need-fatally-requires
-fatally-requires c κs = search needs
-
 returns : tie.Need-returns
 returns c = let a = c .before .before .before .before .before .args in send-none (a .c) (a .w) _ _ (c .before .before .before .before .before .pre .1) (c .before .before .any-pending .ensures) (c .before .if1 .taken) (c .fatally .ensures)
 
@@ -24,9 +15,6 @@ send-requires c κs =
     let v = sound-view (on1 (a .args .c .r020)) (a .args .w) (a .pre .1) in
     (v .from, v .upto, omega (arith, c .before .before .operating-count .ensures))
 
-accept-requires : tie.Need-accept-requires
-accept-requires c κs = search needs
-
 returns-2 : tie.Need-returns-2
 returns-2 c = let a = c .before .before .before .before .before .before .before .before .args in send-done (a .c) (a .w) _ _ _ _ (c .before .before .before .before .before .before .before .before .pre .0) (c .before .before .before .before .before .before .before .before .pre .1) (c .before .before .before .before .before .any-pending .ensures) (c .before .before .before .before .if1 .left) (c .before .before .before .before .before .before .operating-count .ensures) (c .before .before .before .send .ensures) (c .accept .ensures)
 
@@ -34,10 +22,10 @@ pub get-vwire-spec : {M : Type 1} → statement M
 get-vwire-spec =
     tie.close
     (tie.spec
-    operating-count-requires
-    any-pending-requires
-    fatally-requires
+    (λ c κs. search needs)
+    (λ c κs. search needs)
+    (λ c κs. search needs)
     returns
     send-requires
-    accept-requires
+    (λ c κs. search needs)
     returns-2)

@@ -5,23 +5,11 @@ use borrow.Author.Needs.{needs}
 use Rattle.engine.proofs.wires_channel.setting.Statement.{statement}
 use Rattle.engine.proofs.wires_channel.setting.Tie as tie
 
-settable-requires : tie.Need-settable-requires
-settable-requires c κs = search needs
-
-number-requires : tie.Need-number-requires
-number-requires c κs = search needs
-
 returns : tie.Need-returns
 returns c = let a = c .before .before .before .args in set-refused (a .c) (a .w) (a .index) (a .bit) (a .value) _ _ (c .before .before .settable .ensures) (c .before .if1 .taken) (c .number .ensures)
 
-on-requires : tie.Need-on-requires
-on-requires c κs = search needs
-
 set-requires : tie.Need-set-requires
 set-requires c κs = not-false _ (denied (c .before .before .before .settable .ensures) (c .before .before .if1 .left))
-
-keep-requires : tie.Need-keep-requires
-keep-requires c κs = search needs
 
 returns-2 : tie.Need-returns-2
 returns-2 c = let a = c .before .before .before .before .before .before .args in set-changed (a .c) (a .w) (a .index) (a .bit) (a .value) _ _ _ _ (c .before .before .before .before .before .settable .ensures) (c .before .before .before .before .if1 .left) (c .before .before .on .ensures) (c .before .set .ensures) (c .keep .ensures)
@@ -30,10 +18,10 @@ pub setting-spec : {M : Type 1} → statement M
 setting-spec =
     tie.close
     (tie.spec
-    settable-requires
-    number-requires
+    (λ c κs. search needs)
+    (λ c κs. search needs)
     returns
-    on-requires
+    (λ c κs. search needs)
     set-requires
-    keep-requires
+    (λ c κs. search needs)
     returns-2)

@@ -8,26 +8,8 @@ use borrow.Author.Needs.{needs}
 use Rattle.engine.proofs.wires_channel.store_edge.Statement.{statement}
 use Rattle.engine.proofs.wires_channel.store_edge.Tie as tie
 
-disabled-requires : tie.Need-disabled-requires
-disabled-requires c κs = search needs
-
-pack-requires : tie.Need-pack-requires
-pack-requires c κs = search needs
-
-same-length : tie.Need-same-length
-same-length c = search needs
-
 returns : tie.Need-returns
 returns c = taken _ _ (c .before .before .before .before .before .if1 .taken) (c .before .before .pack .ensures ∙ ap (λ (z : Wires). putPart wires z (now (c .before .before .before .before .before .before .before .args .state))) (c .before .before .before .before .disabled .ensures))
-
-enabled-requires : tie.Need-enabled-requires
-enabled-requires c κs = search needs
-
-pack-requires-2 : tie.Need-pack-requires-2
-pack-requires-2 c κs = search needs
-
-same-length-2 : tie.Need-same-length-2
-same-length-2 c = search needs
 
 returns-2 : tie.Need-returns-2
 returns-2 c = passed _ _ (c .before .before .before .before .before .before .if1 .left) (taken _ _ (c .before .before .before .before .before .if2 .taken) (c .before .before .pack2 .ensures ∙ ap (λ (z : Wires). putPart wires z (now (c .before .before .before .before .before .before .before .before .args .state))) (c .before .before .before .before .enabled .ensures)))
@@ -39,12 +21,12 @@ pub store-edge-spec : {M : Type 1} → statement M
 store-edge-spec =
     tie.close
     (tie.spec
-    disabled-requires
-    pack-requires
-    same-length
+    (λ c κs. search needs)
+    (λ c κs. search needs)
+    (λ c. search needs)
     returns
-    enabled-requires
-    pack-requires-2
-    same-length-2
+    (λ c κs. search needs)
+    (λ c κs. search needs)
+    (λ c. search needs)
     returns-2
     returns-3)

@@ -3,36 +3,6 @@ use borrow.Author.Needs.{needs}
 use Rattle.peripheral.proofs.Peripheral.pack.Statement.{statement}
 use Rattle.peripheral.proofs.Peripheral.pack.Tie as tie
 
-write-bytes-requires : tie.Need-write-bytes-requires
-write-bytes-requires c κs = search needs
-
-np-bytes-requires : tie.Need-np-bytes-requires
-np-bytes-requires c κs = search needs
-
-bytes4-requires : tie.Need-bytes4-requires
-bytes4-requires c κs = search needs
-
-slice-aggregate-put-at : tie.Need-slice-aggregate-put-at
-slice-aggregate-put-at c = search needs
-
-put-at-requires : tie.Need-put-at-requires
-put-at-requires c κs = search needs
-
-slice-aggregate-put-at-2 : tie.Need-slice-aggregate-put-at-2
-slice-aggregate-put-at-2 c = search needs
-
-put-at-requires-2 : tie.Need-put-at-requires-2
-put-at-requires-2 c κs = search needs
-
-slice-aggregate-put-at-3 : tie.Need-slice-aggregate-put-at-3
-slice-aggregate-put-at-3 c = search needs
-
-put-at-requires-3 : tie.Need-put-at-requires-3
-put-at-requires-3 c κs = search needs
-
-same-length : tie.Need-same-length
-same-length c = search needs
-
 returns : tie.Need-returns
 returns c =
     let p₃ = c .before .before in
@@ -51,14 +21,14 @@ pub pack-spec : {M : Type 1} → statement M
 pack-spec =
     tie.close
     (tie.spec
-    write-bytes-requires
-    np-bytes-requires
-    bytes4-requires
-    slice-aggregate-put-at
-    put-at-requires
-    slice-aggregate-put-at-2
-    put-at-requires-2
-    slice-aggregate-put-at-3
-    put-at-requires-3
-    same-length
+    (λ c κs. search needs)
+    (λ c κs. search needs)
+    (λ c κs. search needs)
+    (λ c. search needs)
+    (λ c κs. search needs)
+    (λ c. search needs)
+    (λ c κs. search needs)
+    (λ c. search needs)
+    (λ c κs. search needs)
+    (λ c. search needs)
     returns)

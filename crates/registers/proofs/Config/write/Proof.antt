@@ -6,20 +6,11 @@ use borrow.Author.Needs.{needs}
 use Rattle.registers.proofs.Config.write.Statement.{statement}
 use Rattle.registers.proofs.Config.write.Tie as tie
 
-write-requires : tie.Need-write-requires
-write-requires c κs = search needs
-
 returns : tie.Need-returns
 returns c = taken _ _ (eq-eqb _ _ (c .before .if1 .taken)) (rw (c .write .ensures))
 
-write-requires-2 : tie.Need-write-requires-2
-write-requires-2 c κs = search needs
-
 returns-2 : tie.Need-returns-2
 returns-2 c = passed _ _ (ne-eqb _ _ (c .before .before .if1 .left)) (taken _ _ (eq-eqb _ _ (c .before .if2 .taken)) (rw (c .write2 .ensures)))
-
-write-requires-3 : tie.Need-write-requires-3
-write-requires-3 c κs = search needs
 
 returns-3 : tie.Need-returns-3
 returns-3 c = passed _ _ (ne-eqb _ _ (c .before .before .before .if1 .left)) (passed _ _ (ne-eqb _ _ (c .before .before .if2 .left)) (taken _ _ (eq-eqb _ _ (c .before .if3 .taken)) (rw (c .write3 .ensures))))
@@ -31,10 +22,10 @@ pub write-spec : {M : Type 1} → statement M
 write-spec =
     tie.close
     (tie.spec
-    write-requires
+    (λ c κs. search needs)
     returns
-    write-requires-2
+    (λ c κs. search needs)
     returns-2
-    write-requires-3
+    (λ c κs. search needs)
     returns-3
     returns-4)

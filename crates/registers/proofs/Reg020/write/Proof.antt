@@ -2,14 +2,8 @@ use borrow.Author.Needs.{needs}
 use Rattle.registers.proofs.Reg020.write.Statement.{statement}
 use Rattle.registers.proofs.Reg020.write.Tie as tie
 
-write-masked-requires : tie.Need-write-masked-requires
-write-masked-requires c κs = search needs
-
-with-ready-requires : tie.Need-with-ready-requires
-with-ready-requires c κs = search needs
-
 returns : tie.Need-returns
 returns c = rw (c .with-ready .ensures, c .before .write-masked .ensures)
 
 pub write-spec : {M : Type 1} → statement M
-write-spec = tie.close (tie.spec write-masked-requires with-ready-requires returns)
+write-spec = tie.close (tie.spec (λ c κs. search needs) (λ c κs. search needs) returns)

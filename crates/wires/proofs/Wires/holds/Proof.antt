@@ -4,21 +4,6 @@ use borrow.Author.Needs.{needs}
 use Rattle.wires.proofs.Wires.holds.Statement.{statement}
 use Rattle.wires.proofs.Wires.holds.Tie as tie
 
-get8-requires : tie.Need-get8-requires
-get8-requires c κs = search needs
-
-get4-requires : tie.Need-get4-requires
-get4-requires c κs = search needs
-
-shared-slice-read-place : tie.Need-shared-slice-read-place
-shared-slice-read-place c = search needs
-
-levels-fit-requires : tie.Need-levels-fit-requires
-levels-fit-requires c κs = search needs
-
-marks-fit-requires : tie.Need-marks-fit-requires
-marks-fit-requires c κs = search needs
-
 returns : tie.Need-returns
 returns c =
     let x = c .before in
@@ -33,9 +18,9 @@ pub holds-spec : {M : Type 1} → statement M
 holds-spec =
     tie.close
     (tie.spec
-    get8-requires
-    get4-requires
-    shared-slice-read-place
-    levels-fit-requires
-    marks-fit-requires
+    (λ c κs. search needs)
+    (λ c κs. search needs)
+    (λ c. search needs)
+    (λ c κs. search needs)
+    (λ c κs. search needs)
     returns)

@@ -5,14 +5,8 @@ use Rattle.wires.specs.Groups.{resetGroup}
 use Rattle.wires.proofs.Wires.platform.Statement.{statement}
 use Rattle.wires.proofs.Wires.platform.Tie as tie
 
-reset-group-requires : tie.Need-reset-group-requires
-reset-group-requires c κs = search needs
-
-reset-group-requires-2 : tie.Need-reset-group-requires-2
-reset-group-requires-2 c κs = search needs
-
 returns : tie.Need-returns
 returns c = c .reset-group2 .ensures ∙ ap (λ (w : Wires). resetGroup w 7) (c .before .reset-group .ensures)
 
 pub platform-spec : {M : Type 1} → statement M
-platform-spec = tie.close (tie.spec reset-group-requires reset-group-requires-2 returns)
+platform-spec = tie.close (tie.spec (λ c κs. search needs) (λ c κs. search needs) returns)

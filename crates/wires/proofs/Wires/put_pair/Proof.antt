@@ -14,40 +14,16 @@ returns c = simp (lt-leb _ _ (c .if1 .taken))
 returns-2 : tie.Need-returns-2
 returns-2 c = simp (le-leb _ _ (c .before .if1 .left), lt-leb _ _ (c .if2 .taken))
 
-cast-at : tie.Need-cast-at
-cast-at c = search needs
-
-mul-if3 : tie.Need-mul-if3
-mul-if3 c = search needs
-
-element-copy-out-if3 : tie.Need-element-copy-out-if3
-element-copy-out-if3 c = search needs
-
 returns-3 : tie.Need-returns-3
 returns-3 c =
     let down = rowAt (c .before .before .before .args .index - 2) .down in
     simp (le-leb _ _ (c .before .before .if1 .left), le-leb _ _ (c .before .if2 .left), not-true down (c .if3 .taken))
-
-element-copy-out-nibble-of : tie.Need-element-copy-out-nibble-of
-element-copy-out-nibble-of c = search needs
-
-mul-nibble-of : tie.Need-mul-nibble-of
-mul-nibble-of c = search needs
-
-element-copy-out-nibble-of-2 : tie.Need-element-copy-out-nibble-of-2
-element-copy-out-nibble-of-2 c = search needs
 
 nibble-of-requires : tie.Need-nibble-of-requires
 nibble-of-requires c κs =
     let a = c .before .before .before .before .args in
     let d = rowAt (a .index - 2) .defined in
     omega (arith, and-le-r (a .byte / 16) d, row-right (a .index - 2) (omega arith) .defined-small)
-
-element-copy-out-with : tie.Need-element-copy-out-with
-element-copy-out-with c = search needs
-
-with-requires : tie.Need-with-requires
-with-requires c κs = search needs
 
 returns-4 : tie.Need-returns-4
 returns-4 c =
@@ -67,14 +43,14 @@ put-pair-spec =
     (tie.spec
     returns
     returns-2
-    cast-at
-    mul-if3
-    element-copy-out-if3
+    (λ c. search needs)
+    (λ c. search needs)
+    (λ c. search needs)
     returns-3
-    element-copy-out-nibble-of
-    mul-nibble-of
-    element-copy-out-nibble-of-2
+    (λ c. search needs)
+    (λ c. search needs)
+    (λ c. search needs)
     nibble-of-requires
-    element-copy-out-with
-    with-requires
+    (λ c. search needs)
+    (λ c κs. search needs)
     returns-4)

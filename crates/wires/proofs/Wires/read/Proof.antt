@@ -7,9 +7,6 @@ use Rattle.wires.proofs.Wires.read.Tie as tie
 sub-at : tie.Need-sub-at
 sub-at c = defined-bit (c .args .index) (c .args .bit) (c .pre) .from
 
-cast-at : tie.Need-cast-at
-cast-at c = search needs
-
 element-copy-out-result : tie.Need-element-copy-out-result
 element-copy-out-result c = let d = defined-bit (c .args .index) (c .args .bit) (c .pre) in omega (arith, d .upto)
 
@@ -19,13 +16,7 @@ cast-result c = let d = defined-bit (c .before .args .index) (c .before .args .b
 shr-result : tie.Need-shr-result
 shr-result c = let d = defined-bit (c .before .args .index) (c .before .args .bit) (c .before .pre) in omega (arith, d .small)
 
-cast-result-2 : tie.Need-cast-result-2
-cast-result-2 c = search needs
-
-returns : tie.Need-returns
-returns c = search needs
-
 pub read-spec : {M : Type 1} → statement M
 read-spec =
     tie.close
-    (tie.spec sub-at cast-at element-copy-out-result cast-result shr-result cast-result-2 returns)
+    (tie.spec sub-at (λ c. search needs) element-copy-out-result cast-result shr-result (λ c. search needs) (λ c. search needs))

@@ -10,9 +10,6 @@ sub-at c =
     let a = c .args in
     settable-bit (a .index) (a .bit) (a .value) (c .pre) .defined .from
 
-cast-at : tie.Need-cast-at
-cast-at c = search needs
-
 element-copy-out-old : tie.Need-element-copy-out-old
 element-copy-out-old c =
     let a = c .args in
@@ -76,7 +73,7 @@ set-spec =
     tie.close
     (tie.spec
     sub-at
-    cast-at
+    (λ c. search needs)
     element-copy-out-old
     cast-nibble-of
     cast-nibble-of-2
