@@ -8,11 +8,14 @@ use Rattle.base.specs.Pick.{pick}
 use Rattle.base.specs.Bytes.{joined4}
 use Rattle.crc.specs.Crc.{crc}
 use Rattle.command.specs.Numbers.{lengthWrong, opcodeUnknown, crcRefused}
-use Rattle.command.specs.Needs.{wideCycle, addressBytes, lengthOf, groupCount, needIn}
+use Rattle.command.specs.Rows.{rowOf}
+use Rattle.command.specs.Needs.{wideCycle, addressBytes, lengthOf, groupCount, needRow}
 use Rattle.command.specs.declared.Opcode.{Opcode}
 use Rattle.command.specs.declared.Opcode.the-variants as O
 use Rattle.command.specs.declared.Channels.{Channels}
 use Rattle.command.specs.declared.Row.{Row}
+use Rattle.command.specs.declared.Listed.{Listed}
+use Rattle.command.specs.declared.Listed.the-variants.{As, Unlisted}
 use Rattle.command.specs.declared.Need.{Need}
 use Rattle.command.specs.declared.Need.the-variants.{Whole, More, Open, Never}
 use Rattle.command.specs.declared.Head.{Head}
@@ -82,11 +85,17 @@ abbrev pub checkedAs : Bool → List ℕ → Row → Decoded
 checkedAs checked b r = pick (crcWrong checked (r .crc) b) (Refused crcRefused) (Known (commandOf r b))
 
 -- "exact length (12)"; "RESET: two or more bytes", else 13
-abbrev pub readOff : Bool → List ℕ → Need → Decoded
-readOff checked b (Whole r n) = pick (not (eqb (length b) n)) (Refused lengthWrong) (checkedAs checked b r)
-readOff checked b (More k) = Refused lengthWrong
-readOff checked b (Open r) = pick (not (leb 2 (length b))) (Refused opcodeUnknown) (checkedAs checked b r)
-readOff checked b (Never n) = Refused n
+abbrev pub readOff : Bool → List ℕ → Row → Need → Decoded
+readOff checked b r (Whole n) = pick (not (eqb (length b) n)) (Refused lengthWrong) (checkedAs checked b r)
+readOff checked b r (More k) = Refused lengthWrong
+readOff checked b r Open = pick (not (leb 2 (length b))) (Refused opcodeUnknown) (checkedAs checked b r)
+readOff checked b r (Never n) = Refused n
 
+-- "unknown opcode" is 13
+abbrev pub admitListed : Channels → Bool → List ℕ → Listed → Decoded
+admitListed on checked b Unlisted = Refused opcodeUnknown
+admitListed on checked b (As r) = readOff checked b r (needRow on b r)
+
+-- "empty (12)"
 unfoldable pub admit : Channels → Bool → List ℕ → Decoded
-admit on checked b = readOff checked b (needIn on b)
+admit on checked b = pick (eqb (length b) 0) (Refused lengthWrong) (admitListed on checked b (rowOf (getD b 0 0)))

@@ -11,8 +11,8 @@ use lib.ListN.{length, getD}
 use Rattle.base.specs.Pick.{pick, pick-ind}
 use Rattle.base.specs.Bytes.{high2}
 use Rattle.command.specs.Rows.{plain, headed, counted, resets, sizeOfCode, short, rowOf}
-use Rattle.command.specs.Needs.{channelOn, cycleListed, wideCycle, addressBytes, lengthOf, allFF, needData, needListed, needIn}
-use Rattle.command.specs.Decode.{highFirst, commandOf, crcWrong, checkedAs, readOff, admit}
+use Rattle.command.specs.Needs.{channelOn, cycleListed, wideCycle, addressBytes, lengthOf, allFF, needData, needRow, needListed, needIn}
+use Rattle.command.specs.Decode.{highFirst, commandOf, crcWrong, checkedAs, readOff, admitListed, admit}
 use Rattle.command.specs.declared.Access.{Access}
 use Rattle.command.specs.declared.Access.the-variants.{IoRead, IoWrite, MemoryRead, MemoryWrite}
 use Rattle.command.specs.declared.Opcode.{Opcode}
@@ -216,9 +216,9 @@ address-few r b h = pick-ind (λ (n : ℕ). n ≤ 8) (wideCycle (r .cycle) (getD
 
 -- the bytes are as many as the need says
 abbrev pub LengthRight : Need → ℕ → Type 0
-LengthRight (Whole r n) m = m ≡ n
+LengthRight (Whole n) m = m ≡ n
 LengthRight (More k) m = ⊥
-LengthRight (Open r) m = 2 ≤ m
+LengthRight Open m = 2 ≤ m
 LengthRight (Never n) m = ⊥
 
 -- the cycle type, if it is there, is not listed
@@ -242,9 +242,9 @@ module _ (on : Channels) (b : List ℕ) where
   there true h e = refl
   there false h e = absurd (true≢false (sym (lt-ltb 1 (length b) h) ∙ e))
 
-  reset-right : (r : Row) (t : Bool) → LengthRight (pick t (Open r) (Never 13)) (length b) → 2 ≤ length b
-  reset-right r true h = h
-  reset-right r false h = absurd h
+  reset-right : (t : Bool) → LengthRight (pick t Open (Never 13)) (length b) → 2 ≤ length b
+  reset-right true h = h
+  reset-right false h = absurd h
 
   module _ (op : Opcode) where
     plain-tells : (k : Channel) (a n : ℕ) → a ≤ 4
@@ -281,7 +281,7 @@ module _ (on : Channels) (b : List ℕ) where
         readable = record { told = lit≤ tt; address = lit≤ tt };
         listed = λ _ _. refl;
         channel = λ _. tt;
-        right = reset-right _ (allFF b);
+        right = reset-right (allFF b);
         numbers = λ _. tt;
       })
       (λ n f. plain-tells (O.Short IoRead n) _ _ _ (lit≤ tt) (λ e. e) (λ h. h) (λ h. record { size = f; address = high-fits b h 2 1 }))
@@ -301,47 +301,62 @@ module _ (on : Channels) (b : List ℕ) where
     pub told : r .told ≤ length b
     pub needs : needData r b (r .carries) ≡ x
 
-  abbrev pub NeedTells : Need → Type 0
-  NeedTells (Whole r n) = Passes r (Whole r n)
-  NeedTells (More k) = (1 ≤ k) × (k ≤ 3)
-  NeedTells (Open r) = Passes r (Open r)
-  NeedTells (Never n) = (13 ≤ n) × (n ≤ 15)
+  -- what this row needs
+  abbrev pub NeedTells : Row → Need → Type 0
+  NeedTells r (Whole n) = Passes r (Whole n)
+  NeedTells r (More k) = (1 ≤ k) × (k ≤ 3)
+  NeedTells r Open = Passes r Open
+  NeedTells r (Never n) = (13 ≤ n) × (n ≤ 15)
 
-  data-tells : (r : Row) (d : Data) → r .carries ≡ d → ((x : Need) → needData r b (r .carries) ≡ x → Passes r x) → NeedTells (needData r b d)
+  data-tells : (r : Row) (d : Data) → r .carries ≡ d → ((x : Need) → needData r b (r .carries) ≡ x → Passes r x) → NeedTells r (needData r b d)
   data-tells r (Fixed n) e h = h _ (ap (needData r b) e)
   data-tells r Length e h = h _ (ap (needData r b) e)
   data-tells r Pairs e h = h _ (ap (needData r b) e)
   data-tells r Ones e h = go (allFF b) refl
     where
-      go : (t : Bool) → allFF b ≡ t → NeedTells (pick t (Open r) (Never 13))
-      go true q = h _ (ap (needData r b) e ∙ ap (λ (u : Bool). pick u (Open r) (Never 13)) q)
+      go : (t : Bool) → allFF b ≡ t → NeedTells r (pick t Open (Never 13))
+      go true q = h _ (ap (needData r b) e ∙ ap (λ (u : Bool). pick u Open (Never 13)) q)
       go false q = (omega arith, omega arith)
 
-  listed-tells : (l : Listed) → rowOf (getD b 0 0) ≡ l → ListedTells l → 1 ≤ length b → NeedTells (needListed on b l)
-  listed-tells Unlisted e w some = (omega arith, omega arith)
-  listed-tells (As r) e w some =
-      pick-ind NeedTells (not (channelOn on (r .channel))) (λ _. (omega arith, omega arith))
-      λ k. pick-ind NeedTells (cycleWrong r b) (λ _. (omega arith, omega arith))
-      λ y. pick-ind NeedTells (ltb (length b) (r .told))
-      (λ l. let h = ltb-true (length b) (r .told) l in (omega arith, omega (arith, w .readable .told)))
+  pub row-readable : (r : Row) → rowOf (getD b 0 0) ≡ As r → Readable r
+  row-readable r e = subst ListedTells e (row-tells (getD b 0 0)) .readable
+
+  pub row-needs : (r : Row) → 1 ≤ length b → rowOf (getD b 0 0) ≡ As r → NeedTells r (needRow on b r)
+  row-needs r some e =
+      let Q : Need → Type 0 = NeedTells r in
+      pick-ind Q (not (channelOn on (r .channel))) (λ _. (omega arith, omega arith))
+      λ k. pick-ind Q (cycleWrong r b) (λ _. (omega arith, omega arith))
+      λ y. pick-ind Q (ltb (length b) (r .told))
+      (λ l. let h = ltb-true (length b) (r .told) l in (omega arith, omega (arith, row-readable r e .told)))
       λ t. data-tells r (r .carries) refl
       (λ x n. record { some = some; row = e; channel = not-false (channelOn on (r .channel)) k; cycle = y; told = ltb-false (length b) (r .told) t; needs = n })
 
-  pub need-tells : NeedTells (needIn on b)
-  unfolding needIn
-  need-tells =
-      pick-ind NeedTells (eqb (length b) 0) (λ _. (omega arith, omega arith))
-      λ e. let z : length b ≡ 0 → ⊥ = eqb-false _ _ e in listed-tells (rowOf (getD b 0 0)) refl (row-tells (getD b 0 0)) (omega arith)
+  -- what the bytes need, of whichever row
+  abbrev pub Needed : Need → Type 0
+  Needed (Whole n) = (r : Row) × Passes r (Whole n)
+  Needed (More k) = (1 ≤ k) × (k ≤ 3)
+  Needed Open = (r : Row) × Passes r Open
+  Needed (Never n) = (13 ≤ n) × (n ≤ 15)
 
-  pub need-is : (x : Need) → needIn on b ≡ x → NeedTells x
-  need-is x e = subst NeedTells e need-tells
+  of-row : (r : Row) (x : Need) → NeedTells r x → Needed x
+  of-row r (Whole n) h = (r, h)
+  of-row r (More k) h = h
+  of-row r Open h = (r, h)
+  of-row r (Never n) h = h
+
+  listed-needs : (l : Listed) → rowOf (getD b 0 0) ≡ l → 1 ≤ length b → Needed (needListed on b l)
+  listed-needs Unlisted e some = (omega arith, omega arith)
+  listed-needs (As r) e some = of-row r (needRow on b r) (row-needs r some e)
+
+  pub need-is : (x : Need) → needIn on b ≡ x → Needed x
+  unfolding needIn
+  need-is x e =
+      subst Needed e (pick-ind Needed (eqb (length b) 0) (λ _. (omega arith, omega arith))
+      λ f. let z : length b ≡ 0 → ⊥ = eqb-false _ _ f in listed-needs (rowOf (getD b 0 0)) refl (omega arith))
 
   -- what the row of a need tells
   pub passes-tells : {r : Row} {x : Need} → Passes r x → RowTells on b r
   passes-tells p = subst ListedTells (p .row) (row-tells (getD b 0 0))
-
-  pub passes-ready : {r : Row} {x : Need} → Passes r x → (1 ≤ length b) × Readable r
-  passes-ready p = (p .some, passes-tells p .readable)
 
 -- ---- what let a command in
 
@@ -363,19 +378,25 @@ module _ (on : Channels) (checked : Bool) (b : List ℕ) where
       pick-ind (AdmitTells on b) (crcWrong checked (r .crc) b) (λ _. (omega arith, omega arith))
       (λ _. record { row = r; need = x; passes = p; listed = passes-tells on b p .listed (p .told) (p .cycle); right = h; same = refl })
 
-  reads-tells : (x : Need) → NeedTells on b x → AdmitTells on b (readOff checked b x)
-  reads-tells (Whole r n) p =
+  reads-tells : (r : Row) (x : Need) → NeedTells on b r x → AdmitTells on b (readOff checked b r x)
+  reads-tells r (Whole n) p =
       pick-ind (AdmitTells on b) (not (eqb (length b) n)) (λ _. (omega arith, omega arith))
-      (λ e. checked-tells r (Whole r n) p (eqb-true _ _ (not-false (eqb (length b) n) e)))
-  reads-tells (More k) p = (omega arith, omega arith)
-  reads-tells (Open r) p =
+      (λ e. checked-tells r (Whole n) p (eqb-true _ _ (not-false (eqb (length b) n) e)))
+  reads-tells r (More k) p = (omega arith, omega arith)
+  reads-tells r Open p =
       pick-ind (AdmitTells on b) (not (leb 2 (length b))) (λ _. (omega arith, omega arith))
-      (λ e. checked-tells r (Open r) p (leb-true 2 (length b) (not-false (leb 2 (length b)) e)))
-  reads-tells (Never n) p = (omega (arith, p .0), omega (arith, p .1))
+      (λ e. checked-tells r Open p (leb-true 2 (length b) (not-false (leb 2 (length b)) e)))
+  reads-tells r (Never n) p = (omega (arith, p .0), omega (arith, p .1))
+
+  listed-admits : (l : Listed) → rowOf (getD b 0 0) ≡ l → 1 ≤ length b → AdmitTells on b (admitListed on checked b l)
+  listed-admits Unlisted e some = (omega arith, omega arith)
+  listed-admits (As r) e some = reads-tells r (needRow on b r) (row-needs on b r some e)
 
   admit-tells : (d : Decoded) → admit on checked b ≡ d → AdmitTells on b d
   unfolding admit
-  admit-tells d e = subst (AdmitTells on b) e (reads-tells (needIn on b) (need-tells on b))
+  admit-tells d e =
+      subst (AdmitTells on b) e (pick-ind (AdmitTells on b) (eqb (length b) 0) (λ _. (omega arith, omega arith))
+      λ f. let z : length b ≡ 0 → ⊥ = eqb-false _ _ f in listed-admits (rowOf (getD b 0 0)) refl (omega arith))
 
 -- ---- the laws
 

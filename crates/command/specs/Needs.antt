@@ -61,10 +61,10 @@ abbrev pub wholeWith : Row → List ℕ → ℕ → ℕ
 wholeWith r b n = r .from + addressBytes r b + n + bit (r .crc)
 
 abbrev pub needData : Row → List ℕ → Data → Need
-needData r b (Fixed n) = Whole r (wholeWith r b n)
-needData r b Length = Whole r (wholeWith r b (lengthOf (getD b 2 0) (getD b 3 0)))
-needData r b Pairs = Whole r (wholeWith r b (groupCount (getD b 1 0) * 2))
-needData r b Ones = pick (allFF b) (Open r) (Never opcodeUnknown)
+needData r b (Fixed n) = Whole (wholeWith r b n)
+needData r b Length = Whole (wholeWith r b (lengthOf (getD b 2 0) (getD b 3 0)))
+needData r b Pairs = Whole (wholeWith r b (groupCount (getD b 1 0) * 2))
+needData r b Ones = pick (allFF b) Open (Never opcodeUnknown)
 
 -- "14, a missing header byte needed next (12) or 15, exact length (12)"
 abbrev pub needRow : Channels → List ℕ → Row → Need

@@ -7,13 +7,13 @@ use mathlib.Core.Logic.{_⊎_, inl, inr}
 use mathlib.Core.Path.{_≡_, refl, sym, ap, subst, _∙_}
 use native.Mathlib.Omega.{arith}
 use borrow.Author.Tests.{lt-ltb, le-ltb, ltb-true, ltb-false, le-leb, eq-eqb, ne-eqb, not-false}
-use lib.Dec.{eqb, ltb, lit≤}
+use lib.Dec.{eqb, ltb, leb, lit≤}
 use lib.ListN.{length, getD, take, length-append, length-take, List·getD-append}
 use lib.Seq.{getD-take}
 use Rattle.base.specs.Pick.{pick, pick-ind, taken, passed, and-left, and-right, and-true}
 use Rattle.command.specs.Rows.{plain, rowOf}
 use Rattle.command.specs.Needs.{channelOn, cycleListed, allFF, needData, needRow, needListed, needIn}
-use Rattle.command.specs.Decode.{checkedAs, readOff, admit}
+use Rattle.command.specs.Decode.{crcGood, checkedAs, readOff, admitListed, admit}
 use Rattle.command.specs.Facts.{IsBytes, SizeFits, length-fits, by-row, cycleWrong, Passes, need-is, passes-tells, ListedTells, row-tells}
 use Rattle.command.specs.declared.Opcode.{Opcode}
 use Rattle.command.specs.declared.Channels.{Channels}
@@ -26,6 +26,7 @@ use Rattle.command.specs.declared.Listed.{Listed}
 use Rattle.command.specs.declared.Listed.the-variants.{As, Unlisted}
 use Rattle.command.specs.declared.Need.{Need}
 use Rattle.command.specs.declared.Need.the-variants.{Whole, More, Open, Never}
+use Rattle.command.specs.declared.Command.{Command}
 use Rattle.command.specs.declared.Command.the-variants as C
 use Rattle.command.specs.declared.Decoded.{Decoded}
 use Rattle.command.specs.declared.Decoded.the-variants.{Known, Refused}
@@ -45,44 +46,54 @@ overlong on (As r) t ff =
     (pick (not (cycleListed (r .cycle) t)) (Refused 15)
     (endless (r .carries) ff))
 
+-- ---- what is needed decides what is read
+
+abbrev pub ReadsOff : Bool → List ℕ → Need → Decoded → Type 0
+ReadsOff checked b (Whole n) d =
+    (c : Command) × (d ≡ pick (not (eqb (length b) n)) (Refused 12) (pick (checked && not (crcGood b)) (Refused 16) (Known c)))
+ReadsOff checked b (More k) d = d ≡ Refused 12
+ReadsOff checked b Open d = d ≡ pick (not (leb 2 (length b))) (Refused 13) (Known C.Reset)
+ReadsOff checked b (Never n) d = d ≡ Refused n
+
 -- ---- the laws
 
 pub record Prefix (on : Channels) : Type 0 where
-  pub wholeStays : (b c : List ℕ) (r : Row) (n : ℕ) → needIn on b ≡ Whole r n → needIn on (b ++ c) ≡ Whole r n
+  pub wholeStays : (b c : List ℕ) (n : ℕ) → needIn on b ≡ Whole n → needIn on (b ++ c) ≡ Whole n
   pub neverStays : (b c : List ℕ) (n : ℕ) → needIn on b ≡ Never n → needIn on (b ++ c) ≡ Never n
   -- with fewer than were asked for, the rest is asked for, or the cycle type has come and is not listed
   pub moreLeft : (b c : List ℕ) (k : ℕ) → needIn on b ≡ More k → length c < k
       → (needIn on (b ++ c) ≡ More (k - length c)) ⊎ (needIn on (b ++ c) ≡ Never 15)
   pub moreFew : (b : List ℕ) (k : ℕ) → needIn on b ≡ More k → (1 ≤ k) × (k ≤ 3)
-  pub wholeFits : (b : List ℕ) (r : Row) (n : ℕ) → IsBytes b → needIn on b ≡ Whole r n → (2 ≤ n) × (n ≤ 4109)
-  pub wholeInFour : (b : List ℕ) (r : Row) (n : ℕ) → needIn on b ≡ Whole r n → needIn on (take 4 b) ≡ Whole r n
+  pub wholeFits : (b : List ℕ) (n : ℕ) → IsBytes b → needIn on b ≡ Whole n → (2 ≤ n) × (n ≤ 4109)
+  pub wholeInFour : (b : List ℕ) (n : ℕ) → needIn on b ≡ Whole n → needIn on (take 4 b) ≡ Whole n
+  pub readsOff : (checked : Bool) (b : List ℕ) → ReadsOff checked b (needIn on b) (admit on checked b)
   pub over : (checked : Bool) (b : List ℕ) → IsBytes b → 4109 < length b
       → admit on checked b ≡ overlong on (rowOf (getD b 0 0)) (getD b 1 0) (allFF b)
 
 -- ---- which need
 
 abbrev isWhole : Need → Bool
-isWhole (Whole r n) = true
+isWhole (Whole n) = true
 isWhole (More k) = false
-isWhole (Open r) = false
+isWhole Open = false
 isWhole (Never n) = false
 
 abbrev isMore : Need → Bool
-isMore (Whole r n) = false
+isMore (Whole n) = false
 isMore (More k) = true
-isMore (Open r) = false
+isMore Open = false
 isMore (Never n) = false
 
 abbrev isOpen : Need → Bool
-isOpen (Whole r n) = false
+isOpen (Whole n) = false
 isOpen (More k) = false
-isOpen (Open r) = true
+isOpen Open = true
 isOpen (Never n) = false
 
 abbrev kOf : Need → ℕ
-kOf (Whole r n) = 0
+kOf (Whole n) = 0
 kOf (More k) = k
-kOf (Open r) = 0
+kOf Open = 0
 kOf (Never n) = 0
 
 not-more : {x : Need} {k : ℕ} → isMore x ≡ false → x ≡ More k → ⊥
@@ -103,7 +114,7 @@ Alike n b d = (i : ℕ) → i < n → getD d i 0 ≡ getD b i 0
 
 record RowReads (b d : List ℕ) (r : Row) : Type 0 where
   cycle : cycleListed (r .cycle) (getD d 1 0) ≡ cycleListed (r .cycle) (getD b 1 0)
-  whole : (x : Row) (n : ℕ) → needData r b (r .carries) ≡ Whole x n → needData r d (r .carries) ≡ Whole x n
+  whole : (n : ℕ) → needData r b (r .carries) ≡ Whole n → needData r d (r .carries) ≡ Whole n
   never : (allFF b ≡ false → allFF d ≡ false) → (n : ℕ) → needData r b (r .carries) ≡ Never n → needData r d (r .carries) ≡ Never n
 
 module _ (b d : List ℕ) where
@@ -112,16 +123,15 @@ module _ (b d : List ℕ) where
   ListedReads Unlisted = Unit {0}
 
   plain-reads : (op : Opcode) (k : Channel) (a n : ℕ) → ListedReads (plain op k a n)
-  plain-reads op k a n = (lit≤ tt, λ _. record { cycle = refl; whole = λ x m e. e; never = λ _ m e. absurd (not-whole refl e) })
+  plain-reads op k a n = (lit≤ tt, λ _. record { cycle = refl; whole = λ m e. e; never = λ _ m e. absurd (not-whole refl e) })
 
-  reset-whole : (r x : Row) (n : ℕ) (t : Bool) (y : Need) → pick t (Open r) (Never 13) ≡ Whole x n → y ≡ Whole x n
-  reset-whole r x n true y e = absurd (true≢false (sym (ap isWhole e)))
-  reset-whole r x n false y e = absurd (true≢false (sym (ap isWhole e)))
+  reset-whole : (n : ℕ) (t : Bool) (y : Need) → pick t Open (Never 13) ≡ Whole n → y ≡ Whole n
+  reset-whole n true y e = absurd (true≢false (sym (ap isWhole e)))
+  reset-whole n false y e = absurd (true≢false (sym (ap isWhole e)))
 
-  reset-never : (r : Row) (n : ℕ) (t u : Bool) → (t ≡ false → u ≡ false)
-      → pick t (Open r) (Never 13) ≡ Never n → pick u (Open r) (Never 13) ≡ Never n
-  reset-never r n true u h e = absurd (true≢false (ap isOpen e))
-  reset-never r n false u h e = ap (λ (v : Bool). pick v (Open r) (Never 13)) (h refl) ∙ e
+  reset-never : (n : ℕ) (t u : Bool) → (t ≡ false → u ≡ false) → pick t Open (Never 13) ≡ Never n → pick u Open (Never 13) ≡ Never n
+  reset-never n true u h e = absurd (true≢false (ap isOpen e))
+  reset-never n false u h e = ap (λ (v : Bool). pick v Open (Never 13)) (h refl) ∙ e
 
   rows-read : (op : ℕ) → ListedReads (rowOf op)
   rows-read =
@@ -129,7 +139,7 @@ module _ (b d : List ℕ) where
         lit≤ tt,
         λ h. record {
           cycle = ap (cycleListed (Types 1 3)) (h 1 (omega arith));
-          whole = λ x n e. rw (h 1 (omega arith), h 2 (omega arith), h 3 (omega arith)) e;
+          whole = λ n e. rw (h 1 (omega arith), h 2 (omega arith), h 3 (omega arith)) e;
           never = λ _ n e. absurd (not-whole refl e);
         },
       )
@@ -137,16 +147,16 @@ module _ (b d : List ℕ) where
         lit≤ tt,
         λ h. record {
           cycle = ap (cycleListed (Types 0 2)) (h 1 (omega arith));
-          whole = λ x n e. rw (h 1 (omega arith)) e;
+          whole = λ n e. rw (h 1 (omega arith)) e;
           never = λ _ n e. absurd (not-whole refl e);
         },
       )
-      (lit≤ tt, λ h. record { cycle = refl; whole = λ x n e. rw (h 1 (omega arith)) e; never = λ _ n e. absurd (not-whole refl e) })
+      (lit≤ tt, λ h. record { cycle = refl; whole = λ n e. rw (h 1 (omega arith)) e; never = λ _ n e. absurd (not-whole refl e) })
       (plain-reads _ _ _ _)
       (plain-reads _ _ _ _)
       (plain-reads _ _ _ _)
       (plain-reads _ _ _ _)
-      (lit≤ tt, λ h. record { cycle = refl; whole = λ x n. reset-whole _ x n (allFF b) _; never = λ f n. reset-never _ n (allFF b) (allFF d) f })
+      (lit≤ tt, λ h. record { cycle = refl; whole = λ n. reset-whole n (allFF b) _; never = λ f n. reset-never n (allFF b) (allFF d) f })
       (λ n _. plain-reads _ _ _ _)
       (λ n _. plain-reads _ _ _ _)
       (λ n _. plain-reads _ _ _ _)
@@ -190,11 +200,12 @@ module _ (on : Channels) where
         ∙ sym (passed _ _ (ap not (p .channel)) (passed _ _ (ap (λ (t : Bool). not t && ltb 1 (length d)) z)
         (passed _ _ (le-ltb (length d) (r .told) l) (sym e))))
 
-    whole-alike : (n : ℕ) → needIn on b ≡ Whole r n → (r .told ≤ length b → Alike (r .told) b d)
-        → (r .told ≤ length b → r .told ≤ length d) → needIn on d ≡ Whole r n
-    whole-alike n e h l =
-        let p = need-is on b (Whole r n) e in
-        through p (h (p .told)) (l (p .told)) (row-reads (p .row) .1 (h (p .told)) .whole r n (p .needs))
+  -- so few bytes tell it
+  whole-alike : (b d : List ℕ) (n : ℕ) → needIn on b ≡ Whole n → ((k : ℕ) → k ≤ 4 → k ≤ length b → Alike k b d × (k ≤ length d)) → needIn on d ≡ Whole n
+  whole-alike b d n e h =
+      let (r, p) = need-is on b (Whole n) e in
+      let (a, l) = h (r .told) (passes-tells on b p .readable .told) (p .told) in
+      through b d r p a l (row-reads b d r (p .row) .1 a .whole n (p .needs))
 
   module _ (b c : List ℕ) where
     longer : length b ≤ length (b ++ c)
@@ -203,8 +214,8 @@ module _ (on : Channels) where
     append-alike : (n : ℕ) → n ≤ length b → Alike n b (b ++ c)
     append-alike n h i l = List·getD-append b c 0 i (omega arith)
 
-    whole-stays : (r : Row) (n : ℕ) → needIn on b ≡ Whole r n → needIn on (b ++ c) ≡ Whole r n
-    whole-stays r n e = whole-alike b (b ++ c) r n e (append-alike (r .told)) (λ h. omega (arith, longer))
+    whole-stays : (n : ℕ) → needIn on b ≡ Whole n → needIn on (b ++ c) ≡ Whole n
+    whole-stays n e = whole-alike b (b ++ c) n e (λ k _ l. (append-alike k l, omega (arith, longer)))
 
     -- a cycle type that is not listed stays so
     wrong-stays : (r : Row) → cycleWrong r b ≡ true → cycleWrong r (b ++ c) ≡ true
@@ -242,7 +253,7 @@ module _ (on : Channels) where
     data-more r Pairs k = not-more refl
     data-more r Ones k = go (allFF b)
       where
-        go : (t : Bool) → pick t (Open r) (Never 13) ≡ More k → ⊥
+        go : (t : Bool) → pick t Open (Never 13) ≡ More k → ⊥
         go true = not-more refl
         go false = not-more refl
 
@@ -276,77 +287,108 @@ module _ (on : Channels) where
         inl (need-none (b ++ c) (omega (arith, length-append b c)) ∙ ap More (omega arith)))
         (λ s. listed-more k (rowOf (getD b 0 0)) s refl h (sym (need-some b s) ∙ e))
 
-  whole-four : (b : List ℕ) (r : Row) (n : ℕ) → needIn on b ≡ Whole r n → needIn on (take 4 b) ≡ Whole r n
-  whole-four b r n e =
-      let w = passes-tells on b (need-is on b (Whole r n) e) .readable .told in
-      whole-alike b (take 4 b) r n e (λ _ i l. getD-take 4 b i 0 (omega arith)) (λ h. omega (arith, length-take 4 b))
+  whole-four : (b : List ℕ) (n : ℕ) → needIn on b ≡ Whole n → needIn on (take 4 b) ≡ Whole n
+  whole-four b n e = whole-alike b (take 4 b) n e (λ k f l. (λ i h. getD-take 4 b i 0 (omega arith), omega (arith, length-take 4 b)))
+
+-- ---- the decoder reads off what is needed
+
+module _ (checked : Bool) (b : List ℕ) where
+  abbrev Says : Listed → Type 0
+  Says (As r) = ReadsOff checked b (needData r b (r .carries)) (readOff checked b r (needData r b (r .carries)))
+  Says Unlisted = Unit {0}
+
+  reset-says : (r : Row) (t : Bool) → checkedAs checked b r ≡ Known C.Reset
+      → ReadsOff checked b (pick t Open (Never 13)) (readOff checked b r (pick t Open (Never 13)))
+  reset-says r true e = ap (pick (not (leb 2 (length b))) (Refused 13)) e
+  reset-says r false e = refl
+
+  row-says : (op : ℕ) → Says (rowOf op)
+  row-says =
+      by-row Says (_, refl) (_, refl) (_, refl) (_, refl) (_, refl) (_, refl) (_, refl) (_, refl)
+      (reset-says _ (allFF b) (sym (passed _ _ (and-false checked) refl)))
+      (λ n _. (_, refl)) (λ n _. (_, refl)) (λ n _. (_, refl)) (λ n _. (_, refl)) tt
+
+  module _ (on : Channels) where
+    listed-says : (l : Listed) → rowOf (getD b 0 0) ≡ l → ReadsOff checked b (needListed on b l) (admitListed on checked b l)
+    listed-says Unlisted e = refl
+    listed-says (As r) e =
+        let Q : Need → Type 0 = λ x. ReadsOff checked b x (readOff checked b r x) in
+        pick-ind Q (not (channelOn on (r .channel))) (λ _. refl)
+        λ _. pick-ind Q (cycleWrong r b) (λ _. refl)
+        λ _. pick-ind Q (ltb (length b) (r .told)) (λ _. refl)
+        λ _. subst Says e (row-says (getD b 0 0))
+
+    reads-off : ReadsOff checked b (needIn on b) (admit on checked b)
+    unfolding needIn admit
+    reads-off = go (eqb (length b) 0)
+      where
+        go : (t : Bool) → ReadsOff checked b (pick t (More 1) (needListed on b (rowOf (getD b 0 0))))
+            (pick t (Refused 12) (admitListed on checked b (rowOf (getD b 0 0))))
+        go true = refl
+        go false = listed-says (rowOf (getD b 0 0)) refl
 
 -- ---- how many bytes at most
 
 module _ (on : Channels) (checked : Bool) (b : List ℕ) (bytes : IsBytes b) where
   abbrev Fits : Need → Type 0
-  Fits (Whole r n) = (2 ≤ n) × (n ≤ 4109)
+  Fits (Whole n) = (2 ≤ n) × (n ≤ 4109)
   Fits (More k) = Unit {0}
-  Fits (Open r) = Unit {0}
+  Fits Open = Unit {0}
   Fits (Never n) = Unit {0}
 
-  record RowEnds (r : Row) : Type 0 where
-    fits : Fits (needData r b (r .carries))
-    over : 4109 < length b → readOff checked b (needData r b (r .carries)) ≡ endless (r .carries) (allFF b)
-
   abbrev Ends : Listed → Type 0
-  Ends (As r) = RowEnds r
+  Ends (As r) = Fits (needData r b (r .carries))
   Ends Unlisted = Unit {0}
-
-  whole-ends : (r : Row) (n : ℕ) → Whole r n ≡ needData r b (r .carries) → Refused 12 ≡ endless (r .carries) (allFF b)
-      → 2 ≤ n → n ≤ 4109 → RowEnds r
-  whole-ends r n e f l m =
-      record {
-        fits = subst Fits e (l, m);
-        over = λ h. ap (readOff checked b) (sym e) ∙ sym (taken _ _ (ap not (ne-eqb (length b) n (λ q. omega arith))) refl) ∙ f;
-      }
 
   small : (n : ℕ) → SizeFits n → n ≤ 4
   small n (inl e) = omega arith
   small n (inr (inl e)) = omega arith
   small n (inr (inr e)) = omega arith
 
-  plain-ends : (op : Opcode) (k : Channel) (a n : ℕ) → a ≤ 4 → n ≤ 4 → Ends (plain op k a n)
-  plain-ends op k a n h l = whole-ends _ _ refl refl (omega arith) (omega arith)
-
   wide-most : (t : Bool) → pick t 8 4 ≤ 8
   wide-most true = omega arith
   wide-most false = omega arith
 
-  open-fits : (r : Row) (t : Bool) → Fits (pick t (Open r) (Never 13))
-  open-fits r true = tt
-  open-fits r false = tt
-
-  open-over : (r : Row) (t : Bool) → checkedAs checked b r ≡ Known C.Reset → 4109 < length b
-      → readOff checked b (pick t (Open r) (Never 13)) ≡ pick t (Known C.Reset) (Refused 13)
-  open-over r true e h = sym (passed _ _ (ap not (le-leb 2 (length b) (omega arith))) (sym e))
-  open-over r false e h = refl
+  open-fits : (t : Bool) → Fits (pick t Open (Never 13))
+  open-fits true = tt
+  open-fits false = tt
 
   row-ends : (op : ℕ) → Ends (rowOf op)
   row-ends =
       by-row Ends
-      (whole-ends _ _ refl refl (omega arith) (omega (arith, wide-most (eqb (getD b 1 0) 3), length-fits (getD b 2 0) (getD b 3 0) (bytes 3) .1)))
-      (plain-ends _ _ _ _ (lit≤ tt) (lit≤ tt))
-      (whole-ends _ _ refl refl (omega arith) (omega (arith, wide-most (eqb (getD b 1 0) 2))))
-      (whole-ends _ _ refl refl (omega arith) (omega arith))
-      (plain-ends _ _ _ _ (lit≤ tt) (lit≤ tt))
-      (plain-ends _ _ _ _ (lit≤ tt) (lit≤ tt))
-      (plain-ends _ _ _ _ (lit≤ tt) (lit≤ tt))
-      (plain-ends _ _ _ _ (lit≤ tt) (lit≤ tt))
-      (record { fits = open-fits _ (allFF b); over = open-over _ (allFF b) (sym (passed _ _ (and-false checked) refl)) })
-      (λ n f. plain-ends _ _ _ _ (lit≤ tt) (lit≤ tt))
-      (λ n f. plain-ends _ _ _ _ (lit≤ tt) (small n f))
-      (λ n f. plain-ends _ _ _ _ (lit≤ tt) (lit≤ tt))
-      (λ n f. plain-ends _ _ _ _ (lit≤ tt) (small n f))
+      (omega arith, omega (arith, wide-most (eqb (getD b 1 0) 3), length-fits (getD b 2 0) (getD b 3 0) (bytes 3) .1))
+      (lit≤ tt, lit≤ tt)
+      (omega arith, omega (arith, wide-most (eqb (getD b 1 0) 2)))
+      (omega arith, omega arith)
+      (lit≤ tt, lit≤ tt)
+      (lit≤ tt, lit≤ tt)
+      (lit≤ tt, lit≤ tt)
+      (lit≤ tt, lit≤ tt)
+      (open-fits (allFF b))
+      (λ n f. (lit≤ tt, lit≤ tt))
+      (λ n f. (omega arith, omega (arith, small n f)))
+      (λ n f. (lit≤ tt, lit≤ tt))
+      (λ n f. (omega arith, omega (arith, small n f)))
       tt
 
-  whole-fits : (r : Row) (n : ℕ) → needIn on b ≡ Whole r n → (2 ≤ n) × (n ≤ 4109)
-  whole-fits r n e = let p = need-is on b (Whole r n) e in subst Fits (p .needs) (subst Ends (p .row) (row-ends (getD b 0 0)) .fits)
+  -- none has so many bytes, but a RESET
+  whole-over : (r : Row) (n : ℕ) → n ≤ 4109 → 4109 < length b → readOff checked b r (Whole n) ≡ Refused 12
+  whole-over r n m h = sym (taken _ _ (ap not (ne-eqb (length b) n (λ q. omega arith))) refl)
+
+  data-over : (r : Row) (d : Data) → Fits (needData r b d) → ReadsOff checked b (needData r b d) (readOff checked b r (needData r b d))
+      → 4109 < length b → readOff checked b r (needData r b d) ≡ endless d (allFF b)
+  data-over r (Fixed n) f w h = whole-over r _ (f .1) h
+  data-over r Length f w h = whole-over r _ (f .1) h
+  data-over r Pairs f w h = whole-over r _ (f .1) h
+  data-over r Ones f w h = go (allFF b) w
+    where
+      go : (t : Bool) → ReadsOff checked b (pick t Open (Never 13)) (readOff checked b r (pick t Open (Never 13)))
+          → readOff checked b r (pick t Open (Never 13)) ≡ pick t (Known C.Reset) (Refused 13)
+      go true e = e ∙ sym (passed _ _ (ap not (le-leb 2 (length b) (omega arith))) refl)
+      go false e = refl
+
+  whole-fits : (n : ℕ) → needIn on b ≡ Whole n → (2 ≤ n) × (n ≤ 4109)
+  whole-fits n e = let p = need-is on b (Whole n) e .1 in subst Fits (p .needs) (subst Ends (p .row) (row-ends (getD b 0 0)))
 
   -- the second byte is there
   there : (t u : Bool) → u ≡ true → t && u ≡ t
@@ -360,21 +402,21 @@ module _ (on : Channels) (checked : Bool) (b : List ℕ) (bytes : IsBytes b) whe
       go true = g
       go false = h
 
-  listed-over : (l : Listed) → ListedTells on b l → Ends l → 4109 < length b
-      → readOff checked b (needListed on b l) ≡ overlong on l (getD b 1 0) (allFF b)
-  listed-over Unlisted w q h = refl
-  listed-over (As r) w q h =
-      let f = readOff checked b in
+  listed-over : (l : Listed) → ListedTells on b l → Ends l → Says checked b l → 4109 < length b
+      → admitListed on checked b l ≡ overlong on l (getD b 1 0) (allFF b)
+  listed-over Unlisted w q x h = refl
+  listed-over (As r) w q x h =
+      let f = readOff checked b r in
       let all : ltb (length b) (r .told) ≡ false = le-ltb (length b) (r .told) (omega (arith, w .readable .told)) in
       along f (not (channelOn on (r .channel))) _ refl refl
       (along f (cycleWrong r b) _ (there (not (cycleListed (r .cycle) (getD b 1 0))) (ltb 1 (length b)) (lt-ltb 1 (length b) (omega arith))) refl
-      (ap (λ (t : Bool). f (pick t (More (r .told - length b)) (needData r b (r .carries)))) all ∙ q .over h))
+      (ap (λ (t : Bool). f (pick t (More (r .told - length b)) (needData r b (r .carries)))) all ∙ data-over r (r .carries) q x h))
 
   too-many : 4109 < length b → admit on checked b ≡ overlong on (rowOf (getD b 0 0)) (getD b 1 0) (allFF b)
   unfolding admit
   too-many h =
-      ap (readOff checked b) (need-some on b (omega arith))
-      ∙ listed-over (rowOf (getD b 0 0)) (row-tells on b (getD b 0 0)) (row-ends (getD b 0 0)) h
+      sym (passed _ _ (ne-eqb (length b) 0 (λ e. omega arith)) refl)
+      ∙ listed-over (rowOf (getD b 0 0)) (row-tells on b (getD b 0 0)) (row-ends (getD b 0 0)) (row-says checked b (getD b 0 0)) h
 
 pub prefix : (on : Channels) → Prefix on
 prefix on =
@@ -383,7 +425,8 @@ prefix on =
       neverStays = never-stays on;
       moreLeft = more-left on;
       moreFew = λ b k. need-is on b (More k);
-      wholeFits = λ b r n h. whole-fits on false b h r n;
+      wholeFits = λ b n h. whole-fits on false b h n;
       wholeInFour = whole-four on;
+      readsOff = λ checked b. reads-off checked b on;
       over = too-many on;
     }

@@ -4,8 +4,10 @@ ghost use Prim.Native.Nat.{_^_, _≤_, _<_};
 ghost use lib.ListN.{length, getD};
 ghost use Rattle.command.specs.Rows.{plain, headed, sizeOfCode, short, rowOf};
 ghost use Rattle.command.specs.Needs.{channelOn, cycleListed, wideCycle, addressBytes, lengthOf, groupCount, allFF, wholeWith, needData, needRow, needIn};
-ghost use Rattle.command.specs.Decode.{highFirst, addressIn, headOf, registerAddress, registerData, commandOf, crcGood, crcWrong, checkedAs, admit};
+ghost use Rattle.command.specs.Decode.{highFirst, addressIn, headOf, registerAddress, registerData, commandOf, crcGood, crcWrong, checkedAs, readOff, admit};
 ghost use Rattle.command.specs.Facts.{Readable};
+ghost use Rattle.command.specs.Laws.{refusal};
+ghost use Rattle.command.specs.declared.Listed.the-variants.{As};
 
 // The numbers of the decoder's refusals.
 const LENGTH_WRONG: u8 = 12;
@@ -92,11 +94,11 @@ pub enum Listed {
 // What the first bytes of a command need.
 pub enum Need {
     // So many bytes in all.
-    Whole(Row, u32),
+    Whole(u32),
     // So many more before that is known.
     More(u32),
     // RESET: two or more, known only at the end.
-    Open(Row),
+    Open,
     // No command begins like this: the number of the refusal.
     Never(u8),
 }
@@ -338,12 +340,12 @@ fn need_data(r: Row, b: &[u8]) -> Need
 {
     let carries = r.carries;
     match carries {
-        Data::Fixed(n) => Need::Whole(r, whole_with(r, b, n as u32)),
-        Data::Length => Need::Whole(r, whole_with(r, b, length_of(byte_at(b, 2), byte_at(b, 3)))),
-        Data::Pairs => Need::Whole(r, whole_with(r, b, group_count(byte_at(b, 1)) * 2)),
+        Data::Fixed(n) => Need::Whole(whole_with(r, b, n as u32)),
+        Data::Length => Need::Whole(whole_with(r, b, length_of(byte_at(b, 2), byte_at(b, 3)))),
+        Data::Pairs => Need::Whole(whole_with(r, b, group_count(byte_at(b, 1)) * 2)),
         Data::Ones => {
             if all_ff(b) {
-                return Need::Open(r);
+                return Need::Open;
             }
             Need::Never(OPCODE_UNKNOWN)
         }
@@ -488,25 +490,49 @@ fn checked_as(checked: bool, b: &[u8], r: Row) -> Decoded
     Decoded::Known(command_of(r, b))
 }
 
+// The number of the refusal of so many bytes that need this; 0: none.
+fn refusal(need: Need, n: usize) -> u8
+    ensures { λ r. ⌜ r ≡ refusal need n ⌝ }
+{
+    match need {
+        Need::Whole(m) => {
+            if n != (m as usize) {
+                return LENGTH_WRONG;
+            }
+            0
+        }
+        Need::More(_) => LENGTH_WRONG,
+        Need::Open => {
+            if n < 2 {
+                return OPCODE_UNKNOWN;
+            }
+            0
+        }
+        Need::Never(k) => k,
+    }
+}
+
+fn admit_as(on: Channels, checked: bool, b: &[u8], r: Row) -> Decoded
+    requires { ⌜ (1 ≤ length (now b)) × (rowOf (getD (now b) 0 0) ≡ As r) ⌝ }
+    ensures { λ d. ⌜ d ≡ readOff checked (now (b .entry)) r (needRow on (now (b .entry)) r) ⌝ }
+{
+    let n = refusal(need_row(on, b, r), b.len());
+    if n != 0 {
+        return Decoded::Refused(n);
+    }
+    checked_as(checked, b, r)
+}
+
 // The command that the bytes are, or the number of the refusal: 12 to 16 in document 01's order.
 pub fn admit(on: Channels, checked: bool, b: &[u8]) -> Decoded
     ensures { λ r. ⌜ r ≡ admit on checked (now (b .entry)) ⌝ }
 {
-    let need = need_in(on, b);
-    match need {
-        Need::Whole(r, n) => {
-            if b.len() != (n as usize) {
-                return Decoded::Refused(LENGTH_WRONG);
-            }
-            checked_as(checked, b, r)
-        }
-        Need::More(_) => Decoded::Refused(LENGTH_WRONG),
-        Need::Open(r) => {
-            if b.len() < 2 {
-                return Decoded::Refused(OPCODE_UNKNOWN);
-            }
-            checked_as(checked, b, r)
-        }
-        Need::Never(n) => Decoded::Refused(n),
+    if b.len() == 0 {
+        return Decoded::Refused(LENGTH_WRONG);
+    }
+    let listed = row_of(b[0]);
+    match listed {
+        Listed::As(r) => admit_as(on, checked, b, r),
+        Listed::Unlisted => Decoded::Refused(OPCODE_UNKNOWN),
     }
 }

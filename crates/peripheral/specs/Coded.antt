@@ -1,5 +1,5 @@
 -- How the code decides what a definition says in another way: the laws that its proofs cite.
-use Prim.Native.Nat.{ℕ, zero, suc, _+_, _^_, _≤_, _<_}
+use Prim.Native.Nat.{ℕ, zero, suc, _+_, _%_, _^_, _≤_, _<_}
 use mathlib.Core.Bool.{Bool, true, false, not, _&&_, _||_}
 use mathlib.Core.List.{List, _++_, append-assoc}
 use mathlib.Core.Path.{_≡_, refl, sym, ap, subst, _∙_}
@@ -46,10 +46,10 @@ io-short q e = and-right (ltb (q .address) (2 ^ 16)) _ (and-right (eqb (q .tag) 
 
 -- what the cutting of the next piece asks for
 pub piece-facts : (n : Np) (q : Request) (sent : ℕ) → soundRequest n ≡ true → n ≡ Ready q sent
-    → (sent < q .length) × (q .length ≤ 4096) × (1 ≤ q .payload) × (q .payload ≤ 4096)
+    → (sent < q .length) × (q .length ≤ 4096) × (1 ≤ q .payload) × (4096 % q .payload ≡ 0)
 piece-facts n q sent e h =
     let r = ready-request q sent (subst (λ (z : Np). soundRequest z ≡ true) h e) in
-    (r .short, r .made .most, omega (arith, r .made .payload .least), omega (arith, r .made .payload .most))
+    (r .short, r .made .most, omega (arith, r .made .payload .least), r .made .payload .divides)
 
 -- what is held after a piece of n bytes, as the code decides it
 pub piece-last : (q : Request) (sent n : ℕ) → n ≡ nextOf q sent → sent + n ≡ q .length → Free ≡ afterPiece q sent

@@ -29,12 +29,14 @@ use Rattle.peripheral.specs.Sound.{within, shortSize, ioMade, madeAs, re
 pub record LegalPayload (p : ℕ) : Type 0 where
   pub least : 64 ≤ p
   pub most : p ≤ 256
+  pub divides : 4096 % p ≡ 0
 
 pub legal-payload : (p : ℕ) → payloadLegal p ≡ true → LegalPayload p
-legal-payload = payload-cases LegalPayload (is (omega arith) (omega arith)) (is (omega arith) (omega arith)) (is (omega arith) (omega arith))
+legal-payload =
+    payload-cases LegalPayload (is (omega arith) (omega arith) refl) (is (omega arith) (omega arith) refl) (is (omega arith) (omega arith) refl)
   where
-    is : {p : ℕ} → 64 ≤ p → p ≤ 256 → LegalPayload p
-    is l m = record { least = l; most = m }
+    is : {p : ℕ} → 64 ≤ p → p ≤ 256 → 4096 % p ≡ 0 → LegalPayload p
+    is l m d = record { least = l; most = m; divides = d }
 
 pub record LegalRead (p : ℕ) : Type 0 where
   pub least : 64 ≤ p

@@ -1,7 +1,7 @@
 // Channel 0: the held write and request, what GET_PC hands over of them. A status bit is computed from its queue, never stored beside it.
 ghost use mathlib.Core.Path.{_≡_};
 ghost use mathlib.Core.Bool.{true, _&&_};
-ghost use Prim.Native.Nat.{_+_, _*_, _^_, _≤_, _<_};
+ghost use Prim.Native.Nat.{_+_, _*_, _%_, _^_, _≤_, _<_};
 ghost use lib.Dec.{eqb, ltb, leb};
 ghost use lib.ListN.{length};
 ghost use Rattle.base.specs.Bytes.{put};
@@ -127,12 +127,11 @@ fn bare(cycle: u8, q: Request) -> Completion
 }
 
 fn piece_of(q: Request, sent: u32) -> Completion
-    requires { ⌜ (sent < q .length) × (q .length ≤ 4096) × (1 ≤ q .payload) × (q .payload ≤ 4096) ⌝ }
+    requires { ⌜ (sent < q .length) × (q .length ≤ 4096) × (1 ≤ q .payload) × (4096 % q .payload ≡ 0) ⌝ }
     ensures { λ r. ⌜ r ≡ pieceOf q sent ⌝ }
 {
-    let mark = pieces::next_mark(q.address, q.length, q.payload, sent);
-    let cycle = pieces::mark_type(mark);
     let length = pieces::next_size(q.address, q.length, q.payload, sent);
+    let cycle = pieces::mark_type(pieces::mark_of(sent == 0, sent + length == q.length));
     Completion {
         cycle,
         tag: q.tag,
@@ -142,7 +141,7 @@ fn piece_of(q: Request, sent: u32) -> Completion
 }
 
 fn success_of(q: Request, sent: u32) -> Completion
-    requires { ⌜ (sent < q .length) × (q .length ≤ 4096) × (1 ≤ q .payload) × (q .payload ≤ 4096) ⌝ }
+    requires { ⌜ (sent < q .length) × (q .length ≤ 4096) × (1 ≤ q .payload) × (4096 % q .payload ≡ 0) ⌝ }
     ensures { λ r. ⌜ r ≡ successOf (q .kind) q sent ⌝ }
 {
     let k = q.kind;
@@ -167,7 +166,7 @@ pub fn next_completion(n: Np) -> Next
 
 // The place is free once the last piece is handed over, and not before.
 fn after_piece(q: Request, sent: u32) -> Np
-    requires { ⌜ (sent < q .length) × (q .length ≤ 4096) × (1 ≤ q .payload) × (q .payload ≤ 4096) ⌝ }
+    requires { ⌜ (sent < q .length) × (q .length ≤ 4096) × (1 ≤ q .payload) × (4096 % q .payload ≡ 0) ⌝ }
     ensures { λ r. ⌜ r ≡ afterPiece q sent ⌝ }
 {
     let gone = sent + pieces::next_size(q.address, q.length, q.payload, sent);
@@ -178,7 +177,7 @@ fn after_piece(q: Request, sent: u32) -> Np
 }
 
 fn after_success(q: Request, sent: u32) -> Np
-    requires { ⌜ (sent < q .length) × (q .length ≤ 4096) × (1 ≤ q .payload) × (q .payload ≤ 4096) ⌝ }
+    requires { ⌜ (sent < q .length) × (q .length ≤ 4096) × (1 ≤ q .payload) × (4096 % q .payload ≡ 0) ⌝ }
     ensures { λ r. ⌜ r ≡ afterSuccess (q .kind) q sent ⌝ }
 {
     let k = q.kind;

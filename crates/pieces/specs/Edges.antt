@@ -2,8 +2,8 @@
 use Prim.Native.Nat.{ℕ, zero, suc, _+_, _-_, _*_, _/_, _%_, _≤_, _<_}
 use mathlib.Core.Bool.{Bool, true, false}
 use mathlib.Core.Logic.{_≢_, _⊎_, inl, inr}
-use mathlib.Core.Path.{_≡_, refl, sym, _∙_}
-use native.Mathlib.Nat.{add-zero, mod-lt, mul-mod-left, mul-le-mul-right, div-add-mod', div-mul-le-self, lt-div-mul-add, div-eq-of-lt-le}
+use mathlib.Core.Path.{_≡_, refl, sym, ap, _∙_}
+use native.Mathlib.Nat.{add-zero, mod-lt, mod-add-mod, mod-mod-of-dvd, dvd-of-mod-eq-zero, mul-mod-left, mul-le-mul-right, div-add-mod', div-mul-le-self, lt-div-mul-add, div-eq-of-lt-le}
 use native.Mathlib.Omega.{arith}
 use lib.Arith.{lt-of-le-ne}
 use lib.Dec.{eqb}
@@ -29,6 +29,11 @@ unfolding edge
 edge-below A L P k p = omega (arith, lt-div-mul-add {a = A} p)
 
 -- ---- the next piece, at any place
+
+-- blocks that divide 4,096 bytes: the low bits of an address tell its place in one
+pub place-low : (A P s : ℕ) → 4096 % P ≡ 0 → (A % 4096 + s) % P ≡ (A + s) % P
+place-low A P s d =
+    sym (mod-add-mod (A % 4096) P s) ∙ ap (λ (x : ℕ). (x + s) % P) (mod-mod-of-dvd P A (dvd-of-mod-eq-zero P d)) ∙ mod-add-mod A P s
 
 pub next-le : (A L P s : ℕ) → s < L → s + nextSize A L P s ≤ L
 unfolding nextSize

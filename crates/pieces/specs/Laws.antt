@@ -38,6 +38,11 @@ pub marks-pieces : (A L P : ℕ) → map (λ (q : Piece). q .mark) (pieces A L P
 unfolding pieces marks
 marks-pieces A L P = marks-from A L P (blocks A L P) 0 (omega arith)
 
+-- the next mark by the next size
+pub next-mark : (A L P s : ℕ) {n : ℕ} → n ≡ nextSize A L P s → markOf (eqb s 0) (eqb (s + n) L) ≡ nextMark A L P s
+unfolding nextMark
+next-mark A L P s e = ap (λ (k : ℕ). markOf (eqb s 0) (eqb (s + k) L)) e
+
 cut-join : {a b : ℕ} (l : List ℕ) → a ≤ b → take (b - a) (drop a l) ++ drop b l ≡ drop a l
 cut-join {a} {b} l h = rw (drop-drop (b - a) a l, add-sub-of-le h) at (take-append-drop (b - a) (drop a l))
 

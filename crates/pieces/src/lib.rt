@@ -1,8 +1,8 @@
 // The cutting of an answer into pieces at blocks of the payload size, and the pieces' marks.
 ghost use mathlib.Core.Path.{_≡_};
-ghost use Prim.Native.Nat.{_+_, _-_, _≤_, _<_};
+ghost use Prim.Native.Nat.{_%_, _≤_, _<_};
 ghost use Rattle.pieces.specs.Marks.{markOf, markType};
-ghost use Rattle.pieces.specs.Pieces.{nextSize, nextMark};
+ghost use Rattle.pieces.specs.Pieces.{nextSize};
 
 pub enum Mark {
     Only,
@@ -11,14 +11,13 @@ pub enum Mark {
     Last,
 }
 
-// How many bytes the next piece has, when `sent` have gone.
+// How many bytes the next piece has, when `sent` have gone. Blocks divide 4,096 bytes, so the low bits of the address tell its place in one.
 pub fn next_size(address: u64, length: u32, payload: u32, sent: u32) -> u32
-    requires { ⌜ (sent < length) × (length ≤ 4096) × (1 ≤ payload) × (payload ≤ 4096) ⌝ }
+    requires { ⌜ (sent < length) × (length ≤ 4096) × (1 ≤ payload) × (4096 % payload ≡ 0) ⌝ }
     ensures { λ r. ⌜ r ≡ nextSize address length payload sent ⌝ }
 {
-    let p = payload as u64;
-    let in_block = (address % p) as u32;
-    let room = payload - (in_block + sent) % payload;
+    let low = (address % 4096) as u32;
+    let room = payload - (low + sent) % payload;
     let left = length - sent;
     if left < room {
         return left;
@@ -26,7 +25,8 @@ pub fn next_size(address: u64, length: u32, payload: u32, sent: u32) -> u32
     room
 }
 
-fn mark_of(first: bool, last: bool) -> Mark
+// The mark of a piece that is the first, the last, both or neither.
+pub fn mark_of(first: bool, last: bool) -> Mark
     ensures { λ r. ⌜ r ≡ markOf first last ⌝ }
 {
     if first {
@@ -39,15 +39,6 @@ fn mark_of(first: bool, last: bool) -> Mark
         return Mark::Last;
     }
     Mark::Middle
-}
-
-// The mark of the next piece.
-pub fn next_mark(address: u64, length: u32, payload: u32, sent: u32) -> Mark
-    requires { ⌜ (sent < length) × (length ≤ 4096) × (1 ≤ payload) × (payload ≤ 4096) ⌝ }
-    ensures { λ r. ⌜ r ≡ nextMark address length payload sent ⌝ }
-{
-    let n = next_size(address, length, payload, sent);
-    mark_of(sent == 0, sent + n == length)
 }
 
 // The cycle type that says the mark.

@@ -11,9 +11,10 @@ use Rattle.registers.specs.declared.Reg008.{Reg008}
 use Rattle.registers.specs.declared.Reg010.{Reg010}
 use Rattle.registers.specs.declared.Reg020.{Reg020}
 use Rattle.registers.specs.declared.Config.{Config}
-use Rattle.registers.specs.Registers.{masked, readied, writable008, writable010, writable020, forbidden008, forbidden010, forbidden020, write008, write010, write020, freshConfig, forbiddenAt, writeAt, fixed008, fixed010, fixed020, readyIsEnable, reachable008, reachable010, reachable020, reachable}
+use Rattle.registers.specs.Registers.{masked, readied, reset008, reset010, reset020, writable008, writable010, writable020, forbidden008, forbidden010, forbidden020, write008, write010, write020, fresh008, fresh010, fresh020, freshConfig, forbiddenAt, writeAt, reachable008, reachable010, reachable020, reachable}
+use Rattle.registers.specs.Masks.{own-again, ready-again}
 pub use Rattle.registers.specs.Fields.{field-kept, field-written, masked-fits, bit-zero, Written008, written008, Written010, written010, Written020, written020, crc-written, on0-written, payload-written, read-written, on1-written, count-written}
-pub use Rattle.registers.specs.Sizes.{at-equal, sizes, payload-legal, read-legal, payload-cases, read-cases, count-range}
+pub use Rattle.registers.specs.Sizes.{own008, own010, own020, at-equal, sizes, payload-legal, read-legal, payload-cases, read-cases, count-range}
 
 -- ---- a write by its address
 
@@ -62,8 +63,17 @@ fits-write c a v h l =
 
 -- ---- reachable values stay so
 
-pub reachable-fresh : reachable freshConfig ≡ true
-reachable-fresh = refl
+pub fresh-008 : reachable008 (fresh008 .value) ≡ true
+unfolding reachable008
+fresh-008 = refl
+
+pub fresh-010 : reachable010 (fresh010 .value) ≡ true
+unfolding reachable010
+fresh-010 = refl
+
+pub fresh-020 : reachable020 (fresh020 .value) ≡ true
+unfolding reachable020
+fresh-020 = refl
 
 -- each register of a reachable configuration, and back
 module _ (c : Config) where
@@ -88,32 +98,30 @@ module _ (c : Config) where
   pub reachable-all : reachable008 (c .r008 .value) ≡ true → reachable010 (c .r010 .value) ≡ true → reachable020 (c .r020 .value) ≡ true → reachable c ≡ true
   reachable-all e f g = and-true {a = r8 && r10} {b = r20} (and-true {a = r8} {b = r10} e f) g
 
--- a new value that is not forbidden, the rest being as it was; and the same where ready stands between
-unforbidden : (a f g : Bool) → a && not f ≡ true → g ≡ false → a && not g ≡ true
-unforbidden a f g h e = and-true {a = a} {b = not g} (and-left a (not f) h) (ap not e)
+pub reachable-fresh : reachable freshConfig ≡ true
+reachable-fresh = reachable-all freshConfig fresh-008 fresh-010 fresh-020
 
-ready-unforbidden : (a b f g : Bool) (n : ℕ) → a && b && not f ≡ true → g ≡ false → a && eqb n n && not g ≡ true
-ready-unforbidden a b f g n h e =
-    let kept = and-left a b (and-left (a && b) (not f) h) in
-    and-true {a = a && eqb n n} {b = not g} (and-true {a = a} {b = eqb n n} kept (eq-eqb n n refl)) (ap not e)
+-- a write that is not forbidden: its own write leaves what it makes, and the fields that are tested are the value's
+made : (x y : ℕ) (f : Bool) → x ≡ y → f ≡ false → eqb x y && not f ≡ true
+made x y f e h = and-true (eq-eqb x y e) (ap not h)
 
 pub reachable-write008 : (r : Reg008) (v : ℕ) → reachable008 (r .value) ≡ true → forbidden008 v ≡ false → reachable008 (write008 r v .value) ≡ true
+unfolding reachable008
 reachable-write008 r v h f =
     let w = written008 r v in
-    rw (w .kept29, w .kept25, w .kept19, w .kept11, w .ioMode, w .frequency)
-    (unforbidden (fixed008 (r .value)) (forbidden008 (r .value)) (forbidden008 v) h f)
+    made _ _ (forbidden008 (write008 r v .value)) (own-again writable008 refl reset008 (r .value) v (sym (own008 (r .value) h .1))) (rw (w .ioMode, w .frequency) f)
 
 pub reachable-write010 : (r : Reg010) (v : ℕ) → reachable010 (r .value) ≡ true → forbidden010 v ≡ false → reachable010 (write010 r v .value) ≡ true
+unfolding reachable010
 reachable-write010 r v h f =
     let w = written010 r v in
-    rw (w .kept31, w .kept11, w .kept7, w .readCode, w .payloadCode, w .ready, w .enable)
-    (ready-unforbidden (fixed010 (r .value)) (readyIsEnable (r .value)) (forbidden010 (r .value)) (forbidden010 v) (v % 2) h f)
+    made _ _ (forbidden010 (write010 r v .value)) (ready-again writable010 refl refl refl refl refl refl refl reset010 (r .value) v (sym (own010 (r .value) h .1))) (rw (w .readCode, w .payloadCode) f)
 
 pub reachable-write020 : (r : Reg020) (v : ℕ) → reachable020 (r .value) ≡ true → forbidden020 v ≡ false → reachable020 (write020 r v .value) ≡ true
+unfolding reachable020
 reachable-write020 r v h f =
     let w = written020 r v in
-    rw (w .kept31, w .kept15, w .count, w .ready, w .enable)
-    (ready-unforbidden (fixed020 (r .value)) (readyIsEnable (r .value)) (forbidden020 (r .value)) (forbidden020 v) (v % 2) h f)
+    made _ _ (forbidden020 (write020 r v .value)) (ready-again writable020 refl refl refl refl refl refl refl reset020 (r .value) v (sym (own020 (r .value) h .1))) (rw (w .count) f)
 
 pub reachable-write : (c : Config) (a v : ℕ) → reachable c ≡ true → forbiddenAt a v ≡ false → reachable (writeAt c a v) ≡ true
 reachable-write c a v h =

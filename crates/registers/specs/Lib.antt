@@ -1,5 +1,6 @@
 pub mod Registers
 pub mod Fields
+pub mod Masks
 pub mod Sizes
 pub mod Laws
 pub mod Layout

@@ -158,31 +158,16 @@ writeAt c a v =
     (pick (eqb a 0x020) (record { r008 = c .r008; r010 = c .r010; r020 = write020 (c .r020) v })
     c))
 
--- ---- reachable values (01, Sound state): read-only bits as at reset, ready equal to enable, no forbidden field
+-- ---- reachable values (01, Sound state): what a write that is not forbidden makes of the reset value
 
-abbrev pub asAtReset : ℕ → ℕ → ℕ → ℕ → Bool
-asAtReset reset hi lo v = eqb (bits hi lo v) (bits hi lo reset)
+unfoldable pub reachable008 : ℕ → Bool
+reachable008 v = eqb (write008 fresh008 v .value) v && not (forbidden008 v)
 
-abbrev pub fixed008 : ℕ → Bool
-fixed008 v = asAtReset reset008 29 29 v && asAtReset reset008 25 24 v && asAtReset reset008 19 16 v && asAtReset reset008 11 0 v
+unfoldable pub reachable010 : ℕ → Bool
+reachable010 v = eqb (write010 fresh010 v .value) v && not (forbidden010 v)
 
-abbrev pub fixed010 : ℕ → Bool
-fixed010 v = asAtReset reset010 31 15 v && asAtReset reset010 11 11 v && asAtReset reset010 7 3 v
-
-abbrev pub fixed020 : ℕ → Bool
-fixed020 v = asAtReset reset020 31 22 v && asAtReset reset020 15 2 v
-
-abbrev pub readyIsEnable : ℕ → Bool
-readyIsEnable v = eqb (bits 1 1 v) (v % 2)
-
-abbrev pub reachable008 : ℕ → Bool
-reachable008 v = fixed008 v && not (forbidden008 v)
-
-abbrev pub reachable010 : ℕ → Bool
-reachable010 v = fixed010 v && readyIsEnable v && not (forbidden010 v)
-
-abbrev pub reachable020 : ℕ → Bool
-reachable020 v = fixed020 v && readyIsEnable v && not (forbidden020 v)
+unfoldable pub reachable020 : ℕ → Bool
+reachable020 v = eqb (write020 fresh020 v .value) v && not (forbidden020 v)
 
 abbrev pub reachable : Config → Bool
 reachable c = reachable008 (c .r008 .value) && reachable010 (c .r010 .value) && reachable020 (c .r020 .value)

@@ -7,10 +7,29 @@ use native.Mathlib.Nat.{eq-or-lt-of-le}
 use native.Mathlib.Omega.{arith}
 use lib.Dec.{eqb, ltb}
 use borrow.Author.Tests.{eqb-true, eqb-false, ltb-false, not-true}
-use Rattle.base.specs.Pick.{and-right}
+use Rattle.base.specs.Pick.{and-left, and-right}
 use Rattle.registers.specs.declared.Reg010.{Reg010}
 use Rattle.registers.specs.declared.Reg020.{Reg020}
-use Rattle.registers.specs.Registers.{bits, forbidden010, forbidden020, sizeOf, payloadLegal, readLegal, payloadSize, readSize, operatingCount, fixed010, fixed020, readyIsEnable, reachable010, reachable020}
+use Rattle.registers.specs.Registers.{bits, forbidden008, forbidden010, forbidden020, sizeOf, payloadLegal, readLegal, payloadSize, readSize, operatingCount, write008, write010, write020, fresh008, fresh010, fresh020, reachable008, reachable010, reachable020}
+
+-- ---- a reachable value is not forbidden, and its own write to the reset value leaves it
+
+own : (x v : ℕ) (f : Bool) → eqb x v && not f ≡ true → (f ≡ false) × (v ≡ x)
+own x v f h = (not-true f (and-right (eqb x v) (not f) h), sym (eqb-true x v (and-left (eqb x v) (not f) h)))
+
+pub own008 : (v : ℕ) → reachable008 v ≡ true → (forbidden008 v ≡ false) × (v ≡ write008 fresh008 v .value)
+unfolding reachable008
+own008 v = own (write008 fresh008 v .value) v (forbidden008 v)
+
+pub own010 : (v : ℕ) → reachable010 v ≡ true → (forbidden010 v ≡ false) × (v ≡ write010 fresh010 v .value)
+unfolding reachable010
+own010 v = own (write010 fresh010 v .value) v (forbidden010 v)
+
+pub own020 : (v : ℕ) → reachable020 v ≡ true → (forbidden020 v ≡ false) × (v ≡ write020 fresh020 v .value)
+unfolding reachable020
+own020 v = own (write020 fresh020 v .value) v (forbidden020 v)
+
+-- ---- sizes and counts
 
 -- what a test of equality finds
 pub at-equal : (Q : ℕ → Type 0) (p k : ℕ) → Q k → eqb p k ≡ true → Q p
@@ -50,26 +69,23 @@ or-right false b e = e
 coded : (n : ℕ) → eqb n 0 ≡ false → 1 ≤ n
 coded n e = let h = eqb-false n 0 e in omega (arith, h)
 
-allowed010 : (v : ℕ) → reachable010 v ≡ true → forbidden010 v ≡ false
-allowed010 v h = not-true (forbidden010 v) (and-right (fixed010 v && readyIsEnable v) (not (forbidden010 v)) h)
-
 pub payload-legal : (r : Reg010) → reachable010 (r .value) ≡ true → payloadLegal (payloadSize r) ≡ true
 payload-legal r h =
     let n = bits 10 8 (r .value) in
-    let f = or-right (eqb (bits 14 12 (r .value)) 0) (eqb n 0 || ltb 3 n) (allowed010 (r .value) h) in
+    let f = or-right (eqb (bits 14 12 (r .value)) 0) (eqb n 0 || ltb 3 n) (own010 (r .value) h .0) in
     payload-coded n (coded n (or-left (eqb n 0) (ltb 3 n) f)) (ltb-false 3 n (or-right (eqb n 0) (ltb 3 n) f))
 
 pub read-legal : (r : Reg010) → reachable010 (r .value) ≡ true → readLegal (readSize r) ≡ true
 read-legal r h =
     let n = bits 14 12 (r .value) in
     let m = bits 10 8 (r .value) in
-    read-coded n (coded n (or-left (eqb n 0) (eqb m 0 || ltb 3 m) (allowed010 (r .value) h))) (omega arith)
+    read-coded n (coded n (or-left (eqb n 0) (eqb m 0 || ltb 3 m) (own010 (r .value) h .0))) (omega arith)
 
 -- "the operating wire count": 1 to 8
 pub count-range : (r : Reg020) → reachable020 (r .value) ≡ true → (1 ≤ operatingCount r) × (operatingCount r ≤ 8)
 count-range r h =
     let v = r .value in
-    let f = ltb-false 7 (bits 21 16 v) (not-true (forbidden020 v) (and-right (fixed020 v && readyIsEnable v) (not (forbidden020 v)) h)) in
+    let f = ltb-false 7 (bits 21 16 v) (own020 v h .0) in
     (omega arith, omega (arith, f))
 
 -- a size that is legal is one of those listed

@@ -332,25 +332,20 @@ impl Config {
 fn reachable_008(v: u32) -> bool
     ensures { λ r. ⌜ r ≡ reachable008 v ⌝ }
 {
-    ((v >> 29) % 2 == 0)
-        & ((v >> 24) % 4 == 3)
-        & ((v >> 16) % 16 == 12)
-        & (v % 4096 == 3)
-        & !bad008(v)
+    let r = Reg008::fresh().write(v);
+    (r.value == v) & !bad008(v)
 }
 
 fn reachable_010(v: u32) -> bool
     ensures { λ r. ⌜ r ≡ reachable010 v ⌝ }
 {
-    ((v >> 15) % 131072 == 0)
-        & ((v >> 11) % 2 == 0)
-        & ((v >> 3) % 32 == 6)
-        & ((v >> 1) % 2 == v % 2)
-        & !bad010(v)
+    let r = Reg010::fresh().write(v);
+    (r.value == v) & !bad010(v)
 }
 
 fn reachable_020(v: u32) -> bool
     ensures { λ r. ⌜ r ≡ reachable020 v ⌝ }
 {
-    ((v >> 22) % 1024 == 0) & ((v >> 2) % 16384 == 448) & ((v >> 1) % 2 == v % 2) & !bad020(v)
+    let r = Reg020::fresh().write(v);
+    (r.value == v) & !bad020(v)
 }

@@ -6,6 +6,7 @@ use lib.ListN.{length}
 use borrow.Author.Tests.{ltb-true, lt-ltb, eq-eqb}
 use Rattle.base.specs.Pick.{and-left, and-right, and-true}
 use Rattle.registers.specs.Registers.{on0, on1, reachable}
+use Rattle.registers.specs.Laws.{reachable-fresh}
 use Rattle.registers.specs.Layout.{fitsConfig, config-fitting, fitting-config}
 use Rattle.wires.specs.Groups.{soundWires}
 use Rattle.wires.specs.Kept.{whole-level, whole-marks}
@@ -98,4 +99,4 @@ fit-made s p =
 
 pub fresh-sound : Sound freshState
 unfolding sound fits soundRequest soundWrite
-fresh-sound = record { isSound = refl; isFit = refl }
+fresh-sound = record { isSound = and-true reachable-fresh refl; isFit = refl }

@@ -12,8 +12,8 @@ use Rattle.base.specs.Pick.{pick}
 use Rattle.registers.specs.Registers.{crcChecked, forbiddenAt, forbidden008, forbidden010}
 use Rattle.registers.specs.declared.Config.{Config}
 use Rattle.command.specs.Rows.{rowOf}
-use Rattle.command.specs.Needs.{channelOn, lengthOf, groupCount, allFF, wholeWith, needData, needListed, needIn}
-use Rattle.command.specs.Decode.{admit, readOff, checkedAs, crcGood, crcWrong}
+use Rattle.command.specs.Needs.{channelOn, lengthOf, groupCount, allFF, wholeWith, needData}
+use Rattle.command.specs.Decode.{admit, admitListed, readOff, checkedAs, crcGood, crcWrong}
 use Rattle.command.specs.Facts.{cycleWrong}
 use Rattle.command.specs.declared.Data.{Data}
 use Rattle.command.specs.declared.Data.the-variants.{Fixed, Length, Pairs, Ones}
@@ -75,32 +75,32 @@ tests c b (As q) =
     (dataTests c b q (q .carries))))
 
 module _ (c : Config) (b : List ℕ) where
-  abbrev number : Need → ℕ
-  number x = numberIn (readOff (crcChecked (c .r008)) b x)
+  abbrev number : Row → Need → ℕ
+  number q x = numberIn (readOff (crcChecked (c .r008)) b q x)
 
   crc-chain : (q : Row) → numberIn (checkedAs (crcChecked (c .r008)) b q) ≡ crcTest c b q
   crc-chain q = read-off numberIn (crcWrong (crcChecked (c .r008)) (q .crc) b) (λ _. refl) (λ _. refl)
 
-  whole-chain : (q : Row) (n : ℕ) → number (Whole q n) ≡ wholeTest c b q n
+  whole-chain : (q : Row) (n : ℕ) → number q (Whole n) ≡ wholeTest c b q n
   whole-chain q n = read-off numberIn (not (eqb (length b) n)) (λ _. refl) (λ _. crc-chain q)
 
-  data-chain : (q : Row) (d : Data) → number (needData q b d) ≡ dataTests c b q d
+  data-chain : (q : Row) (d : Data) → number q (needData q b d) ≡ dataTests c b q d
   data-chain q (Fixed n) = whole-chain q _
   data-chain q Length = whole-chain q _
   data-chain q Pairs = whole-chain q _
-  data-chain q Ones = read-off number (allFF b) (λ _. read-off numberIn (not (leb 2 (length b))) (λ _. refl) (λ _. crc-chain q)) (λ _. refl)
+  data-chain q Ones = read-off (number q) (allFF b) (λ _. read-off numberIn (not (leb 2 (length b))) (λ _. refl) (λ _. crc-chain q)) (λ _. refl)
 
-  row-chain : (l : Listed) → number (needListed (channelsOf c) b l) ≡ tests c b l
+  row-chain : (l : Listed) → numberIn (admitListed (channelsOf c) (crcChecked (c .r008)) b l) ≡ tests c b l
   row-chain Unlisted = refl
   row-chain (As q) =
-      read-off number (not (channelOn (channelsOf c) (q .channel))) (λ _. refl)
-      λ _. read-off number (cycleWrong q b) (λ _. refl)
-      λ _. read-off number (ltb (length b) (q .told)) (λ _. refl)
+      read-off (number q) (not (channelOn (channelsOf c) (q .channel))) (λ _. refl)
+      λ _. read-off (number q) (cycleWrong q b) (λ _. refl)
+      λ _. read-off (number q) (ltb (length b) (q .told)) (λ _. refl)
       λ _. data-chain q (q .carries)
 
   chain : numberIn (admit (channelsOf c) (crcChecked (c .r008)) b) ≡ pick (eqb (length b) 0) 12 (tests c b (rowOf (getD b 0 0)))
-  unfolding admit needIn
-  chain = read-off number (eqb (length b) 0) (λ _. refl) (λ _. row-chain (rowOf (getD b 0 0)))
+  unfolding admit
+  chain = read-off numberIn (eqb (length b) 0) (λ _. refl) (λ _. row-chain (rowOf (getD b 0 0)))
 
 all-FF : (b : List ℕ) → allFF b ≡ onlyFF b
 unfolding allFF onlyFF

@@ -11,7 +11,6 @@ use Rattle.base.specs.Bytes.{low2, bit}
 use Rattle.crc.specs.Crc.{crc}
 use Rattle.registers.specs.Registers.{crcChecked}
 use Rattle.registers.specs.declared.Config.{Config}
-use Rattle.command.specs.Needs.{needIn}
 use Rattle.command.specs.Decode.{admit}
 use Rattle.command.specs.declared.Command.the-variants as C
 use Rattle.command.specs.declared.PeripheralCommand.the-variants.{GetPc}
@@ -65,7 +64,7 @@ ready-taken (Failed q) k ks e = refl
 
 get-admitted : (s : State) (check : ℕ) → on peripheral (s .config) ≡ true → crcFine s (0x01 ∷ check ∷ []) ≡ true
     → Admits s (0x01 ∷ check ∷ []) (C.Peripheral GetPc)
-unfolding admit needIn
+unfolding admit
 get-admitted s check on fine = rw (on, unchecked (crcChecked (s .config .r008)) (crcRight (0x01 ∷ check ∷ [])) fine)
   where
     unchecked : (c g : Bool) → not c || g ≡ true → c && not g ≡ false

@@ -4,7 +4,7 @@ use mathlib.Core.Path.{_≡_, refl, sym, subst}
 use borrow.Author.Tests.{eq-eqb}
 use Rattle.base.specs.Pick.{and-true}
 use Rattle.registers.specs.Registers.{fresh008, fresh010, reachable}
-use Rattle.registers.specs.Laws.{Fitting, fits-fresh, reachable-fresh, reachable-all, reachable-r008, reachable-r010, reachable-r020}
+use Rattle.registers.specs.Laws.{Fitting, fits-fresh, fresh-008, fresh-010, reachable-fresh, reachable-all, reachable-r008, reachable-r010, reachable-r020}
 use Rattle.registers.specs.declared.Config.{Config}
 use Rattle.wires.specs.Kept.{whole-level, whole-marks}
 use Rattle.state.specs.declared.State.{State}
@@ -95,7 +95,7 @@ pub fresh008-ok : {c : Config} → ConfigOk c → ConfigOk (record { r008 = fres
 fresh008-ok {c} h =
     let k : Config = record { r008 = fresh008; r010 = c .r010; r020 = c .r020 } in
     record {
-      right = reachable-all k refl (reachable-r010 c (h .right)) (reachable-r020 c (h .right));
+      right = reachable-all k fresh-008 (reachable-r010 c (h .right)) (reachable-r020 c (h .right));
       fit = record { fit008 = fits-fresh .fit008; fit010 = h .fit .fit010; fit020 = h .fit .fit020 };
     }
 
@@ -103,7 +103,7 @@ pub fresh010-ok : {c : Config} → ConfigOk c → ConfigOk (record { r008 = c .r
 fresh010-ok {c} h =
     let k : Config = record { r008 = c .r008; r010 = fresh010; r020 = c .r020 } in
     record {
-      right = reachable-all k (reachable-r008 c (h .right)) refl (reachable-r020 c (h .right));
+      right = reachable-all k (reachable-r008 c (h .right)) fresh-010 (reachable-r020 c (h .right));
       fit = record { fit008 = h .fit .fit008; fit010 = fits-fresh .fit010; fit020 = h .fit .fit020 };
     }
 
