@@ -5,9 +5,11 @@ use peripheral::Peripheral;
 use state::State;
 use state::pack;
 use wires::Wires;
+use wires::Words;
 ghost use mathlib.Core.Path.{_≡_};
 ghost use Prim.Native.Nat.{_≤_};
 ghost use lib.ListN.{length};
+ghost use Rattle.wires.specs.Layout.{wiresOf};
 ghost use Rattle.rules.specs.Rules.Fits.{ReplyFits, KeptFits};
 ghost use Rattle.rules.specs.Rules.Step.{replyLength, writeLength, readLength};
 ghost use Rattle.rules.specs.Rules.Calls.{done, exchanged, stored, looked, startCall, espiResetCall, platformResetCall, exchangeCall, lookCall, answerCall, takeWriteCall, setWireCall, readWireCall};
@@ -73,14 +75,14 @@ pub extern "C" fn espi_platform_reset(state: &mut [u8]) -> u32
 // What goes out of an exchange: its reply, over the wires as they were, and its data on the lent bytes.
 fn commit(
     p: Outgoing,
-    was: Wires,
+    was: Words,
     command: &[u8],
     reply: &mut [u8],
     write_store: &mut [u8],
     read_store: &[u8],
 ) -> u32
-    requires { ⌜ (replyLength ≤ length (now reply)) × (writeLength ≤ length (now «write_store»)) × (readLength ≤ length (now «read_store»)) × ReplyFits (p .reply) was × KeptFits (p .kept) (length (now command)) writeLength ⌝ }
-    ensures { λ r. ⌜ sent r (now (reply .exit)) (now («write_store» .exit)) ≡ sentBy p was (now (command .entry)) (now (reply .entry)) (now («write_store» .entry)) (now («read_store» .entry)) ⌝ }
+    requires { ⌜ (replyLength ≤ length (now reply)) × (writeLength ≤ length (now «write_store»)) × (readLength ≤ length (now «read_store»)) × ReplyFits (p .reply) (wiresOf was) × KeptFits (p .kept) (length (now command)) writeLength ⌝ }
+    ensures { λ r. ⌜ sent r (now (reply .exit)) (now («write_store» .exit)) ≡ sentBy p (wiresOf was) (now (command .entry)) (now (reply .entry)) (now («write_store» .entry)) (now («read_store» .entry)) ⌝ }
 {
     let r = p.reply;
     let k = p.kept;
@@ -114,7 +116,7 @@ pub extern "C" fn espi_exchange(
     if !state::holds(state) {
         return rules::STATE_NOT_SOUND;
     }
-    let was = Wires::unpack(state);
+    let was = Words::of(state);
     let p = engine::exchange(command, state);
     commit(p, was, command, reply, write_store, read_store)
 }

@@ -208,3 +208,9 @@ data-by dst dst′ src part at n h ep e =
 
 pub by-kept : (k k′ : Kept) (dst dst′ src : List ℕ) → k ≡ k′ → dst′ ≡ over (keptBytes k′ src) dst → dst′ ≡ over (keptBytes k src) dst
 by-kept k k′ dst dst′ src e h = h ∙ ap (λ (z : Kept). over (keptBytes z src) dst) (sym e)
+
+-- a packet over the wires that these are
+pub by-groups : (w w′ : Wires) (p : Packet) (l l₁ : List ℕ) (code n : ℕ) → w′ ≡ w
+    → (l₁ ≡ over (code ∷ packetBytes w′ p) l) × (n ≡ length (code ∷ packetBytes w′ p)) × (n ≤ 260)
+    → (l₁ ≡ over (code ∷ packetBytes w p) l) × (n ≡ length (code ∷ packetBytes w p)) × (n ≤ 260)
+by-groups w w′ p l l₁ code n e h = subst (λ (z : Wires). (l₁ ≡ over (code ∷ packetBytes z p) l) × (n ≡ length (code ∷ packetBytes z p)) × (n ≤ 260)) e h

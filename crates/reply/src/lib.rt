@@ -10,6 +10,7 @@ use rules::Response;
 use wires::Going;
 use wires::Packet;
 use wires::Wires;
+use wires::Words;
 ghost use mathlib.Core.Path.{_≡_};
 ghost use mathlib.Core.Bool.{true};
 ghost use mathlib.Core.List.{_∷_, _++_};
@@ -18,6 +19,7 @@ ghost use lib.ListN.{length, take, drop};
 ghost use Rattle.base.specs.Bytes.{put, over};
 ghost use Rattle.wires.specs.Table.{isUp};
 ghost use Rattle.wires.specs.Groups.{packetBytes};
+ghost use Rattle.wires.specs.Layout.{wiresOf};
 ghost use Rattle.wires.specs.Sending.{PacketFits};
 ghost use Rattle.rules.specs.Rules.Out.{responseByte};
 ghost use Rattle.rules.specs.Rules.Peripheral.{requestReport, postedReport, takeReport};
@@ -101,9 +103,9 @@ fn put_word(reply: &mut [u8], code: u8, v: u32) -> usize
     5
 }
 
-fn put_body(reply: &mut [u8], code: u8, body: Body, w: Wires, reads: &[u8]) -> usize
-    requires { ⌜ (263 ≤ length (now reply)) × (4096 ≤ length (now reads)) × BodyFits body w ⌝ }
-    ensures { λ r. ⌜ (now (reply .exit) ≡ over (code ∷ bodyBytes body w (now (reads .entry))) (now (reply .entry))) × (r ≡ length (code ∷ bodyBytes body w (now (reads .entry)))) × (r ≤ 260) ⌝ }
+fn put_body(reply: &mut [u8], code: u8, body: Body, w: Words, reads: &[u8]) -> usize
+    requires { ⌜ (263 ≤ length (now reply)) × (4096 ≤ length (now reads)) × BodyFits body (wiresOf w) ⌝ }
+    ensures { λ r. ⌜ (now (reply .exit) ≡ over (code ∷ bodyBytes body (wiresOf w) (now (reads .entry))) (now (reply .entry))) × (r ≡ length (code ∷ bodyBytes body (wiresOf w) (now (reads .entry)))) × (r ≤ 260) ⌝ }
 {
     match body {
         Body::Nothing => {
@@ -112,7 +114,7 @@ fn put_body(reply: &mut [u8], code: u8, body: Body, w: Wires, reads: &[u8]) -> u
         }
         Body::Word(v) => put_word(reply, code, v),
         Body::Piece(c) => put_piece(reply, code, c, reads),
-        Body::Groups(p) => put_groups(reply, code, w, p),
+        Body::Groups(p) => put_groups(reply, code, w.wires(), p),
     }
 }
 
@@ -128,9 +130,9 @@ fn finish(reply: &mut [u8], n: usize, status: u32)
     base::put_at(reply, end, &one);
 }
 
-fn say(reply: &mut [u8], code: u8, body: Body, status: u32, w: Wires, reads: &[u8]) -> u32
-    requires { ⌜ (263 ≤ length (now reply)) × (4096 ≤ length (now reads)) × BodyFits body w ⌝ }
-    ensures { λ r. ⌜ (now (reply .exit) ≡ over (closed (code ∷ bodyBytes body w (now (reads .entry))) status) (now (reply .entry))) × (r ≡ length (closed (code ∷ bodyBytes body w (now (reads .entry))) status)) × (r ≤ 263) ⌝ }
+fn say(reply: &mut [u8], code: u8, body: Body, status: u32, w: Words, reads: &[u8]) -> u32
+    requires { ⌜ (263 ≤ length (now reply)) × (4096 ≤ length (now reads)) × BodyFits body (wiresOf w) ⌝ }
+    ensures { λ r. ⌜ (now (reply .exit) ≡ over (closed (code ∷ bodyBytes body (wiresOf w) (now (reads .entry))) status) (now (reply .entry))) × (r ≡ length (closed (code ∷ bodyBytes body (wiresOf w) (now (reads .entry))) status)) × (r ≤ 263) ⌝ }
 {
     let n = put_body(reply, code, body, w, reads);
     finish(reply, n, status);
@@ -138,9 +140,9 @@ fn say(reply: &mut [u8], code: u8, body: Body, status: u32, w: Wires, reads: &[u
 }
 
 // The reply's bytes, over the wires as they were before the command; their count.
-pub fn put_reply(reply: &mut [u8], r: Reply, w: Wires, reads: &[u8]) -> u32
-    requires { ⌜ (263 ≤ length (now reply)) × (4096 ≤ length (now reads)) × ReplyFits r w ⌝ }
-    ensures { λ n. ⌜ (now (reply .exit) ≡ over (replyBytes r w (now (reads .entry))) (now (reply .entry))) × (n ≡ length (replyBytes r w (now (reads .entry)))) × (n ≤ 263) ⌝ }
+pub fn put_reply(reply: &mut [u8], r: Reply, w: Words, reads: &[u8]) -> u32
+    requires { ⌜ (263 ≤ length (now reply)) × (4096 ≤ length (now reads)) × ReplyFits r (wiresOf w) ⌝ }
+    ensures { λ n. ⌜ (now (reply .exit) ≡ over (replyBytes r (wiresOf w) (now (reads .entry))) (now (reply .entry))) × (n ≡ length (replyBytes r (wiresOf w) (now (reads .entry)))) × (n ≤ 263) ⌝ }
 {
     match r {
         Reply::Silent => 0,

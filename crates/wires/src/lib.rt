@@ -8,7 +8,7 @@ ghost use Rattle.base.specs.Bytes.{put, low4, low8};
 ghost use Rattle.wires.specs.Table.{senders, senderOf, isUp};
 ghost use Rattle.wires.specs.Sending.{begun, goTakes, goPast, sending};
 ghost use Rattle.wires.specs.Groups.{senderSize, groupAfter, upOr, pairAt, freshWires, withGroup, levelAt, nibble, putPair, putPairs, definedBit, settable, setWire, readWire, anyPending, wiresStatus, remarked, enabled, disabled, resetGroup, platformWires, inRow};
-ghost use Rattle.wires.specs.Layout.{wiresBytes, wiresIn, holdsWires, levelsFit, marksIn};
+ghost use Rattle.wires.specs.Layout.{wiresBytes, wiresIn, holdsWires, levelsFit, marksIn, wordsIn, wiresOf};
 
 pub struct WireRow {
     pub index: u8,
@@ -63,6 +63,13 @@ const FIRST_PLACE: u8 = 4;
 pub struct Wires {
     pub level: [u8; 6],
     pub pending: [bool; 6],
+    pub place: u8,
+}
+
+// The wires' thirteen bytes as three numbers: so they are carried from before a command to its reply.
+pub struct Words {
+    pub low: u64,
+    pub high: u32,
     pub place: u8,
 }
 
@@ -462,6 +469,45 @@ impl Wires {
         let high = base::get4(b, 72);
         let place = b[76];
         levels_fit(low) & (marks_fit(on, low, high) & ((4 <= place) & (place <= 6)))
+    }
+}
+
+impl Words {
+    pub fn of(b: &[u8]) -> Words
+        requires { ⌜ 77 ≤ length (now b) ⌝ }
+        ensures { λ r. ⌜ r ≡ wordsIn (now (b .entry)) ⌝ }
+    {
+        Words {
+            low: base::get8(b, 64),
+            high: base::get4(b, 72),
+            place: b[76],
+        }
+    }
+
+    pub fn wires(self) -> Wires
+        ensures { λ r. ⌜ r ≡ wiresOf self ⌝ }
+    {
+        let low = self.low;
+        let high = self.high;
+        Wires {
+            level: [
+                (low % 256) as u8,
+                (low / 256 % 256) as u8,
+                (low / 65536 % 256) as u8,
+                (low / 16777216 % 256) as u8,
+                (low / 4294967296 % 256) as u8,
+                (low / 1099511627776 % 256) as u8,
+            ],
+            pending: [
+                low / 281474976710656 % 256 == 1,
+                low / 72057594037927936 % 256 == 1,
+                high % 256 == 1,
+                high / 256 % 256 == 1,
+                high / 65536 % 256 == 1,
+                high / 16777216 % 256 == 1,
+            ],
+            place: self.place,
+        }
     }
 }
 

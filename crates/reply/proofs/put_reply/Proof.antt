@@ -1,6 +1,7 @@
 use mathlib.Core.Path.{refl, sym, subst}
 use native.Mathlib.Omega.{arith}
 use Rattle.base.specs.Bytes.{over-none}
+use Rattle.wires.specs.Layout.{wiresOf}
 use Rattle.rules.specs.Rules.Fits.{ReplyFits}
 use Rattle.rules.specs.declared.Reply.{Reply}
 use Rattle.rules.specs.Rules.Reply.{replyBytes}
@@ -11,7 +12,7 @@ use Rattle.reply.proofs.put_reply.Statement.{statement}
 use Rattle.reply.proofs.put_reply.Tie as tie
 
 say-requires : tie.Need-say-requires
-say-requires c κs = (c .before .before .before .before .before .before .before .pre .0, c .before .before .before .before .before .before .before .pre .1, subst (λ (z : Reply). ReplyFits z (c .before .before .before .before .before .before .before .args .w)) (c .before .before .before .r .given .1) (c .before .before .before .before .before .before .before .pre .2))
+say-requires c κs = (c .before .before .before .before .before .before .before .pre .0, c .before .before .before .before .before .before .before .pre .1, subst (λ (z : Reply). ReplyFits z (wiresOf (c .before .before .before .before .before .before .before .args .w))) (c .before .before .before .r .given .1) (c .before .before .before .before .before .before .before .pre .2))
 
 returns : tie.Need-returns
 unfolding replyBytes
