@@ -24,7 +24,7 @@ ghost use lib.ListN as L;
 ghost use Rattle.registers.specs.Registers.{reachable};
 ghost use Rattle.command.specs.declared.PeripheralCommand.the-variants.{Short};
 ghost use Rattle.command.specs.Facts.{PeripheralFits, SizeFits};
-ghost use Rattle.peripheral.specs.Sound.{soundRequest};
+ghost use Rattle.peripheral.specs.Sound.{Block, soundRequest};
 ghost use Rattle.peripheral.specs.Layout.{npIn, peripheralIn};
 ghost use Rattle.peripheral.specs.Stored.{Stands};
 ghost use Rattle.state.specs.Layout.{stateLength};
@@ -109,7 +109,7 @@ fn size_for(q: Request) -> u32
 
 // Credit, then size.
 fn ask(q: Request, state: &mut [u8]) -> Out
-    requires { ⌜ (64 ≤ L.length (now state)) × Stands (peripheralIn (now state)) (now state) × (1 ≤ q .payload) × (1 ≤ q .readsize) ⌝ }
+    requires { ⌜ (64 ≤ L.length (now state)) × Stands (peripheralIn (now state)) (now state) × Block (q .payload) × Block (q .readsize) ⌝ }
     ensures { λ r. ⌜ changedTo r (now (state .exit)) ≡ changedBy peripheral (P.ask (peripheralIn (now (state .entry))) q) (now (state .entry)) ⌝ }
 {
     if !Peripheral::takes_request(state) {

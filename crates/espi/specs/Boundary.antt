@@ -26,7 +26,7 @@ use Rattle.rules.specs.Rules.Lift.{lift}
 use Rattle.rules.specs.Rules.Exchange.{exchange}
 use Rattle.rules.specs.Rules.Reply.{replyBytes, keptBytes}
 use Rattle.rules.specs.Rules.Fits.{ReplyFits, KeptFits}
-use Rattle.rules.specs.Rules.Calls.{done, exchanged, stored, looked, kept, word, exchangePlanned}
+use Rattle.rules.specs.Rules.Calls.{Exchanged, done, exchanged, stored, looked, kept, word, exchangePlanned}
 use Rattle.rules.specs.Proofs.Fits as F
 use Rattle.rules.specs.declared.Kept.{Kept}
 use Rattle.rules.specs.declared.Kept.the-variants as K
@@ -44,16 +44,16 @@ pub record Sent : Type 0 where
 abbrev pub sent : ℕ → List ℕ → List ℕ → Sent
 sent n reply write = record { word = n; reply = reply; write = write }
 
-abbrev pub sentBy : Outgoing → (command reply write read : List ℕ) → Sent
-sentBy p command reply write read =
-    sent (word (p .number) (length (replyBytes (p .reply) read))) (over (replyBytes (p .reply) read) reply) (over (keptBytes (p .kept) command) write)
+abbrev pub sentBy : Outgoing → Wires → (command reply write read : List ℕ) → Sent
+sentBy p w command reply write read =
+    sent (word (p .number) (length (replyBytes (p .reply) w read))) (over (replyBytes (p .reply) w read) reply) (over (keptBytes (p .kept) command) write)
 
-pub sent-by : (p : Outgoing) (command reply reply′ write write′ read : List ℕ) (n : ℕ)
-    → reply′ ≡ over (replyBytes (p .reply) read) reply
-    → n ≡ length (replyBytes (p .reply) read)
+pub sent-by : (p : Outgoing) (w : Wires) (command reply reply′ write write′ read : List ℕ) (n : ℕ)
+    → reply′ ≡ over (replyBytes (p .reply) w read) reply
+    → n ≡ length (replyBytes (p .reply) w read)
     → write′ ≡ over (keptBytes (p .kept) command) write
-    → sent (p .number + 256 * n) reply′ write′ ≡ sentBy p command reply write read
-sent-by p command reply reply′ write write′ read n er en ew = rw (er, en, ew)
+    → sent (p .number + 256 * n) reply′ write′ ≡ sentBy p w command reply write read
+sent-by p w command reply reply′ write write′ read n er en ew = rw (er, en, ew)
 
 -- ---- bytes that pass
 
@@ -112,15 +112,17 @@ module _ (st : List ℕ) where
       ∙ ap (λ (y : Peripheral). looked (P.lookNumber (y .request)) (over (P.lookReport (y .request) (y .serial)) report)) e)
 
   -- an exchange
-  pub exchanged-by : (p : Outgoing) (st′ command reply reply′ write write′ read : List ℕ) (n : ℕ)
+  pub exchanged-by : (p : Outgoing) (w : Wires) (st′ command reply reply′ write write′ read : List ℕ) (n : ℕ)
+      → w ≡ wiresIn st
       → carried p st′ ≡ carriedBy (exchange (unpacked st) command) st
-      → sent n reply′ write′ ≡ sentBy p command reply write read
+      → sent n reply′ write′ ≡ sentBy p w command reply write read
       → exchanged n st′ reply′ write′ ≡ exchangePlanned (exchange (unpacked st) command) st command reply write read
-  unfolding exchangePlanned
-  exchanged-by p st′ command reply reply′ write write′ read n ep es =
+  unfolding exchangePlanned unpacked
+  exchanged-by p w st′ command reply reply′ write write′ read n e ep es =
+      let x : Outgoing → List ℕ → Wires → Exchanged = λ q l w. exchanged (word (q .number) (length (replyBytes (q .reply) w read))) l (over (replyBytes (q .reply) w read) reply) (over (keptBytes (q .kept) command) write) in
       ap (λ (z : Sent). exchanged (z .word) st′ (z .reply) (z .write)) es
-      ∙ ap (λ (z : Carried). exchanged (word (z .goes .number) (length (replyBytes (z .goes .reply) read))) (z .state) (over (replyBytes (z .goes .reply) read) reply) (over (keptBytes (z .goes .kept) command) write))
-      ep
+      ∙ ap (x p st′) e
+      ∙ ap (λ (z : Carried). x (z .goes) (z .state) (wiresIn st)) ep
 
   -- a wire read
   pub wire-by : (w : Wires) (index bit v : ℕ) (ok : Bool) → w ≡ wiresIn st → ok ≡ definedBit index bit → not ok ≡ false → v ≡ readWire w index bit
@@ -144,10 +146,10 @@ kept-wider K.Nothing m a b h f = tt
 kept-wider (K.Data at n) m a b h f = record { there = f .there; most = omega (arith, f .most) }
 
 pub exchange-fits : (s : State) (st st′ command : List ℕ) (p : Outgoing) → sound s ≡ true → carried p st′ ≡ carriedBy (exchange s command) st
-    → ReplyFits (p .reply) × KeptFits (p .kept) (length command) 256
+    → ReplyFits (p .reply) (s .wires) × KeptFits (p .kept) (length command) 256
 exchange-fits s st st′ command p h e =
     let f = F.exchange-fits s h command in
-    subst (λ (z : Carried). ReplyFits (z .goes .reply) × KeptFits (z .goes .kept) (length command) 256) (sym e) (f .reply, f .kept)
+    subst (λ (z : Carried). ReplyFits (z .goes .reply) (s .wires) × KeptFits (z .goes .kept) (length command) 256) (sym e) (f .reply, f .kept)
 
 pub answer-fits : (s : State) (serial success : ℕ) (st st′ bytes : List ℕ) (p : Outgoing) → sound s ≡ true
     → carried p st′ ≡ carriedBy (lift peripheral s (P.answerTo (s .peripheral) serial (P.succeeded success) (length bytes))) st → KeptFits (p .kept) (length bytes) 4096

@@ -70,20 +70,21 @@ pub extern "C" fn espi_platform_reset(state: &mut [u8]) -> u32
     0
 }
 
-// What goes out of an exchange: its reply and its data on the lent bytes.
+// What goes out of an exchange: its reply, over the wires as they were, and its data on the lent bytes.
 fn commit(
     p: Outgoing,
+    was: Wires,
     command: &[u8],
     reply: &mut [u8],
     write_store: &mut [u8],
     read_store: &[u8],
 ) -> u32
-    requires { ⌜ (replyLength ≤ length (now reply)) × (writeLength ≤ length (now «write_store»)) × (readLength ≤ length (now «read_store»)) × ReplyFits (p .reply) × KeptFits (p .kept) (length (now command)) writeLength ⌝ }
-    ensures { λ r. ⌜ sent r (now (reply .exit)) (now («write_store» .exit)) ≡ sentBy p (now (command .entry)) (now (reply .entry)) (now («write_store» .entry)) (now («read_store» .entry)) ⌝ }
+    requires { ⌜ (replyLength ≤ length (now reply)) × (writeLength ≤ length (now «write_store»)) × (readLength ≤ length (now «read_store»)) × ReplyFits (p .reply) was × KeptFits (p .kept) (length (now command)) writeLength ⌝ }
+    ensures { λ r. ⌜ sent r (now (reply .exit)) (now («write_store» .exit)) ≡ sentBy p was (now (command .entry)) (now (reply .entry)) (now («write_store» .entry)) (now («read_store» .entry)) ⌝ }
 {
     let r = p.reply;
     let k = p.kept;
-    let n = reply::put_reply(reply, r, read_store);
+    let n = reply::put_reply(reply, r, was, read_store);
     reply::keep(write_store, k, command);
     (p.number as u32) + 256 * n
 }
@@ -113,8 +114,9 @@ pub extern "C" fn espi_exchange(
     if !state::holds(state) {
         return rules::STATE_NOT_SOUND;
     }
+    let was = Wires::unpack(state);
     let p = engine::exchange(command, state);
-    commit(p, command, reply, write_store, read_store)
+    commit(p, was, command, reply, write_store, read_store)
 }
 
 #[no_mangle]

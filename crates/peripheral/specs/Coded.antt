@@ -3,6 +3,7 @@ use Prim.Native.Nat.{ℕ, zero, suc, _+_, _*_, _%_, _^_, _≤_, _<_}
 use mathlib.Core.Bool.{Bool, true, false, not, _&&_, _||_}
 use mathlib.Core.List.{List, _++_, append-assoc}
 use mathlib.Core.Path.{_≡_, refl, sym, ap, subst, _∙_}
+use native.Mathlib.Nat.{add-comm, add-zero}
 use native.Mathlib.Omega.{arith}
 use lib.Dec.{eqb, ltb}
 use lib.ListN.{length, getD}
@@ -12,10 +13,11 @@ use Rattle.base.specs.Bytes.{bit, low4, number4, number8, put, put-put}
 use Rattle.base.specs.Numbers.{length-join, none8}
 use Rattle.pieces.specs.Marks.{markOf, markType}
 use Rattle.pieces.specs.Pieces.{nextMark}
+use Rattle.pieces.specs.Edges.{place-low}
 use Rattle.pieces.specs.declared.Mark.{Mark}
 use Rattle.peripheral.specs.Upward.{nextOf, pieceOf, bare, successOf, upward, firstOf, leftOf, afterPiece, afterSuccess, handed}
 use Rattle.peripheral.specs.Status.{pcFree, npFree, pcAvail, peripheralStatus}
-use Rattle.peripheral.specs.Sound.{shortSize, ioMade, soundRequest, soundWrite, nothingHeld}
+use Rattle.peripheral.specs.Sound.{Block, shortSize, ioMade, soundRequest, soundWrite, nothingHeld}
 use Rattle.peripheral.specs.Facts.{ready-request}
 use Rattle.peripheral.specs.Layout.{writeBytes, requestBytes, npBytes, handedBytes, peripheralBytes, writeOf, kindOf, npOf, postedIn, requestIn, writeIn, npIn, peripheralIn, tidyWrite, tidyRequest, blankIn, holdsWrite, holdsRequest, holdsPeripheral}
 use Rattle.peripheral.specs.Packing.{write-length, np-length}
@@ -38,6 +40,16 @@ refused {x} {t} e h = sym e ∙ not-true x h
 
 pub admitted : {x t : Bool} → x ≡ t → not x ≡ false → t ≡ true
 admitted {x} {t} e h = sym e ∙ not-false x h
+
+-- ---- places in a block, by the low bits of an address
+
+pub low-in : (A B : ℕ) → Block B → A % 4096 % B ≡ A % B
+low-in A B h = ap (λ (n : ℕ). n % B) (sym (add-zero (A % 4096))) ∙ place-low A B 0 (h .divides) ∙ ap (λ (n : ℕ). n % B) (add-zero A)
+
+pub edge-low : (A B s : ℕ) → Block B → (A % 4096 + s % 4096) % B ≡ (A + s) % B
+edge-low A B s h =
+    ap (λ (n : ℕ). n % B) (add-comm (A % 4096) (s % 4096)) ∙ place-low s B (A % 4096) (h .divides)
+    ∙ ap (λ (n : ℕ). n % B) (add-comm s (A % 4096)) ∙ place-low A B s (h .divides)
 
 -- ---- an I/O request
 

@@ -22,7 +22,7 @@ use Rattle.peripheral.specs.declared.Posted.{Posted}
 use Rattle.peripheral.specs.declared.Write.{Write}
 use Rattle.peripheral.specs.declared.Write.the-variants.{Empty, Held}
 use Rattle.peripheral.specs.declared.Peripheral.{Peripheral}
-use Rattle.peripheral.specs.Sound.{within, shortSize, ioMade, madeAs, requestMade, sentRight, soundRequest, soundWrite, nothingHeld, soundPeripheral, fitsRequest}
+use Rattle.peripheral.specs.Sound.{Block, within, shortSize, ioMade, madeAs, requestMade, sentRight, soundRequest, soundWrite, nothingHeld, soundPeripheral, fitsRequest}
 
 -- ---- sizes
 
@@ -41,14 +41,21 @@ legal-payload =
 pub record LegalRead (p : ℕ) : Type 0 where
   pub least : 64 ≤ p
   pub most : p ≤ 4096
+  pub divides : 4096 % p ≡ 0
 
 pub legal-read : (p : ℕ) → readLegal p ≡ true → LegalRead p
 legal-read =
-    read-cases LegalRead (is (omega arith) (omega arith)) (is (omega arith) (omega arith)) (is (omega arith) (omega arith)) (is (omega arith) (omega arith))
-    (is (omega arith) (omega arith)) (is (omega arith) (omega arith)) (is (omega arith) (omega arith))
+    read-cases LegalRead (is (omega arith) (omega arith) refl) (is (omega arith) (omega arith) refl) (is (omega arith) (omega arith) refl)
+    (is (omega arith) (omega arith) refl) (is (omega arith) (omega arith) refl) (is (omega arith) (omega arith) refl) (is (omega arith) (omega arith) refl)
   where
-    is : {p : ℕ} → 64 ≤ p → p ≤ 4096 → LegalRead p
-    is l m = record { least = l; most = m }
+    is : {p : ℕ} → 64 ≤ p → p ≤ 4096 → 4096 % p ≡ 0 → LegalRead p
+    is l m d = record { least = l; most = m; divides = d }
+
+pub payload-block : (p : ℕ) → payloadLegal p ≡ true → Block p
+payload-block p e = let l = legal-payload p e in record { least = omega (arith, l .least); divides = l .divides }
+
+pub read-block : (p : ℕ) → readLegal p ≡ true → Block p
+read-block p e = let l = legal-read p e in record { least = omega (arith, l .least); divides = l .divides }
 
 pub within-block : (A L B : ℕ) → within A L B ≡ true → A % B + L ≤ B
 within-block A L B e = leb-true (A % B + L) B e

@@ -13,7 +13,7 @@ ghost use Rattle.peripheral.specs.declared.Write.the-variants.{Held};
 ghost use Rattle.peripheral.specs.Queues.{idle, dropped};
 ghost use Rattle.peripheral.specs.Status.{pcFree, npFree, pcAvail, peripheralStatus};
 ghost use Rattle.peripheral.specs.Upward.{bare, pieceOf, successOf, upward, firstOf, leftOf, afterPiece, afterSuccess};
-ghost use Rattle.peripheral.specs.Sound.{within, shortSize, ioMade, madeAs, requestMade, writeMade, sentRight, soundRequest};
+ghost use Rattle.peripheral.specs.Sound.{Block, within, shortSize, ioMade, madeAs, requestMade, writeMade, sentRight, soundRequest};
 ghost use Rattle.peripheral.specs.Layout.{handedBytes, writeBytes, kindNumber, numberBytes, requestBytes, npBytes, peripheralBytes, postedIn, writeIn, kindOf, requestIn, npIn, peripheralIn, holdsWrite, blankIn, holdsRequest, holdsPeripheral};
 
 pub enum Kind {
@@ -184,13 +184,14 @@ fn hand_success(q: Request, sent: u32, b: &mut [u8]) -> Completion
 
 // ---- soundness (01, Wires, last paragraph)
 
-// "at most the size, and does not cross a block of that size"
+// "at most the size, and does not cross a block of that size". Blocks divide 4,096 bytes, so the low bits of the address tell its place in one.
 pub fn within(address: u64, length: u32, block: u32) -> bool
-    requires { ⌜ 1 ≤ block ⌝ }
+    requires { ⌜ Block block ⌝ }
     ensures { λ r. ⌜ r ≡ within address length block ⌝ }
 {
-    let b = block as u64;
-    address % b + (length as u64) <= b
+    let low = (address % 4096) as u32;
+    let at = (low % block) as u64;
+    at + (length as u64) <= (block as u64)
 }
 
 fn payload_legal(p: u32) -> bool
@@ -227,21 +228,21 @@ fn bytes_fit(bytes: u32, length: u32) -> bool
 }
 
 fn memory_read_made(q: Request) -> bool
-    requires { ⌜ 1 ≤ q .readsize ⌝ }
+    requires { ⌜ Block (q .readsize) ⌝ }
     ensures { λ r. ⌜ r ≡ madeAs MemoryRead q ⌝ }
 {
     (1 <= q.length) & (within(q.address, q.length, q.readsize) & ((q.tag < 16) & (q.bytes == 0)))
 }
 
 fn io_read_made(q: Request) -> bool
-    requires { ⌜ 1 ≤ q .readsize ⌝ }
+    requires { ⌜ Block (q .readsize) ⌝ }
     ensures { λ r. ⌜ r ≡ madeAs IoRead q ⌝ }
 {
     io_made(q) & (within(q.address, q.length, q.readsize) & (q.bytes == 0))
 }
 
 fn io_write_made(q: Request) -> bool
-    requires { ⌜ 1 ≤ q .payload ⌝ }
+    requires { ⌜ Block (q .payload) ⌝ }
     ensures { λ r. ⌜ r ≡ madeAs IoWrite q ⌝ }
 {
     if !io_made(q) {
@@ -251,7 +252,7 @@ fn io_write_made(q: Request) -> bool
 }
 
 fn made_as(q: Request) -> bool
-    requires { ⌜ (1 ≤ q .payload) × (1 ≤ q .readsize) ⌝ }
+    requires { ⌜ Block (q .payload) × Block (q .readsize) ⌝ }
     ensures { λ r. ⌜ r ≡ madeAs (q .kind) q ⌝ }
 {
     let k = q.kind;
@@ -285,15 +286,16 @@ fn write_made(w: Posted) -> bool
 
 // "end at a piece's edge, short of the whole"
 fn at_edge(q: Request, sent: u32) -> bool
-    requires { ⌜ 1 ≤ q .payload ⌝ }
+    requires { ⌜ Block (q .payload) ⌝ }
     ensures { λ r. ⌜ r ≡ sentRight MemoryRead q sent ⌝ }
 {
-    let p = q.payload as u64;
-    (sent < q.length) & ((sent == 0) | ((q.address % p + (sent as u64)) % p == 0))
+    let low = (q.address % 4096) as u32;
+    let at = (low + sent % 4096) % q.payload;
+    (sent < q.length) & ((sent == 0) | (at == 0))
 }
 
 fn sent_right(q: Request, sent: u32) -> bool
-    requires { ⌜ 1 ≤ q .payload ⌝ }
+    requires { ⌜ Block (q .payload) ⌝ }
     ensures { λ r. ⌜ r ≡ sentRight (q .kind) q sent ⌝ }
 {
     let k = q.kind;

@@ -24,8 +24,8 @@ use Rattle.peripheral.specs.declared.Peripheral.{Peripheral}
 use Rattle.peripheral.specs.declared.Completion.{Completion}
 use Rattle.peripheral.specs.declared.Next.{Next}
 use Rattle.peripheral.specs.declared.Next.the-variants.{Nothing, One}
-use Rattle.peripheral.specs.Sound.{within}
-use Rattle.peripheral.specs.Facts.{legal-payload, legal-read}
+use Rattle.peripheral.specs.Sound.{Block, within}
+use Rattle.peripheral.specs.Facts.{payload-block, read-block}
 use Rattle.peripheral.specs.Layout.{peripheralBytes}
 use Rattle.rules.specs.Rules.Channel.{peripheral}
 use Rattle.rules.specs.Rules.Out.{fatal, accept, defer, number}
@@ -59,17 +59,15 @@ stored-there l l′ q o o′ n e k m =
 -- ---- what a reachable configuration gives
 
 module _ (c : Config) (h : reachable c ≡ true) where
-  pub payload-pos : 1 ≤ payloadSize (c .r010)
-  payload-pos = let l = legal-payload (payloadSize (c .r010)) (payload-legal (c .r010) (reachable-r010 c h)) in omega (arith, l .least)
-
-  read-pos : 1 ≤ readSize (c .r010)
-  read-pos = let l = legal-read (readSize (c .r010)) (read-legal (c .r010) (reachable-r010 c h)) in omega (arith, l .least)
+  pub payload-there : Block (payloadSize (c .r010))
+  payload-there = payload-block (payloadSize (c .r010)) (payload-legal (c .r010) (reachable-r010 c h))
 
   -- a request made of its registers has sizes
-  pub request-sizes : (q : Request) (kind : Kind) (address length tag bytes : ℕ) → q ≡ requestOf c kind address length tag bytes
-      → (1 ≤ q .payload) × (1 ≤ q .readsize)
-  request-sizes q kind address length tag bytes e =
-      (omega (arith, payload-pos, ap (λ (z : Request). z .payload) e), omega (arith, read-pos, ap (λ (z : Request). z .readsize) e))
+  pub request-sizes : (q : Request) (kind : Kind) (address length tag bytes : ℕ) → q ≡ requestOf c kind address length tag bytes → Block (q .payload) × Block (q .readsize)
+  request-sizes q kind address length tag bytes e = (
+    subst (λ (z : Request). Block (z .payload)) (sym e) payload-there,
+    subst (λ (z : Request). Block (z .readsize)) (sym e) (read-block (readSize (c .r010)) (read-legal (c .r010) (reachable-r010 c h))),
+  )
 
 -- ---- posted writes
 
@@ -136,11 +134,11 @@ module _ (p : Peripheral) (q : Request) where
   ask-done free ok size next out e h es eo ho en k =
       passed _ _ (denied e h) (passed _ _ (denied (eo ∙ ap (λ (z : ℕ). within (q .address) (q .length) z) es) ho) (changed en k))
 
--- the recorded size that a request obeys is there
-pub size-pos : (q : Request) (k : Kind) → 1 ≤ q .payload → 1 ≤ q .readsize → 1 ≤ sizeFor k q
-size-pos q R.MemoryRead p r = r
-size-pos q R.IoRead p r = r
-size-pos q R.IoWrite p r = p
+-- the recorded size that a request obeys is a block's
+pub size-there : (q : Request) (k : Kind) → Block (q .payload) → Block (q .readsize) → Block (sizeFor k q)
+size-there q R.MemoryRead p r = r
+size-there q R.IoRead p r = r
+size-there q R.IoWrite p r = p
 
 -- an I/O write's bytes: those there are, 0 past them
 byte-there : (b : List ℕ) (n i : ℕ) → i < n → getD (take n (drop 3 b)) i 0 ≡ getD b (3 + i) 0

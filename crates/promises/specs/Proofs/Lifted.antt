@@ -44,7 +44,7 @@ module _ (v : ByteWorld) (h : Holding v) where
   unfolding byteStep step X.exchangeCall X.exchangePlanned S.performed
   exchange-lifts command reply b =
       let p = E.exchange (unpacked st) command in
-      let r = replyBytes (p .reply) (v .read) in
+      let r = replyBytes (p .reply) (unpacked st .wires) (v .read) in
       let sound : Sound (p .next) = exchange-sound (good v h) command b in
       let w = over (keptBytes (p .kept) command) (v .write) in
       rw (long v h, pass v h)

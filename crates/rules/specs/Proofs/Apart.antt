@@ -22,7 +22,7 @@ use Rattle.rules.specs.Rules.Channel.{Channel, peripheral, wires, Part, 
 use Rattle.rules.specs.Rules.Channel as N
 use Rattle.rules.specs.Rules.Lift.{lift, withStatus, show}
 use Rattle.rules.specs.Rules.Exchange.{reconfigured, configReset}
-use Rattle.rules.specs.Rules.Reply.{closed, replyBytes, bodyBytes, keptBytes}
+use Rattle.rules.specs.Rules.Reply.{closed, replyBytes, keptBytes}
 use Rattle.rules.specs.Rules.Step.{World, Call, Outcome, exchange, board, reset, short, lend, step, run, performed, served, shortStores, shortFor, writeLength, readLength, replyLength}
 use Rattle.rules.specs.Statements.Plans.{Settled, Admits}
 use Rattle.rules.specs.Statements.Channels.{Acts, Settles}
@@ -36,7 +36,7 @@ use Rattle.rules.specs.Proofs.Plans as Q
 use Rattle.rules.specs.Proofs.Channels as L₁
 use Rattle.rules.specs.Proofs.Peripheral.Apart as P₁
 use Rattle.rules.specs.Proofs.Wires.Apart as W₁
-use Rattle.rules.specs.Proofs.Stores.{lacks, SameLack, Owns, kept-other}
+use Rattle.rules.specs.Proofs.Stores.{lacks, SameLack, bodyIn, Owns, kept-other}
 use Rattle.rules.specs.Proofs.Whose.{begins, own-command}
 use Rattle.rules.specs.Proofs.Effects.{above}
 use Rattle.rules.specs.Proofs.Cases.{both}
@@ -104,27 +104,30 @@ closed-but x m s =
     ∙ ap (λ (n : ℕ). m ++ (clear x n ∷ [])) two
 
 -- what a plan says, in two states that are alike but for x, its body's bytes being the same
-abbrev bodyOf : Say → List ℕ → List ℕ
-bodyOf Y.Silent reads = []
-bodyOf (Y.Said r body) reads = bodyBytes body reads
+abbrev bodyOf : Say → World → List ℕ
+bodyOf Y.Silent w = []
+bodyOf (Y.Said r body) w = bodyIn w body
 
-module _ (x : Channel) (s t : State) (h : StatesAlike x s t) (l m : List ℕ) where
-  said-but : (y : Say) → bodyOf y l ≡ bodyOf y m → replyBut x (replyBytes (withStatus y (status s)) l) ≡ replyBut x (replyBytes (withStatus y (status t)) m)
+module _ (x : Channel) (s t : State) (h : StatesAlike x s t) (w v : World) where
+  abbrev replyOn : World → Say → ℕ → List ℕ
+  replyOn u y word = replyBytes (withStatus y word) (u .state .wires) (u .read)
+
+  said-but : (y : Say) → bodyOf y w ≡ bodyOf y v → replyBut x (replyOn w y (status s)) ≡ replyBut x (replyOn v y (status t))
   unfolding replyBytes
   said-but Y.Silent e = refl
   said-but (Y.Said r body) e =
-      closed-but x (responseByte r ∷ bodyBytes body l) s
-      ∙ ap (λ (z : ℕ). (responseByte r ∷ bodyBytes body l) ++ (z ∷ [])) (status-alike x s t h)
+      closed-but x (responseByte r ∷ bodyIn w body) s
+      ∙ ap (λ (z : ℕ). (responseByte r ∷ bodyIn w body) ++ (z ∷ [])) (status-alike x s t h)
       ∙ ap (λ (z : List ℕ). (responseByte r ∷ z) ++ (clear x (status t) ∷ [])) e
-      ∙ sym (closed-but x (responseByte r ∷ bodyBytes body m) t)
+      ∙ sym (closed-but x (responseByte r ∷ bodyIn v body) t)
 
-  said-length : (y : Say) → bodyOf y l ≡ bodyOf y m → length (replyBytes (withStatus y (status s)) l) ≡ length (replyBytes (withStatus y (status t)) m)
+  said-length : (y : Say) → bodyOf y w ≡ bodyOf y v → length (replyOn w y (status s)) ≡ length (replyOn v y (status t))
   unfolding replyBytes
   said-length Y.Silent e = refl
   said-length (Y.Said r body) e =
-      closed-length (responseByte r ∷ bodyBytes body l) (status s)
+      closed-length (responseByte r ∷ bodyIn w body) (status s)
       ∙ ap (λ (z : List ℕ). length (responseByte r ∷ z) + 3) e
-      ∙ sym (closed-length (responseByte r ∷ bodyBytes body m) (status t))
+      ∙ sym (closed-length (responseByte r ∷ bodyIn v body) (status t))
 
 -- ---- states and worlds alike but for x
 
@@ -182,30 +185,30 @@ record Together (x : Channel) (o q : Outcome) : Type 0 where
 module _ (x : Channel) (w v : World) (h : Alike x w v) where
   -- a plan that says and keeps the same in both, with the status of s and t, and s′ and t′ after it
   exchanged-together : (b : List ℕ) (n : ℕ) (y : Say) (kept : Kept) (s t s′ t′ : State) → StatesAlike x s t → StatesAlike x s′ t′
-      → bodyOf y (w .read) ≡ bodyOf y (v .read)
+      → bodyOf y w ≡ bodyOf y v
       → SameLack (over (keptBytes kept b) (w .write)) (w .read) (over (keptBytes kept b) (v .write)) (v .read)
       → Together x (performed w b (record { number = n; reply = withStatus y (status s); next = s′; kept = kept }))
       (performed v b (record { number = n; reply = withStatus y (status t); next = t′; kept = kept }))
   unfolding performed seen
   exchanged-together b n y kept s t s′ t′ g g′ e l =
-      let reply : List ℕ = replyBut x (replyBytes (withStatus y (status s)) (w .read)) in
-      let value : ℕ = length (replyBytes (withStatus y (status t)) (v .read)) in
+      let reply : List ℕ = replyBut x (replyBytes (withStatus y (status s)) (w .state .wires) (w .read)) in
+      let value : ℕ = length (replyBytes (withStatus y (status t)) (v .state .wires) (v .read)) in
       record {
         alike =
-            ap (λ (z : ℕ). record { number = n; value = z; report = []; reply = reply }) (said-length x s t g (w .read) (v .read) y e)
-            ∙ ap (λ (z : List ℕ). record { number = n; value = value; report = []; reply = z }) (said-but x s t g (w .read) (v .read) y e);
+            ap (λ (z : ℕ). record { number = n; value = z; report = []; reply = reply }) (said-length x s t g w v y e)
+            ∙ ap (λ (z : List ℕ). record { number = n; value = value; report = []; reply = z }) (said-but x s t g w v y e);
         next = record { state = g′; stores = λ z f. owns z .written (keptBytes kept b) (w .write) (w .read) (v .write) (v .read) (h .stores z f); room = l };
       }
 
   -- above all channels nothing is kept and no store is read
-  above-together : (b : List ℕ) (n : ℕ) (y : Say) (s′ t′ : State) → StatesAlike x s′ t′ → bodyOf y (w .read) ≡ bodyOf y (v .read)
+  above-together : (b : List ℕ) (n : ℕ) (y : Say) (s′ t′ : State) → StatesAlike x s′ t′ → bodyOf y w ≡ bodyOf y v
       → Together x (performed w b (record { number = n; reply = withStatus y (status (w .state)); next = s′; kept = K.Nothing }))
       (performed v b (record { number = n; reply = withStatus y (status (v .state)); next = t′; kept = K.Nothing }))
   unfolding over
   above-together b n y s′ t′ g e = exchanged-together b n y K.Nothing (w .state) (v .state) s′ t′ (h .state) g e (h .room)
 
   module _ (k : Channel) (other : same x k ≡ false) where
-    out-together : (b : List ℕ) (q : Part k) (n : ℕ) (y : Say) (kept : Kept) → bodyOf y (w .read) ≡ bodyOf y (v .read) → ownKept k kept ≡ true
+    out-together : (b : List ℕ) (q : Part k) (n : ℕ) (y : Say) (kept : Kept) → bodyOf y w ≡ bodyOf y v → ownKept k kept ≡ true
         → Together x (performed w b (lift k (w .state) (change k q (record { number = n; say = y; kept = kept }))))
         (performed v b (lift k (v .state) (change k q (record { number = n; say = y; kept = kept }))))
     out-together b q n y kept e o =
@@ -219,7 +222,7 @@ module _ (x : Channel) (w v : World) (h : Alike x w v) where
         → Together x (performed w b (lift k (w .state) c)) (performed v b (lift k (v .state) c))
     acts-together b {p = p} L.Acts.refused = out-together b p 1 _ K.Nothing refl (owns k .nothing)
     acts-together b (L.Acts.accepted q body kept o n) =
-        out-together b q 0 (Y.Said _ body) kept (owns k .bytes body (w .write) (w .read) (v .write) (v .read) o (h .stores k other)) n
+        out-together b q 0 (Y.Said _ body) kept (owns k .bytes body w v o (h .state .parts k other) (h .stores k other)) n
 
     -- its change is the same in both
     acting-alike : (o : Command k) (b : List ℕ)

@@ -1,5 +1,6 @@
-use mathlib.Core.Path.{refl, _∙_}
+use mathlib.Core.Path.{refl, sym, subst, _∙_}
 use denote.Ref.{now}
+use Rattle.peripheral.specs.Sound.{Block}
 use Rattle.peripheral.specs.Layout.{peripheralIn}
 use Rattle.peripheral.specs.Stored.{stored-write}
 use Rattle.peripheral.specs.declared.Write.the-variants.{Held}
@@ -7,7 +8,7 @@ use Rattle.rules.specs.Rules.Out as O
 use Rattle.rules.specs.Rules.Peripheral as P
 use Rattle.rules.specs.declared.Body.the-variants as B
 use Rattle.rules.specs.declared.Kept.the-variants as K
-use Rattle.engine.specs.Laws.Peripheral.{payload-pos, post-held, post-large, post-done, refused-there, stored-there}
+use Rattle.engine.specs.Laws.Peripheral.{payload-there, post-held, post-large, post-done, refused-there, stored-there}
 use borrow.Author.Needs.{needs}
 use Rattle.engine.proofs.peripheral_channel.post.Statement.{statement}
 use Rattle.engine.proofs.peripheral_channel.post.Tie as tie
@@ -16,7 +17,7 @@ returns : tie.Need-returns
 returns c = let a = c .before .before .before .before .before .args in let p = peripheralIn (now (a .state)) in refused-there (now (a .state)) _ p _ (post-held (a .c) p (a .address) (a .length) (a .from) _ _ (c .before .before .takes-write .ensures) (c .before .if1 .taken) refl) (c .fatal .ensures) refl
 
 within-requires : tie.Need-within-requires
-within-requires c κs = rw (c .payload-size .ensures) (payload-pos (c .before .before .before .before .before .before .args .c) (c .before .before .before .before .before .before .pre .2))
+within-requires c κs = subst Block (sym (c .payload-size .ensures)) (payload-there (c .before .before .before .before .before .before .args .c) (c .before .before .before .before .before .before .pre .2))
 
 returns-2 : tie.Need-returns-2
 returns-2 c = let a = c .before .before .before .before .before .before .before .before .before .args in let p = peripheralIn (now (a .state)) in refused-there (now (a .state)) _ p _ (post-large (a .c) p (a .address) (a .length) (a .from) _ _ _ _ (c .before .before .before .before .before .before .takes-write .ensures) (c .before .before .before .before .before .if1 .left) (c .before .before .before .payload-size .ensures) (c .before .before .within .ensures) (c .before .if2 .taken) refl) (c .fatal2 .ensures) refl
