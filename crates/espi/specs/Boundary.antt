@@ -145,11 +145,13 @@ pub kept-wider : (k : Kept) (m a b : ℕ) → a ≤ b → KeptFits k m a → Kep
 kept-wider K.Nothing m a b h f = tt
 kept-wider (K.Data at n) m a b h f = record { there = f .there; most = omega (arith, f .most) }
 
-pub exchange-fits : (s : State) (st st′ command : List ℕ) (p : Outgoing) → sound s ≡ true → carried p st′ ≡ carriedBy (exchange s command) st
-    → ReplyFits (p .reply) (s .wires) × KeptFits (p .kept) (length command) 256
-exchange-fits s st st′ command p h e =
-    let f = F.exchange-fits s h command in
-    subst (λ (z : Carried). ReplyFits (z .goes .reply) (s .wires) × KeptFits (z .goes .kept) (length command) 256) (sym e) (f .reply, f .kept)
+pub exchange-fits : (st st′ command : List ℕ) (w : Wires) (p : Outgoing) → Loadable st → w ≡ wiresIn st → carried p st′ ≡ carriedBy (exchange (unpacked st) command) st
+    → ReplyFits (p .reply) w × KeptFits (p .kept) (length command) 256
+unfolding unpacked
+exchange-fits st st′ command w p h ew e =
+    let f = F.exchange-fits (unpacked st) (h .good) command in
+    subst (λ (z : Wires). ReplyFits (p .reply) z × KeptFits (p .kept) (length command) 256) (sym ew)
+    (subst (λ (z : Carried). ReplyFits (z .goes .reply) (wiresIn st) × KeptFits (z .goes .kept) (length command) 256) (sym e) (f .reply, f .kept))
 
 pub answer-fits : (s : State) (serial success : ℕ) (st st′ bytes : List ℕ) (p : Outgoing) → sound s ≡ true
     → carried p st′ ≡ carriedBy (lift peripheral s (P.answerTo (s .peripheral) serial (P.succeeded success) (length bytes))) st → KeptFits (p .kept) (length bytes) 4096

@@ -4,7 +4,6 @@ use mathlib.Core.Path.{refl}
 use denote.Ref.{now}
 use native.Mathlib.Omega.{arith}
 use Rattle.espi.specs.Boundary.{ok-is, loadable, exchanged-by, exchange-fits}
-use Rattle.state.specs.Layout.{unpacked}
 use Rattle.rules.specs.Rules.Calls.{exchangeCall}
 use borrow.Author.Needs.{needs}
 use Rattle.espi.proofs.espi_exchange.Statement.{statement}
@@ -26,19 +25,37 @@ returns-4 : tie.Need-returns-4
 unfolding exchangeCall
 returns-4 c = passed _ _ (le-ltb _ _ (c .before .before .before .if1 .left)) (passed _ _ (le-ltb _ _ (c .before .before .if2 .left)) (passed _ _ (le-ltb _ _ (c .before .if3 .left)) (taken _ _ (lt-ltb _ _ (c .if4 .taken)) refl)))
 
+holds-requires : tie.Need-holds-requires
+holds-requires c κs = search needs
+
+same-length : tie.Need-same-length
+same-length c = search needs
+
 returns-5 : tie.Need-returns-5
 unfolding exchangeCall
 returns-5 c = passed _ _ (le-ltb _ _ (c .before .before .before .before .before .before .if1 .left)) (passed _ _ (le-ltb _ _ (c .before .before .before .before .before .if2 .left)) (passed _ _ (le-ltb _ _ (c .before .before .before .before .if3 .left)) (passed _ _ (le-ltb _ _ (c .before .before .before .if4 .left)) (taken _ _ (ok-is _ _ (c .before .holds .ensures) (c .if5 .taken)) refl))))
 
+unpack-requires : tie.Need-unpack-requires
+unpack-requires c κs = search needs
+
 exchange-requires : tie.Need-exchange-requires
-exchange-requires c κs = loadable (now (c .before .before .before .before .before .before .before .before .before .before .before .before .before .args .state)) _ (c .before .before .holds .ensures) (omega arith) (c .before .if5 .left)
+exchange-requires c κs = loadable (now (c .before .before .before .before .before .before .before .before .before .before .before .before .before .before .before .args .state)) _ (c .before .before .before .before .holds .ensures) (omega arith) (c .before .before .before .if5 .left)
 
 commit-requires : tie.Need-commit-requires
-commit-requires c κs = let a = c .before .before .before .before .before .before .before .before .before .before .before .before .before .before .before .before .before .before .args in let l = now (a .state) in let h = loadable l _ (c .before .before .before .before .before .before .before .holds .ensures) (omega arith) (c .before .before .before .before .before .before .if5 .left) in let f = exchange-fits (unpacked l) l _ (now (a .command)) (c .before .before .before .before .exchange .result) (h .good) (c .before .before .before .before .exchange .ensures) in (omega arith, omega arith, omega arith, f .0, f .1)
+commit-requires c κs = let a = c .before .before .before .before .before .before .before .before .before .before .before .before .before .before .before .before .before .before .before .before .args in let l = now (a .state) in let h = loadable l _ (c .before .before .before .before .before .before .before .before .before .holds .ensures) (omega arith) (c .before .before .before .before .before .before .before .before .if5 .left) in let f = exchange-fits l _ (now (a .command)) _ (c .before .before .before .before .exchange .result) h (c .before .before .before .before .before .before .unpack .ensures) (c .before .before .before .before .exchange .ensures) in (omega arith, omega arith, omega arith, f .0, f .1)
+
+same-length-2 : tie.Need-same-length-2
+same-length-2 c = search needs
+
+same-length-3 : tie.Need-same-length-3
+same-length-3 c = search needs
+
+same-length-4 : tie.Need-same-length-4
+same-length-4 c = search needs
 
 returns-6 : tie.Need-returns-6
 unfolding exchangeCall
-returns-6 c = passed _ _ (le-ltb _ _ (c .before .before .before .before .before .before .before .before .before .before .before .before .before .before .before .before .before .if1 .left)) (passed _ _ (le-ltb _ _ (c .before .before .before .before .before .before .before .before .before .before .before .before .before .before .before .before .if2 .left)) (passed _ _ (le-ltb _ _ (c .before .before .before .before .before .before .before .before .before .before .before .before .before .before .before .if3 .left)) (passed _ _ (le-ltb _ _ (c .before .before .before .before .before .before .before .before .before .before .before .before .before .before .if4 .left)) (passed _ _ (ok-is _ _ (c .before .before .before .before .before .before .before .before .before .before .before .before .holds .ensures) (c .before .before .before .before .before .before .before .before .before .before .before .if5 .left)) (let a = c .before .before .before .before .before .before .before .before .before .before .before .before .before .before .before .before .before .before .before .before .before .before .before .args in exchanged-by (now (a .state)) (c .before .before .before .before .before .before .before .before .before .exchange .result) _ (now (a .command)) (now (a .reply)) _ (now (a .write-store)) _ (now (a .read-store)) _ (c .before .before .before .before .before .before .before .before .before .exchange .ensures) (c .before .before .before .before .commit .ensures))))))
+returns-6 c = passed _ _ (le-ltb _ _ (c .before .before .before .before .before .before .before .before .before .before .before .before .before .before .before .before .before .before .before .if1 .left)) (passed _ _ (le-ltb _ _ (c .before .before .before .before .before .before .before .before .before .before .before .before .before .before .before .before .before .before .if2 .left)) (passed _ _ (le-ltb _ _ (c .before .before .before .before .before .before .before .before .before .before .before .before .before .before .before .before .before .if3 .left)) (passed _ _ (le-ltb _ _ (c .before .before .before .before .before .before .before .before .before .before .before .before .before .before .before .before .if4 .left)) (passed _ _ (ok-is _ _ (c .before .before .before .before .before .before .before .before .before .before .before .before .before .before .holds .ensures) (c .before .before .before .before .before .before .before .before .before .before .before .before .before .if5 .left)) (let a = c .before .before .before .before .before .before .before .before .before .before .before .before .before .before .before .before .before .before .before .before .before .before .before .before .before .args in exchanged-by (now (a .state)) (c .before .before .before .before .before .before .before .before .before .exchange .result) _ _ (now (a .command)) (now (a .reply)) _ (now (a .write-store)) _ (now (a .read-store)) _ (c .before .before .before .before .before .before .before .before .before .before .before .unpack .ensures) (c .before .before .before .before .before .before .before .before .before .exchange .ensures) (c .before .before .before .before .commit .ensures))))))
 
 pub espi-exchange-spec : {M : Type 1} → statement M
 espi-exchange-spec =
@@ -48,12 +65,13 @@ espi-exchange-spec =
     returns-2
     returns-3
     returns-4
-    (λ c κs. search needs)
-    (λ c. search needs)
+    holds-requires
+    same-length
     returns-5
+    unpack-requires
     exchange-requires
     commit-requires
-    (λ c. search needs)
-    (λ c. search needs)
-    (λ c. search needs)
+    same-length-2
+    same-length-3
+    same-length-4
     returns-6)
