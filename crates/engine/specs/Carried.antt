@@ -25,7 +25,7 @@ use Rattle.rules.specs.declared.Reply.the-variants.{Silent, Said}
 use Rattle.rules.specs.declared.Plan.{Plan}
 use Rattle.engine.specs.declared.Outgoing.{Outgoing}
 
--- the bytes are those that `load` found: they pack this sound state
+-- the bytes pack this sound state
 pub record Packs (s : State) (l : List ℕ) : Type 0 where
   pub long : stateLength ≤ length l
   pub good : sound s ≡ true
