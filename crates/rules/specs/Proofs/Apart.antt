@@ -15,6 +15,7 @@ use Rattle.crc.specs.Crc.{crc}
 use Rattle.registers.specs.Registers.{fresh008, readAt, writeAt}
 use Rattle.registers.specs.declared.Config.{Config}
 use Rattle.command.specs.declared.Command as C₀
+use Rattle.state.specs.Parts.{sum, sum-as}
 use Rattle.state.specs.Status.{status}
 use Rattle.state.specs.declared.State.{State}
 use Rattle.rules.specs.Rules.Out.{responseByte}
@@ -53,12 +54,6 @@ use Rattle.rules.specs.declared.Plan.{Plan}
 use Rattle.rules.specs.declared.Response.the-variants.{Accept, NonFatal}
 
 -- ---- the status without x's bits: the others' are left
-
-abbrev sum : (Channel → ℕ) → ℕ
-sum f = f peripheral + f wires
-
-sum-as : (f g : Channel → ℕ) → ((k : Channel) → f k ≡ g k) → sum f ≡ sum g
-sum-as f g h = rw (h peripheral, h wires)
 
 -- the bits that never change: VWIRE_FREE
 abbrev fixed : Channel → ℕ
