@@ -35,16 +35,17 @@ NoSingle op =
 -- then the short accesses decide
 pub no-single : (op : ℕ) → NoSingle op → rowOf op ≡ shortRow op
 no-single op r =
+    let (((((((((_, n00), n01), n02), n04), n05), n21), n22), n25), nFF) = r in
     simp (
-      ne-eqb op 0x00 (r .0 .0 .0 .0 .0 .0 .0 .0 .1),
-      ne-eqb op 0x01 (r .0 .0 .0 .0 .0 .0 .0 .1),
-      ne-eqb op 0x02 (r .0 .0 .0 .0 .0 .0 .1),
-      ne-eqb op 0x04 (r .0 .0 .0 .0 .0 .1),
-      ne-eqb op 0x05 (r .0 .0 .0 .0 .1),
-      ne-eqb op 0x21 (r .0 .0 .0 .1),
-      ne-eqb op 0x22 (r .0 .0 .1),
-      ne-eqb op 0x25 (r .0 .1),
-      ne-eqb op 0xFF (r .1),
+      ne-eqb op 0x00 n00,
+      ne-eqb op 0x01 n01,
+      ne-eqb op 0x02 n02,
+      ne-eqb op 0x04 n04,
+      ne-eqb op 0x05 n05,
+      ne-eqb op 0x21 n21,
+      ne-eqb op 0x22 n22,
+      ne-eqb op 0x25 n25,
+      ne-eqb op 0xFF nFF,
     )
 
 -- so it is between the single opcodes

@@ -9,11 +9,12 @@ use Rattle.base.specs.Bytes.{put, over, put-over, put-first}
 use Rattle.registers.specs.Registers.{reachable}
 use Rattle.registers.specs.Layout.{configBytes, configIn}
 use Rattle.registers.specs.declared.Config.{Config}
-use Rattle.state.specs.Channel.{Channel, Part, part, on, soundPart, place, partBytes, partIn, tidyPart, holdsPart}
+use Rattle.state.specs.Channel.{Channel, Part, part, on, bits, soundPart, place, partBytes, partIn, tidyPart, holdsPart}
+use Rattle.state.specs.Status.{status}
 use Rattle.state.specs.Sound.{sound}
 use Rattle.state.specs.Facts.{sound-parts, sound-made}
 use Rattle.state.specs.Layout.{stateLength, packed, unpacked, holds, tidy}
-use Rattle.state.specs.Parts.{last, Each, of-each, all, all-as, all-true, true-all, part-found, front, front-length, packed-ends}
+use Rattle.state.specs.Parts.{last, Each, of-each, all, all-as, all-true, true-all, sum, sum-as, part-found, front, front-length, packed-ends}
 use Rattle.state.specs.Tidy.{tidy-is}
 use Rattle.state.specs.declared.State.{State}
 
@@ -28,6 +29,12 @@ module _ (s : State) (l : List ℕ) where
 
   pub packed-done : {m : List ℕ} → m ≡ over (front last s ++ partBytes last (part last s)) l → m ≡ over (packed s) l
   packed-done e = e ∙ ap (λ (z : List ℕ). over z l) (sym (packed-ends s))
+
+-- ---- the status word by the channels'
+
+pub status-by : (s : State) {a : Each (λ k. ℕ)} → Each (λ k. of-each (λ j. ℕ) a k ≡ bits k (part k s)) → sum (of-each (λ k. ℕ) a) ≡ status s
+unfolding status
+status-by s {a} e = sum-as (of-each (λ k. ℕ) a) (λ k. bits k (part k s)) (of-each (λ k. of-each (λ j. ℕ) a k ≡ bits k (part k s)) e)
 
 -- ---- `holds` by its callees
 

@@ -51,6 +51,13 @@ true-all f h = and-true (h peripheral) (h wires)
 pub all-as : (f g : Channel → Bool) → ((k : Channel) → f k ≡ g k) → all f ≡ all g
 all-as f g h = same-test (all f) (all g) (λ e. true-all g (λ k. sym (h k) ∙ all-true f e k)) (λ e. true-all f (λ k. h k ∙ all-true g e k))
 
+-- a sum over every channel
+abbrev pub sum : (Channel → ℕ) → ℕ
+sum f = f peripheral + f wires
+
+pub sum-as : (f g : Channel → ℕ) → ((k : Channel) → f k ≡ g k) → sum f ≡ sum g
+sum-as f g h = rw (h peripheral, h wires)
+
 -- ---- a state is its configuration and its parts
 
 abbrev made : Config → ((k : Channel) → Part k) → State

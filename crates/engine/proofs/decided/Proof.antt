@@ -25,24 +25,6 @@ set-requires c κs = subst (λ (s : State). Packs s (now (c .before .before .bef
 reset-008-requires : tie.Need-reset-008-requires
 reset-008-requires c κs = subst (λ (s : State). Packs s (now (c .before .before .before .before .before .before .before .args .state))) (sym (c .before .unpack2 .ensures)) (c .before .before .before .before .before .before .before .pre .0)
 
-returns : tie.Need-returns
-returns c = acted-decided (unpacked (now (c .before .before .before .before .before .before .before .before .before .args .state))) _ _ _ peripheral _ _ (c .before .before .before .before .before .o .given .1) (c .before .before .act-peripheral .ensures)
-
-returns-2 : tie.Need-returns-2
-returns-2 c = acted-decided (unpacked (now (c .before .before .before .before .before .before .before .before .before .args .state))) _ _ _ wires _ _ (c .before .before .before .before .before .o2 .given .1) (c .before .before .act-wires .ensures)
-
-returns-3 : tie.Need-returns-3
-returns-3 c = let s = unpacked (now (c .before .before .before .before .before .before .before .before .before .args .state)) in let a = c .before .before .before .before .before .o3 .given .0 .0 in read-decided s _ _ _ a _ _ (c .before .before .before .before .before .before .before .before .before .pre .0) (c .before .before .before .before .before .o3 .given .1) (c .before .before .before .read .ensures ∙ ap (λ (z : Config). readAt z a) (c .before .before .before .before .before .before .before .before .before .pre .1)) (shown-is s _ _ _ (c .shown .ensures) (c .before .status-in .ensures))
-
-returns-4 : tie.Need-returns-4
-returns-4 c = let l = now (c .before .before .before .before .before .before .before .before .before .before .before .args .state) in set-decided (unpacked l) _ l _ _ _ _ (c .before .before .before .before .before .before .before .o4 .given .1) (set-unpacked l _ _ (c .before .before .set .ensures) (c .before .before .before .before .unpack .ensures))
-
-returns-5 : tie.Need-returns-5
-returns-5 c = let s = unpacked (now (c .before .before .before .before .before .before .before .args .state)) in status-decided s _ _ _ _ (c .before .before .before .before .before .before .before .pre .0) (c .before .before .before .enum-told .given .1) (shown-is s B.Nothing _ _ (c .shown2 .ensures) (c .before .status-in2 .ensures))
-
-returns-6 : tie.Need-returns-6
-returns-6 c = let l = now (c .before .before .before .before .before .before .before .before .before .before .before .args .state) in reset-decided (unpacked l) _ l _ _ _ (c .before .before .before .before .before .before .before .enum-told2 .given .1) (reset-unpacked l (c .before .before .before .reset-008 .ensures) (c .before .before .before .before .before .unpack2 .ensures)) (c .silently .ensures)
-
 pub decided-spec : {M : Type 1} → statement M
 decided-spec =
     tie.close
@@ -66,14 +48,14 @@ decided-spec =
     reset-008-requires
     (λ c κs. search needs)
     (λ c. search needs)
-    returns
+    (λ c. acted-decided (unpacked (now (c .before .before .before .before .before .before .before .before .before .args .state))) _ _ _ peripheral _ _ (c .before .before .before .before .before .o .given .1) (c .before .before .act-peripheral .ensures))
     (λ c. search needs)
-    returns-2
+    (λ c. acted-decided (unpacked (now (c .before .before .before .before .before .before .before .before .before .args .state))) _ _ _ wires _ _ (c .before .before .before .before .before .o2 .given .1) (c .before .before .act-wires .ensures))
     (λ c. search needs)
-    returns-3
+    (λ c. let s = unpacked (now (c .before .before .before .before .before .before .before .before .before .args .state)) in let a = c .before .before .before .before .before .o3 .given .0 .0 in read-decided s _ _ _ a _ _ (c .before .before .before .before .before .before .before .before .before .pre .0) (c .before .before .before .before .before .o3 .given .1) (c .before .before .before .read .ensures ∙ ap (λ (z : Config). readAt z a) (c .before .before .before .before .before .before .before .before .before .pre .1)) (shown-is s _ _ _ (c .shown .ensures) (c .before .status-in .ensures)))
     (λ c. search needs)
-    returns-4
+    (λ c. let l = now (c .before .before .before .before .before .before .before .before .before .before .before .args .state) in set-decided (unpacked l) _ l _ _ _ _ (c .before .before .before .before .before .before .before .o4 .given .1) (set-unpacked l _ _ (c .before .before .set .ensures) (c .before .before .before .before .unpack .ensures)))
     (λ c. search needs)
-    returns-5
+    (λ c. let s = unpacked (now (c .before .before .before .before .before .before .before .args .state)) in status-decided s _ _ _ _ (c .before .before .before .before .before .before .before .pre .0) (c .before .before .before .enum-told .given .1) (shown-is s B.Nothing _ _ (c .shown2 .ensures) (c .before .status-in2 .ensures)))
     (λ c. search needs)
-    returns-6)
+    (λ c. let l = now (c .before .before .before .before .before .before .before .before .before .before .before .args .state) in reset-decided (unpacked l) _ l _ _ _ (c .before .before .before .before .before .before .before .enum-told2 .given .1) (reset-unpacked l (c .before .before .before .reset-008 .ensures) (c .before .before .before .before .before .unpack2 .ensures)) (c .silently .ensures)))

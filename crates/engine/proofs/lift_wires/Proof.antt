@@ -1,16 +1,17 @@
 use mathlib.Core.Path.{ap, _∙_}
 use denote.Ref.{now}
 use Rattle.state.specs.Layout.{unpacked}
-use Rattle.rules.specs.Rules.Channel.{wires}
+use Rattle.state.specs.Coded.{status-by}
+use Rattle.rules.specs.Rules.Channel.{wires, put}
 use Rattle.rules.specs.Rules.Lift.{withStatus}
 use Rattle.engine.specs.Laws.Stored.{lift-carried}
-use Rattle.engine.specs.Laws.Loaded.{word-wires}
 use borrow.Author.Needs.{needs}
 use Rattle.engine.proofs.lift_wires.Statement.{statement}
 use Rattle.engine.proofs.lift_wires.Tie as tie
 
 returns : tie.Need-returns
-returns c = let a = c .before .before .before .before .before .before .before .before .before .before .before .args in let l = now (a .state) in lift-carried wires (unpacked l) (a .x) l (c .before .before .before .before .before .before .before .before .before .before .before .pre .0) (c .before .before .before .before .before .before .before .before .before .before .before .pre .1) _ _ (c .before .before .before .store .ensures) (c .reply-with .ensures ∙ ap (withStatus (a .x .out .say)) (word-wires l _ _ (a .x .next) (c .before .before .before .before .before .before .status-in .ensures .0) (c .before .before .before .before .before .status .ensures .0)))
+unfolding unpacked
+returns c = let a = c .before .before .before .before .before .before .before .before .before .before .before .args in let l = now (a .state) in lift-carried wires (unpacked l) (a .x) l (c .before .before .before .before .before .before .before .before .before .before .before .pre .0) (c .before .before .before .before .before .before .before .before .before .before .before .pre .1) _ _ (c .before .before .before .store .ensures) (c .reply-with .ensures ∙ ap (withStatus (a .x .out .say)) (status-by (put wires (a .x .next) (unpacked l)) (c .before .before .before .before .before .before .status-in .ensures .0, c .before .before .before .before .before .status .ensures .0)))
 
 pub lift-wires-spec : {M : Type 1} → statement M
 lift-wires-spec =

@@ -1,7 +1,7 @@
 -- The bytes of a sound state: what the channels find in them, and a change of channel 0 carried out on them.
-use Prim.Native.Nat.{ℕ, _+_, _≤_}
+use Prim.Native.Nat.{ℕ, _≤_}
 use mathlib.Core.Bool.{Bool, true, false}
-use mathlib.Core.List.{List, _++_, append-assoc}
+use mathlib.Core.List.{List, _++_}
 use mathlib.Core.Path.{_≡_, refl, sym, ap, subst, _∙_}
 use native.Mathlib.Omega.{arith}
 use lib.Dec.{eqb}
@@ -9,18 +9,18 @@ use lib.ListN.{length, drop, take-append-drop}
 use Rattle.base.specs.Pick.{pick}
 use Rattle.base.specs.Bytes.{put}
 use Rattle.registers.specs.Registers.{reachable, on1}
-use Rattle.registers.specs.Layout.{configBytes, configIn}
+use Rattle.registers.specs.Layout.{configIn}
 use Rattle.registers.specs.declared.Config.{Config}
-use Rattle.wires.specs.Groups.{soundWires, wiresStatus}
-use Rattle.wires.specs.Layout.{wiresBytes, wiresIn}
+use Rattle.wires.specs.Groups.{soundWires}
+use Rattle.wires.specs.Layout.{wiresIn}
 use Rattle.wires.specs.declared.Wires.{Wires}
 use Rattle.peripheral.specs.Sound.{soundRequest}
 use Rattle.peripheral.specs.Status.{peripheralStatus}
 use Rattle.peripheral.specs.Layout.{peripheralBytes, npIn, peripheralIn}
 use Rattle.peripheral.specs.Stored.{Stands, status-stored}
-use Rattle.peripheral.specs.declared.Peripheral.{Peripheral}
 use Rattle.state.specs.Status.{status}
-use Rattle.state.specs.Layout.{stateLength, packed, unpacked}
+use Rattle.state.specs.Layout.{stateLength, unpacked}
+use Rattle.state.specs.Parts.{front, behind, front-length, packed-at}
 use Rattle.state.specs.Facts.{sound-config, sound-request, sound-wires}
 use Rattle.state.specs.declared.State.{State}
 use Rattle.command.specs.declared.PeripheralCommand.{PeripheralCommand}
@@ -56,17 +56,14 @@ wires-in l = refl
 
 module _ (l : List ℕ) (h : Loadable l) where
   stands : Stands (peripheralIn l) l
-  unfolding unpacked packed
+  unfolding unpacked
   stands =
-      let p = peripheralBytes (peripheralIn l) in
-      let w = wiresBytes (wiresIn l) in
       let r = drop stateLength l in
       record {
-        front = configBytes (configIn l);
-        behind = w ++ r;
-        at = refl;
-        is = sym (take-append-drop stateLength l) ∙ ap (λ (m : List ℕ). m ++ r) (h .bytes) ∙ append-assoc (configBytes (configIn l)) (p ++ w) r
-            ∙ ap (λ (m : List ℕ). configBytes (configIn l) ++ m) (append-assoc p w r);
+        front = front peripheral (unpacked l);
+        behind = behind peripheral (unpacked l) r;
+        at = front-length peripheral (unpacked l);
+        is = sym (take-append-drop stateLength l) ∙ ap (λ (m : List ℕ). m ++ r) (h .bytes) ∙ packed-at peripheral (unpacked l) r;
       }
 
   -- what channel 0's commands ask for
@@ -112,16 +109,7 @@ set-unpacked l a v e f = e ∙ ap (λ (t : State). carriedBy (setConfiguration t
 pub reset-unpacked : (l : List ℕ) {s : State} {l′ : List ℕ} → l′ ≡ kept (reset008h s) l → s ≡ unpacked l → l′ ≡ kept (reset008h (unpacked l)) l
 reset-unpacked l e f = e ∙ ap (λ (t : State). kept (reset008h t) l) f
 
--- ---- the status word, a part of it read off the bytes
-
-module _ (l : List ℕ) (a b : ℕ) where
-  pub word-peripheral : (p : Peripheral) → a ≡ peripheralStatus p → b ≡ wiresStatus (wiresIn l) → a + b ≡ status (C.put peripheral p (unpacked l))
-  unfolding status unpacked
-  word-peripheral p e f = rw (e, f)
-
-  pub word-wires : (w : Wires) → a ≡ peripheralStatus (peripheralIn l) → b ≡ wiresStatus w → a + b ≡ status (C.put wires w (unpacked l))
-  unfolding status unpacked
-  word-wires w e f = rw (e, f)
+-- ---- a plan that shows
 
 pub shown-is : (s : State) (body : Body) (word : ℕ) (r : Outgoing) → r ≡ showing body word → word ≡ status s → r ≡ outgoing (show body s)
 shown-is s body word r k e = k ∙ ap (showing body) e
@@ -138,16 +126,14 @@ module _ (l : List ℕ) (x : PeripheralChange) (h : Loadable l) (f : Stays (unpa
       go true k = status-stored (x .next) l (omega (arith, h .long))
       go false k = ap (λ (s : State). peripheralStatus (s .peripheral)) (sym (f k))
 
-  pub acted-carried : (l′ : List ℕ) (o : Out) (a b : ℕ) (r : Reply)
+  pub acted-carried : (l′ : List ℕ) (o : Out) (word : ℕ) (r : Reply)
       → changedTo o l′ ≡ changedBy peripheral x l
-      → a ≡ peripheralStatus (peripheralIn l′)
-      → b ≡ wiresStatus (wiresIn l)
-      → r ≡ withStatus (o .say) (a + b)
+      → (peripheralStatus (peripheralIn l′) ≡ peripheralStatus (x .next) → word ≡ status (C.put peripheral (x .next) (unpacked l)))
+      → r ≡ withStatus (o .say) word
       → carried (record { number = o .number; reply = r; kept = o .kept }) l′ ≡ carriedBy (lift peripheral (unpacked l) x) l
-  acted-carried l′ o a b r e ea eb er =
+  acted-carried l′ o word r e ew er =
       let eo : o ≡ x .out = ap (λ (z : Changed). z .goes) e in
       let el : l′ ≡ changedBy peripheral x l .state = ap (λ (z : Changed). z .state) e in
-      let word = word-peripheral l a b (x .next) (ea ∙ said l′ el) eb in
-      let k = er ∙ ap (λ (z : Out). withStatus (z .say) (a + b)) eo ∙ ap (withStatus (x .out .say)) word in
+      let k = er ∙ ap (λ (z : Out). withStatus (z .say) word) eo ∙ ap (withStatus (x .out .say)) (ew (said l′ el)) in
       ap (λ (z : Out). carried (record { number = z .number; reply = r; kept = z .kept }) l′) eo
       ∙ lift-carried peripheral (unpacked l) x l h f l′ r el k

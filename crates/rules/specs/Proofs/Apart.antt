@@ -15,6 +15,7 @@ use Rattle.crc.specs.Crc.{crc}
 use Rattle.registers.specs.Registers.{fresh008, readAt, writeAt}
 use Rattle.registers.specs.declared.Config.{Config}
 use Rattle.command.specs.declared.Command as C₀
+use Rattle.state.specs.Parts.{sum, sum-as}
 use Rattle.state.specs.Status.{status}
 use Rattle.state.specs.declared.State.{State}
 use Rattle.rules.specs.Rules.Out.{responseByte}
@@ -35,12 +36,13 @@ use Rattle.rules.specs.Statements.Apart.{storesOf, clear, isCommandOf, i
 use Rattle.rules.specs.Proofs.Plans as Q
 use Rattle.rules.specs.Proofs.Channels as L₁
 use Rattle.rules.specs.Proofs.Peripheral.Apart as P₁
+use Rattle.rules.specs.Proofs.Peripheral.Status.{avail-bit}
 use Rattle.rules.specs.Proofs.Wires.Apart as W₁
 use Rattle.rules.specs.Proofs.Stores.{lacks, SameLack, bodyIn, Owns, kept-other}
 use Rattle.rules.specs.Proofs.Whose.{begins, own-command}
 use Rattle.rules.specs.Proofs.Effects.{above}
 use Rattle.rules.specs.Proofs.Cases.{both}
-use Rattle.rules.specs.Proofs.Lift.{out-change, part-stays, lift-change, put-config, put-both, part-each, same-is, same-turned, planned}
+use Rattle.rules.specs.Proofs.Lift.{out-change, part-stays, lift-change, put-config, put-both, part-each, same-is, same-turned, own-or-other, planned}
 use Rattle.rules.specs.Proofs.Reads.{reads}
 use Rattle.rules.specs.Proofs.Reply.{closed-as, closed-length, status-bits, status-small, over-long}
 use Rattle.rules.specs.declared.Body.the-variants as B
@@ -54,12 +56,6 @@ use Rattle.rules.specs.declared.Response.the-variants.{Accept, NonFatal}
 
 -- ---- the status without x's bits: the others' are left
 
-abbrev sum : (Channel → ℕ) → ℕ
-sum f = f peripheral + f wires
-
-sum-as : (f g : Channel → ℕ) → ((k : Channel) → f k ≡ g k) → sum f ≡ sum g
-sum-as f g h = rw (h peripheral, h wires)
-
 -- the bits that never change: VWIRE_FREE
 abbrev fixed : Channel → ℕ
 fixed peripheral = 0
@@ -70,7 +66,7 @@ left x s = sum (λ k. pick (same x k) (fixed k) (bits k (part k s)))
 
 cleared : (x : Channel) (s : State) → clear x (status s) ≡ left x s
 unfolding status
-cleared peripheral s = omega (arith, status-bits s)
+cleared peripheral s = omega (arith, status-bits s, avail-bit s)
 cleared wires s = omega (arith, status-bits s)
 
 left-alike : (x : Channel) (s t : State) → StatesAlike x s t → left x s ≡ left x t
@@ -303,14 +299,24 @@ middle true b c e = absurd (true≢false e)
 middle false true c e = absurd (true≢false e)
 middle false false c e = refl
 
+-- channel 0 alone has stores
+no-stores : (y : Channel) → same peripheral y ≡ false → (write read : List ℕ) → storesOf y write read ≡ []
+no-stores peripheral e write read = absurd (true≢false e)
+no-stores wires e write read = refl
+
+same-stores : (y : Channel) → same peripheral y ≡ false → (write read write′ read′ : List ℕ) → storesOf y write read ≡ storesOf y write′ read′
+same-stores y e write read write′ read′ = no-stores y e write read ∙ sym (no-stores y e write′ read′)
+
 -- data of k's own stays out of the others' stores
 module _ (b write read : List ℕ) where
   abbrev StoresStay : Channel → (List ℕ → List ℕ) → Type 0
   StoresStay y f = (storesOf y (f write) read ≡ storesOf y write read) × (storesOf y write (f read) ≡ storesOf y write read)
 
   stores-own : (k y : Channel) (kept : Kept) → ownKept k kept ≡ true → same k y ≡ false → StoresStay y (over (keptBytes kept b))
-  stores-own k wires kept o e = (refl, refl)
-  stores-own k peripheral kept o e = kept-other (StoresStay peripheral) k (same-turned k peripheral e) kept b o (refl, refl)
+  stores-own k y kept o =
+      own-or-other peripheral (λ (z : Channel). same k z ≡ false → StoresStay z (over (keptBytes kept b)))
+      (λ e. kept-other (StoresStay peripheral) k (same-turned k peripheral e) kept b o (refl, refl))
+      (λ z n e. (same-stores z n _ _ _ _, same-stores z n _ _ _ _)) y
 
 module _ (k : Channel) (w : World) where
   acts-own : (b r : List ℕ) {p : Part k} {a : Act k} {c : Change k} → Acts k p a c → shortStores r w ≡ false
@@ -432,13 +438,9 @@ to-wires : {w v : World} → SameButWires w v → Alike wires w v
 to-wires {w} {v} h =
     record {
       state = h .state;
-      stores = stores;
+      stores = λ y e. ap (λ (l : List ℕ). storesOf y l (w .read)) (h .write) ∙ ap (storesOf y (v .write)) (h .read);
       room = λ reply. ap (λ (l : List ℕ). lacks reply l (w .read)) (h .write) ∙ ap (lacks reply (v .write)) (h .read);
     }
-  where
-    stores : (y : Channel) → same wires y ≡ false → storesOf y (w .write) (w .read) ≡ storesOf y (v .write) (v .read)
-    stores peripheral e = ap (λ (l : List ℕ). l ∷ w .read ∷ []) (h .write) ∙ ap (λ (l : List ℕ). v .write ∷ l ∷ []) (h .read)
-    stores wires e = refl
 
 from-wires : {w v : World} → Alike wires w v → SameButWires w v
 from-wires h =
@@ -452,11 +454,7 @@ pub wires-apart : WiresApart
 wires-apart w v cs ds h e = let r = none-tells wires w v cs ds (to-wires h) e in record { calls = r .calls; after = from-wires (r .after) }
 
 to-peripheral : {w v : World} → SameButPeripheral w v → Alike peripheral w v
-to-peripheral {w} {v} h = record { state = h .state; stores = stores; room = h .room }
-  where
-    stores : (y : Channel) → same peripheral y ≡ false → storesOf y (w .write) (w .read) ≡ storesOf y (v .write) (v .read)
-    stores peripheral e = absurd (true≢false e)
-    stores wires e = refl
+to-peripheral {w} {v} h = record { state = h .state; stores = λ y e. same-stores y e (w .write) (w .read) (v .write) (v .read); room = h .room }
 
 from-peripheral : {w v : World} → Alike peripheral w v → SameButPeripheral w v
 from-peripheral h = record { state = h .state; room = h .room }
