@@ -24,6 +24,7 @@ use Rattle.rules.specs.Rules.Wires as W
 use Rattle.rules.specs.Rules.Channel.{peripheral}
 use Rattle.rules.specs.Rules.Lift.{lift}
 use Rattle.rules.specs.Rules.Exchange.{exchange}
+use Rattle.rules.specs.Rules.Step.{writeLength, readLength}
 use Rattle.rules.specs.Rules.Reply.{replyBytes, keptBytes}
 use Rattle.rules.specs.Rules.Fits.{ReplyFits, KeptFits}
 use Rattle.rules.specs.Rules.Calls.{Exchanged, done, exchanged, stored, looked, kept, word, exchangePlanned}
@@ -146,14 +147,14 @@ kept-wider K.Nothing m a b h f = tt
 kept-wider (K.Data at n) m a b h f = record { there = f .there; most = omega (arith, f .most) }
 
 pub exchange-fits : (st st′ command : List ℕ) (w : Wires) (p : Outgoing) → Loadable st → w ≡ wiresIn st → carried p st′ ≡ carriedBy (exchange (unpacked st) command) st
-    → ReplyFits (p .reply) w × KeptFits (p .kept) (length command) 256
+    → ReplyFits (p .reply) w × KeptFits (p .kept) (length command) writeLength
 unfolding unpacked
 exchange-fits st st′ command w p h ew e =
     let f = F.exchange-fits (unpacked st) (h .good) command in
-    subst (λ (z : Wires). ReplyFits (p .reply) z × KeptFits (p .kept) (length command) 256) (sym ew)
-    (subst (λ (z : Carried). ReplyFits (z .goes .reply) (wiresIn st) × KeptFits (z .goes .kept) (length command) 256) (sym e) (f .reply, f .kept))
+    subst (λ (z : Wires). ReplyFits (p .reply) z × KeptFits (p .kept) (length command) writeLength) (sym ew)
+    (subst (λ (z : Carried). ReplyFits (z .goes .reply) (wiresIn st) × KeptFits (z .goes .kept) (length command) writeLength) (sym e) (f .reply, f .kept))
 
 pub answer-fits : (s : State) (serial success : ℕ) (st st′ bytes : List ℕ) (p : Outgoing) → sound s ≡ true
-    → carried p st′ ≡ carriedBy (lift peripheral s (P.answerTo (s .peripheral) serial (P.succeeded success) (length bytes))) st → KeptFits (p .kept) (length bytes) 4096
+    → carried p st′ ≡ carriedBy (lift peripheral s (P.answerTo (s .peripheral) serial (P.succeeded success) (length bytes))) st → KeptFits (p .kept) (length bytes) readLength
 answer-fits s serial success st st′ bytes p h e =
-    subst (λ (z : Carried). KeptFits (z .goes .kept) (length bytes) 4096) (sym e) (F.answer-fits s h serial success bytes)
+    subst (λ (z : Carried). KeptFits (z .goes .kept) (length bytes) readLength) (sym e) (F.answer-fits s h serial success bytes)

@@ -21,6 +21,7 @@ use Rattle.wires.specs.declared.Wires.{Wires}
 use Rattle.wires.specs.declared.Going.{Going}
 use Rattle.wires.specs.declared.Packet.{Packet}
 use Rattle.peripheral.specs.declared.Completion.{Completion}
+use Rattle.rules.specs.Rules.Step.{replyLength, readLength}
 use Rattle.rules.specs.Rules.Reply.{headerBytes, bodyBytes, closed, replyBytes, keptBytes}
 use Rattle.rules.specs.Proofs.Reply.{closed-length}
 use Rattle.rules.specs.declared.Body.{Body}
@@ -191,15 +192,15 @@ written-whole w p g code at l l₁ h z s =
 four-more : (k n : ℕ) → k ≡ n → 4 + n ≡ suc (suc (suc (suc k)))
 four-more k n e = omega arith
 
-pub piece-length : (c : Completion) (n : ℕ) (w : Wires) (reads : List ℕ) → 4096 ≤ length reads → c .from + c .length ≤ 4096 → n ≡ 4 + c .length → (code : ℕ) → n ≡ length (code ∷ bodyBytes (B.Piece c) w reads)
+pub piece-length : (c : Completion) (n : ℕ) (w : Wires) (reads : List ℕ) → readLength ≤ length reads → c .from + c .length ≤ readLength → n ≡ 4 + c .length → (code : ℕ) → n ≡ length (code ∷ bodyBytes (B.Piece c) w reads)
 piece-length c n w reads hs hf e code = e ∙ four-more _ _ (length-take-le (c .length) (drop (c .from) reads) (rw length-drop (omega arith)))
 
 -- the reply of the case that it is in
 pub by-reply : (r r′ : Reply) (w : Wires) (l l₁ reads : List ℕ) (n : ℕ)
     → r ≡ r′
-    → (l₁ ≡ over (replyBytes r′ w reads) l) × (n ≡ length (replyBytes r′ w reads)) × (n ≤ 263)
-    → (l₁ ≡ over (replyBytes r w reads) l) × (n ≡ length (replyBytes r w reads)) × (n ≤ 263)
-by-reply r r′ w l l₁ reads n e h = subst (λ (z : Reply). (l₁ ≡ over (replyBytes z w reads) l) × (n ≡ length (replyBytes z w reads)) × (n ≤ 263)) (sym e) h
+    → (l₁ ≡ over (replyBytes r′ w reads) l) × (n ≡ length (replyBytes r′ w reads)) × (n ≤ replyLength)
+    → (l₁ ≡ over (replyBytes r w reads) l) × (n ≡ length (replyBytes r w reads)) × (n ≤ replyLength)
+by-reply r r′ w l l₁ reads n e h = subst (λ (z : Reply). (l₁ ≡ over (replyBytes z w reads) l) × (n ≡ length (replyBytes z w reads)) × (n ≤ replyLength)) (sym e) h
 
 -- data kept at the start of a store
 pub data-by : (dst dst′ src part : List ℕ) (at n : ℕ) → at + n ≤ length src → part ≡ drop at src → dst′ ≡ copied dst part n → dst′ ≡ over (take n (drop at src)) dst

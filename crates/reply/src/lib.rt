@@ -25,6 +25,7 @@ ghost use Rattle.rules.specs.Rules.Out.{responseByte};
 ghost use Rattle.rules.specs.Rules.Peripheral.{requestReport, postedReport, takeReport};
 ghost use Rattle.rules.specs.Rules.Reply.{headerBytes, dataBytes, bodyBytes, closed, replyBytes, keptBytes};
 ghost use Rattle.reply.specs.Written.{pairNow};
+ghost use Rattle.rules.specs.Rules.Step.{replyLength, readLength, lookLength, takeLength};
 ghost use Rattle.rules.specs.Rules.Fits.{BodyFits, ReplyFits, KeptFits};
 
 fn response_byte(r: Response) -> u8
@@ -52,7 +53,7 @@ fn header(code: u8, c: Completion) -> [u8; 4]
 
 // The data goes into the reply from its fifth byte on.
 fn put_piece(reply: &mut [u8], code: u8, c: Completion, reads: &[u8]) -> usize
-    requires { ⌜ (263 ≤ length (now reply)) × (4096 ≤ length (now reads)) × (c .length ≤ 256) × (c .from + c .length ≤ 4096) ⌝ }
+    requires { ⌜ (replyLength ≤ length (now reply)) × (readLength ≤ length (now reads)) × (c .length ≤ 256) × (c .from + c .length ≤ readLength) ⌝ }
     ensures { λ r. ⌜ (now (reply .exit) ≡ over ((code ∷ headerBytes c) ++ dataBytes c (now (reads .entry))) (now (reply .entry))) × (r ≡ 4 + c .length) ⌝ }
 {
     let first = header(code, c);
@@ -78,7 +79,7 @@ fn put_pair(reply: &mut [u8], at: usize, g: Going, waits: bool, level: u8) -> us
 
 // The response byte and a wire packet, group by group over the wires as they were, until it is full.
 fn put_groups(reply: &mut [u8], code: u8, w: Wires, p: Packet) -> usize
-    requires { ⌜ (263 ≤ length (now reply)) × PacketFits w p ⌝ }
+    requires { ⌜ (replyLength ≤ length (now reply)) × PacketFits w p ⌝ }
     ensures { λ r. ⌜ (now (reply .exit) ≡ over (code ∷ packetBytes w p) (now (reply .entry))) × (r ≡ length (code ∷ packetBytes w p)) × (r ≤ 260) ⌝ }
 {
     base::put_at(reply, 0, &[code, p.count - 1]);
@@ -95,7 +96,7 @@ fn put_groups(reply: &mut [u8], code: u8, w: Wires, p: Packet) -> usize
 
 // The response byte and a register.
 fn put_word(reply: &mut [u8], code: u8, v: u32) -> usize
-    requires { ⌜ 263 ≤ length (now reply) ⌝ }
+    requires { ⌜ replyLength ≤ length (now reply) ⌝ }
     ensures { λ r. ⌜ (now (reply .exit) ≡ over (code ∷ Rattle.base.specs.Bytes.low4 v) (now (reply .entry))) × (r ≡ 5) ⌝ }
 {
     let w = base::bytes4(v);
@@ -104,7 +105,7 @@ fn put_word(reply: &mut [u8], code: u8, v: u32) -> usize
 }
 
 fn put_body(reply: &mut [u8], code: u8, body: Body, w: Words, reads: &[u8]) -> usize
-    requires { ⌜ (263 ≤ length (now reply)) × (4096 ≤ length (now reads)) × BodyFits body (wiresOf w) ⌝ }
+    requires { ⌜ (replyLength ≤ length (now reply)) × (readLength ≤ length (now reads)) × BodyFits body (wiresOf w) ⌝ }
     ensures { λ r. ⌜ (now (reply .exit) ≡ over (code ∷ bodyBytes body (wiresOf w) (now (reads .entry))) (now (reply .entry))) × (r ≡ length (code ∷ bodyBytes body (wiresOf w) (now (reads .entry)))) × (r ≤ 260) ⌝ }
 {
     match body {
@@ -131,8 +132,8 @@ fn finish(reply: &mut [u8], n: usize, status: u32)
 }
 
 fn say(reply: &mut [u8], code: u8, body: Body, status: u32, w: Words, reads: &[u8]) -> u32
-    requires { ⌜ (263 ≤ length (now reply)) × (4096 ≤ length (now reads)) × BodyFits body (wiresOf w) ⌝ }
-    ensures { λ r. ⌜ (now (reply .exit) ≡ over (closed (code ∷ bodyBytes body (wiresOf w) (now (reads .entry))) status) (now (reply .entry))) × (r ≡ length (closed (code ∷ bodyBytes body (wiresOf w) (now (reads .entry))) status)) × (r ≤ 263) ⌝ }
+    requires { ⌜ (replyLength ≤ length (now reply)) × (readLength ≤ length (now reads)) × BodyFits body (wiresOf w) ⌝ }
+    ensures { λ r. ⌜ (now (reply .exit) ≡ over (closed (code ∷ bodyBytes body (wiresOf w) (now (reads .entry))) status) (now (reply .entry))) × (r ≡ length (closed (code ∷ bodyBytes body (wiresOf w) (now (reads .entry))) status)) × (r ≤ replyLength) ⌝ }
 {
     let n = put_body(reply, code, body, w, reads);
     finish(reply, n, status);
@@ -141,8 +142,8 @@ fn say(reply: &mut [u8], code: u8, body: Body, status: u32, w: Words, reads: &[u
 
 // The reply's bytes, over the wires as they were before the command; their count.
 pub fn put_reply(reply: &mut [u8], r: Reply, w: Words, reads: &[u8]) -> u32
-    requires { ⌜ (263 ≤ length (now reply)) × (4096 ≤ length (now reads)) × ReplyFits r (wiresOf w) ⌝ }
-    ensures { λ n. ⌜ (now (reply .exit) ≡ over (replyBytes r (wiresOf w) (now (reads .entry))) (now (reply .entry))) × (n ≡ length (replyBytes r (wiresOf w) (now (reads .entry)))) × (n ≤ 263) ⌝ }
+    requires { ⌜ (replyLength ≤ length (now reply)) × (readLength ≤ length (now reads)) × ReplyFits r (wiresOf w) ⌝ }
+    ensures { λ n. ⌜ (now (reply .exit) ≡ over (replyBytes r (wiresOf w) (now (reads .entry))) (now (reply .entry))) × (n ≡ length (replyBytes r (wiresOf w) (now (reads .entry)))) × (n ≤ replyLength) ⌝ }
 {
     match r {
         Reply::Silent => 0,
@@ -208,7 +209,7 @@ fn request_report(q: Request, serial: u32) -> [u8; 19]
 
 // The report of a look: kind, address, length, serial, an I/O write's bytes.
 pub fn put_request(report: &mut [u8], q: Request, serial: u32)
-    requires { ⌜ 19 ≤ length (now report) ⌝ }
+    requires { ⌜ lookLength ≤ length (now report) ⌝ }
     ensures { λ _. ⌜ now (report .exit) ≡ over (requestReport q serial) (now (report .entry)) ⌝ }
 {
     let r = request_report(q, serial);
@@ -235,7 +236,7 @@ fn posted_report(w: Posted) -> [u8; 10]
 }
 
 fn put_posted(report: &mut [u8], w: Posted)
-    requires { ⌜ 10 ≤ length (now report) ⌝ }
+    requires { ⌜ takeLength ≤ length (now report) ⌝ }
     ensures { λ _. ⌜ now (report .exit) ≡ over (postedReport w) (now (report .entry)) ⌝ }
 {
     let r = posted_report(w);
@@ -244,7 +245,7 @@ fn put_posted(report: &mut [u8], w: Posted)
 
 // The report of a take: address and length; nothing where no write is held.
 pub fn put_write(report: &mut [u8], w: Write)
-    requires { ⌜ 10 ≤ length (now report) ⌝ }
+    requires { ⌜ takeLength ≤ length (now report) ⌝ }
     ensures { λ _. ⌜ now (report .exit) ≡ over (takeReport w) (now (report .entry)) ⌝ }
 {
     match w {
