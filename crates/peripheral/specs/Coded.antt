@@ -14,6 +14,7 @@ use Rattle.base.specs.Numbers.{length-join, none8}
 use Rattle.pieces.specs.Marks.{markOf, markType}
 use Rattle.pieces.specs.Pieces.{nextMark}
 use Rattle.pieces.specs.Edges.{place-low}
+use Rattle.pieces.specs.Laws.{next-mark}
 use Rattle.pieces.specs.declared.Mark.{Mark}
 use Rattle.peripheral.specs.Upward.{nextOf, pieceOf, bare, successOf, upward, firstOf, leftOf, afterPiece, afterSuccess, handed}
 use Rattle.peripheral.specs.Status.{pcFree, npFree, pcAvail, peripheralStatus}
@@ -85,9 +86,8 @@ pub piece-handed : (q : Request) (sent n cycle : ℕ) (mark : Mark) (l l′ : Li
     → cycle ≡ markType mark
     → l′ ≡ put 29 (npBytes (leftOf q (sent + n))) l
     → (record { cycle = cycle; tag = q .tag; length = n; from = sent } ≡ pieceOf q sent) × (l′ ≡ put 29 (npBytes (afterPiece q sent)) l)
-unfolding nextMark
 piece-handed q sent n cycle mark l l′ en em ec k =
-    let c = ec ∙ ap markType (em ∙ ap (λ (z : ℕ). markOf (eqb sent 0) (eqb (sent + z) (q .length))) en) in (
+    let c = ec ∙ ap markType (em ∙ next-mark (q .address) (q .length) (q .payload) sent en) in (
       ap (λ (x : ℕ). record { cycle = x; tag = q .tag; length = n; from = sent }) c
           ∙ ap (λ (y : ℕ). record { cycle = markType (nextMark (q .address) (q .length) (q .payload) sent); tag = q .tag; length = y; from = sent }) en,
       k ∙ ap (λ (z : ℕ). put 29 (npBytes (leftOf q (sent + z))) l) en,

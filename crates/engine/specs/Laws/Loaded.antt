@@ -50,10 +50,6 @@ pub peripheral-in : (l : List ℕ) → peripheralIn l ≡ unpacked l .peripheral
 unfolding unpacked
 peripheral-in l = refl
 
-pub wires-in : (l : List ℕ) → wiresIn l ≡ unpacked l .wires
-unfolding unpacked
-wires-in l = refl
-
 module _ (l : List ℕ) (h : Loadable l) where
   stands : Stands (peripheralIn l) l
   unfolding unpacked
