@@ -13,9 +13,9 @@ import tempfile
 
 KINDS = ["GET_STATUS", "short I/O read", "its GET_PC", "64-byte piece", "256-byte piece", "PUT_PC of 64 bytes", "PUT_VWIRE", "GET_VWIRE",
          "GET_CONFIGURATION", "SET_CONFIGURATION", "a refusal (GET_PC, none ready)"]
-BOARD = ["set wire, refused", "set wire"]  # load and little else; load, a wire changed, the state packed
+BOARD = ["set wire, refused", "set wire"]  # the test of the bytes and little else; that, and a wire's channel changed and stored
 PROGRAM = "target/figures"
-LOAD = "state::load"
+LOAD = "state::holds"
 NATIVE = platform.machine() == "x86_64"
 
 
@@ -53,21 +53,21 @@ def instructions(kind, inside=""):
 
 
 def figures(kind):
-    """Number, bytes sent and said, instructions of the archive, those of them in `load`, nanoseconds."""
+    """Number, bytes sent and said, instructions of the archive, those of them in `state::holds`, nanoseconds."""
     number, sent, said, _ = run(([] if NATIVE else ["qemu-x86_64-static"]) + [PROGRAM, kind, "1"]).split()
     ns = min((run([PROGRAM, kind, "200000"]).split()[3] for _ in range(5)), key=float) if NATIVE else "-"
     return number, int(sent), int(said), instructions(kind), instructions(kind, LOAD), ns
 
 
 def main():
-    print(f"{'exchange':32} {'number':>6} {'bytes':>9} {'instructions':>12} {'of them load':>12} {'ns':>8} {'bus ns':>7}")
+    print(f"{'exchange':32} {'number':>6} {'bytes':>9} {'instructions':>12} {'of them holds':>13} {'ns':>8} {'bus ns':>7}")
     for kind in KINDS:
-        number, sent, said, total, load, ns = figures(kind)
+        number, sent, said, total, holds, ns = figures(kind)
         clocks = 2 * (sent + said) + 2
-        print(f"{kind:32} {number:>6} {f'{sent} / {said}':>9} {total:>12} {load:>12} {ns:>8} {clocks / 66e6 * 1e9:>7.0f}")
+        print(f"{kind:32} {number:>6} {f'{sent} / {said}':>9} {total:>12} {holds:>13} {ns:>8} {clocks / 66e6 * 1e9:>7.0f}")
     for kind in BOARD:
-        _, _, _, total, load, ns = figures(kind)
-        print(f"{kind:32} {'':>6} {'':>9} {total:>12} {load:>12} {ns:>8}")
+        _, _, _, total, holds, ns = figures(kind)
+        print(f"{kind:32} {'':>6} {'':>9} {total:>12} {holds:>13} {ns:>8}")
 
 
 if __name__ == "__main__":

@@ -214,6 +214,17 @@ pub record Readable (r : Row) : Type 0 where
 pub address-few : (r : Row) (b : List ℕ) → Readable r → addressBytes r b ≤ 8
 address-few r b h = pick-ind (λ (n : ℕ). n ≤ 8) (wideCycle (r .cycle) (getD b 1 0)) (λ _. omega arith) (λ _. omega (arith, h .address))
 
+-- the address stands in the bytes
+pub record Reaches (r : Row) (b : List ℕ) : Type 0 where
+  pub readable : Readable r
+  pub within : r .from + addressBytes r b ≤ length b
+
+-- so does a narrow one
+pub reaches-narrow : (r : Row) (b : List ℕ) → Reaches r b → r .from + r .address ≤ length b
+reaches-narrow r b h =
+    pick-ind (λ (n : ℕ). r .from + n ≤ length b → r .from + r .address ≤ length b) (wideCycle (r .cycle) (getD b 1 0))
+    (λ _ l. omega (arith, h .readable .address)) (λ _ l. l) (h .within)
+
 -- the bytes are as many as the need says
 abbrev pub LengthRight : Need → ℕ → Type 0
 LengthRight (Whole n) m = m ≡ n
@@ -230,6 +241,7 @@ pub record RowTells (on : Channels) (b : List ℕ) (r : Row) : Type 0 where
   pub listed : r .told ≤ length b → cycleWrong r b ≡ false → cycleListed (r .cycle) (getD b 1 0) ≡ true
   pub channel : channelOn on (r .channel) ≡ true → CommandOn on (commandOf r b)
   pub right : LengthRight (needData r b (r .carries)) (length b) → CommandLength (commandOf r b) (length b)
+  pub within : LengthRight (needData r b (r .carries)) (length b) → r .from + addressBytes r b ≤ length b
   pub numbers : IsBytes b → NumbersFit (commandOf r b)
 
 module _ (on : Channels) (b : List ℕ) where
@@ -251,26 +263,28 @@ module _ (on : Channels) (b : List ℕ) where
         → let r : Row = record { opcode = op; channel = k; cycle = Absent; told = 1; from = 1; address = a; carries = Fixed n; crc = true } in
         (channelOn on k ≡ true → CommandOn on (commandOf r b)) → (length b ≡ 1 + a + n + 1 → CommandLength (commandOf r b) (length b))
         → (IsBytes b → NumbersFit (commandOf r b)) → RowTells on b r
-    plain-tells k a n m x y z = record { readable = record { told = lit≤ tt; address = m }; listed = λ _ _. refl; channel = x; right = y; numbers = z }
+    plain-tells k a n m x y z =
+        record { readable = record { told = lit≤ tt; address = m }; listed = λ _ _. refl; channel = x; right = y; within = λ h. omega arith; numbers = z }
 
     headed-tells : (n w t : ℕ) (d : Data) → 2 ≤ t → t ≤ 4
         → let r : Row = record { opcode = op; channel = Peripheral; cycle = Types n w; told = t; from = 4; address = 4; carries = d; crc = true } in
         (on .peripheral ≡ true → CommandOn on (commandOf r b)) → (LengthRight (needData r b d) (length b) → CommandLength (commandOf r b) (length b))
-        → (IsBytes b → NumbersFit (commandOf r b)) → RowTells on b r
-    headed-tells n w t d l m x y z =
-        record { readable = record { told = m; address = lit≤ tt }; listed = λ h. there _ (omega arith); channel = x; right = y; numbers = z }
+        → (LengthRight (needData r b d) (length b) → 4 + addressBytes r b ≤ length b) → (IsBytes b → NumbersFit (commandOf r b)) → RowTells on b r
+    headed-tells n w t d l m x y q z =
+        record { readable = record { told = m; address = lit≤ tt }; listed = λ h. there _ (omega arith); channel = x; right = y; within = q; numbers = z }
 
   pub row-tells : (op : ℕ) → ListedTells (rowOf op)
   row-tells =
       by-row ListedTells
-      (headed-tells O.PutPc 1 3 4 Length (lit≤ tt) (lit≤ tt) (λ e. e) (λ h. h) (λ h. head-fits b h _))
+      (headed-tells O.PutPc 1 3 4 Length (lit≤ tt) (lit≤ tt) (λ e. e) (λ h. h) (λ h. omega arith) (λ h. head-fits b h _))
       (plain-tells O.GetPc _ _ _ (lit≤ tt) (λ e. e) (λ h. h) (λ _. tt))
-      (headed-tells O.PutNp 0 2 2 (Fixed 0) (lit≤ tt) (lit≤ tt) (λ e. e) (λ h. omega arith) (λ h. head-fits b h _))
+      (headed-tells O.PutNp 0 2 2 (Fixed 0) (lit≤ tt) (lit≤ tt) (λ e. e) (λ h. omega arith) (λ h. omega arith) (λ h. head-fits b h _))
       (record {
         readable = record { told = lit≤ tt; address = lit≤ tt };
         listed = λ _ _. refl;
         channel = λ e. e;
         right = λ h. h;
+        within = λ h. omega arith;
         numbers = λ _. (omega arith, omega arith);
       })
       (plain-tells O.GetVwire _ _ _ (lit≤ tt) (λ e. e) (λ h. h) (λ _. tt))
@@ -282,6 +296,7 @@ module _ (on : Channels) (b : List ℕ) where
         listed = λ _ _. refl;
         channel = λ _. tt;
         right = reset-right (allFF b);
+        within = λ h. omega (arith, reset-right (allFF b) h);
         numbers = λ _. tt;
       })
       (λ n f. plain-tells (O.Short IoRead n) _ _ _ (lit≤ tt) (λ e. e) (λ h. h) (λ h. record { size = f; address = high-fits b h 2 1 }))
@@ -318,7 +333,7 @@ module _ (on : Channels) (b : List ℕ) where
       go true q = h _ (ap (needData r b) e ∙ ap (λ (u : Bool). pick u Open (Never 13)) q)
       go false q = (omega arith, omega arith)
 
-  pub row-readable : (r : Row) → rowOf (getD b 0 0) ≡ As r → Readable r
+  row-readable : (r : Row) → rowOf (getD b 0 0) ≡ As r → Readable r
   row-readable r e = subst ListedTells e (row-tells (getD b 0 0)) .readable
 
   pub row-needs : (r : Row) → 1 ≤ length b → rowOf (getD b 0 0) ≡ As r → NeedTells r (needRow on b r)
@@ -357,6 +372,11 @@ module _ (on : Channels) (b : List ℕ) where
   -- what the row of a need tells
   pub passes-tells : {r : Row} {x : Need} → Passes r x → RowTells on b r
   passes-tells p = subst ListedTells (p .row) (row-tells (getD b 0 0))
+
+  pub passes-reaches : {r : Row} {x : Need} → Passes r x → LengthRight x (length b) → Reaches r b
+  passes-reaches p h =
+      let t = passes-tells p in
+      record { readable = t .readable; within = t .within (subst (λ (y : Need). LengthRight y (length b)) (sym (p .needs)) h) }
 
 -- ---- what let a command in
 

@@ -6,7 +6,7 @@ use mathlib.Core.Path.{_≡_, refl, sym, ap, subst, _∙_}
 use native.Mathlib.Omega.{arith}
 use native.Mathlib.Nat.{zero-add, suc-add}
 use native.Mathlib.Numerals.{add-one}
-use borrow.Author.Tests.{eq-eqb, ne-eqb}
+use borrow.Author.Tests.{eq-eqb, ne-eqb, eqb-true, leb-true}
 use lib.Dec.{eqb, leb}
 use lib.ListN.{length, getD, drop}
 use lib.Seq.{drop-cons}
@@ -15,7 +15,7 @@ use Rattle.command.specs.Numbers.{lengthWrong, opcodeUnknown}
 use Rattle.command.specs.Rows.{shortRow, rowOf}
 use Rattle.command.specs.Needs.{allFF}
 use Rattle.command.specs.Decode.{highFirst, checkedAs, readOff}
-use Rattle.command.specs.Facts.{NeedTells}
+use Rattle.command.specs.Facts.{Reaches, NeedTells, passes-reaches}
 use Rattle.command.specs.declared.Channels.{Channels}
 use Rattle.command.specs.declared.Row.{Row}
 use Rattle.command.specs.declared.Need.{Need}
@@ -35,16 +35,17 @@ NoSingle op =
 -- then the short accesses decide
 pub no-single : (op : ℕ) → NoSingle op → rowOf op ≡ shortRow op
 no-single op r =
+    let (((((((((_, n00), n01), n02), n04), n05), n21), n22), n25), nFF) = r in
     simp (
-      ne-eqb op 0x00 (r .0 .0 .0 .0 .0 .0 .0 .0 .1),
-      ne-eqb op 0x01 (r .0 .0 .0 .0 .0 .0 .0 .1),
-      ne-eqb op 0x02 (r .0 .0 .0 .0 .0 .0 .1),
-      ne-eqb op 0x04 (r .0 .0 .0 .0 .0 .1),
-      ne-eqb op 0x05 (r .0 .0 .0 .0 .1),
-      ne-eqb op 0x21 (r .0 .0 .0 .1),
-      ne-eqb op 0x22 (r .0 .0 .1),
-      ne-eqb op 0x25 (r .0 .1),
-      ne-eqb op 0xFF (r .1),
+      ne-eqb op 0x00 n00,
+      ne-eqb op 0x01 n01,
+      ne-eqb op 0x02 n02,
+      ne-eqb op 0x04 n04,
+      ne-eqb op 0x05 n05,
+      ne-eqb op 0x21 n21,
+      ne-eqb op 0x22 n22,
+      ne-eqb op 0x25 n25,
+      ne-eqb op 0xFF nFF,
     )
 
 -- so it is between the single opcodes
@@ -134,3 +135,14 @@ module _ (checked : Bool) (b : List ℕ) (r : Row) where
   reads-checked on (More k) p e = absurd (omega arith)
   reads-checked on Open p e = tested (not (leb 2 (length b))) opcodeUnknown (omega arith) e
   reads-checked on (Never k) p e = absurd (omega (arith, p .0))
+
+  let-in : (t : Bool) (k : ℕ) → 0 < k → pick (not t) k 0 ≡ 0 → t ≡ true
+  let-in true k h e = refl
+  let-in false k h e = absurd (omega arith)
+
+  -- and what it lets in has its address
+  pub reads-reach : (on : Channels) (x : Need) → NeedTells on b r x → refusal x (length b) ≡ 0 → Reaches r b
+  reads-reach on (Whole m) p e = passes-reaches on b p (eqb-true _ _ (let-in (eqb (length b) m) lengthWrong (omega arith) e))
+  reads-reach on (More k) p e = absurd (omega arith)
+  reads-reach on Open p e = passes-reaches on b p (leb-true 2 (length b) (let-in (leb 2 (length b)) opcodeUnknown (omega arith) e))
+  reads-reach on (Never k) p e = absurd (omega (arith, p .0))

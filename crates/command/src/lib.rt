@@ -1,11 +1,11 @@
 // Commands: a row an opcode, what a command's bytes need, and the decoder.
 ghost use mathlib.Core.Path.{_≡_};
-ghost use Prim.Native.Nat.{_^_, _≤_, _<_};
+ghost use Prim.Native.Nat.{_+_, _^_, _≤_, _<_};
 ghost use lib.ListN.{length, getD};
 ghost use Rattle.command.specs.Rows.{plain, headed, sizeOfCode, short, rowOf};
 ghost use Rattle.command.specs.Needs.{channelOn, cycleListed, wideCycle, addressBytes, lengthOf, groupCount, allFF, wholeWith, needData, needRow, needIn};
 ghost use Rattle.command.specs.Decode.{highFirst, addressIn, headOf, registerAddress, registerData, commandOf, crcGood, crcWrong, checkedAs, readOff, admit};
-ghost use Rattle.command.specs.Facts.{Readable};
+ghost use Rattle.command.specs.Facts.{Reaches};
 ghost use Rattle.command.specs.Laws.{refusal};
 ghost use Rattle.command.specs.declared.Listed.the-variants.{As};
 
@@ -385,27 +385,27 @@ pub fn need_in(on: Channels, b: &[u8]) -> Need
 // ---- the fields of a command
 
 fn high_first(n: u8, at: u8, b: &[u8]) -> u64
-    requires { ⌜ n ≤ 8 ⌝ }
+    requires { ⌜ (n ≤ 8) × (at + n ≤ length (now b)) ⌝ }
     ensures { λ r. ⌜ (r ≡ highFirst n at (now (b .entry))) × (r < 256 ^ n) ⌝ }
 {
     let mut v: u64 = 0;
     let mut i: u8 = 0;
     while i < n {
-        v = v * 256 + (byte_at(b, (at as usize) + (i as usize)) as u64);
+        v = v * 256 + (b[(at as usize) + (i as usize)] as u64);
         i += 1;
     }
     v
 }
 
 fn address_in(r: Row, b: &[u8]) -> u64
-    requires { ⌜ Readable r ⌝ }
+    requires { ⌜ Reaches r (now b) ⌝ }
     ensures { λ a. ⌜ a ≡ addressIn r (now (b .entry)) ⌝ }
 {
     high_first(address_bytes(r, b), r.from, b)
 }
 
 fn head_of(r: Row, b: &[u8]) -> Head
-    requires { ⌜ Readable r ⌝ }
+    requires { ⌜ Reaches r (now b) ⌝ }
     ensures { λ h. ⌜ h ≡ headOf r (now (b .entry)) ⌝ }
 {
     Head {
@@ -417,7 +417,7 @@ fn head_of(r: Row, b: &[u8]) -> Head
 }
 
 fn register_address(r: Row, b: &[u8]) -> u32
-    requires { ⌜ Readable r ⌝ }
+    requires { ⌜ Reaches r (now b) ⌝ }
     ensures { λ a. ⌜ a ≡ registerAddress r (now (b .entry)) ⌝ }
 {
     (high_first(r.address, r.from, b) as u32) / 4 % 1024 * 4
@@ -430,7 +430,7 @@ fn register_data(b: &[u8]) -> u32
 }
 
 fn command_of(r: Row, b: &[u8]) -> Command
-    requires { ⌜ Readable r ⌝ }
+    requires { ⌜ Reaches r (now b) ⌝ }
     ensures { λ c. ⌜ c ≡ commandOf r (now (b .entry)) ⌝ }
 {
     let opcode = r.opcode;
@@ -481,7 +481,7 @@ fn crc_wrong(checked: bool, has: bool, b: &[u8]) -> bool
 }
 
 fn checked_as(checked: bool, b: &[u8], r: Row) -> Decoded
-    requires { ⌜ (1 ≤ length (now b)) × Readable r ⌝ }
+    requires { ⌜ (1 ≤ length (now b)) × Reaches r (now b) ⌝ }
     ensures { λ d. ⌜ d ≡ checkedAs checked (now (b .entry)) r ⌝ }
 {
     if crc_wrong(checked, r.crc, b) {

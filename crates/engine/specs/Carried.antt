@@ -8,26 +8,32 @@ use lib.ListN.{length, take}
 use Rattle.base.specs.Pick.{pick}
 use Rattle.base.specs.Bytes as B
 use Rattle.wires.specs.Groups.{enabled, disabled}
-use Rattle.wires.specs.Layout.{wiresBytes}
 use Rattle.command.specs.declared.Decoded.{Decoded}
 use Rattle.command.specs.declared.Decoded.the-variants.{Known, Refused}
 use Rattle.peripheral.specs.Queues.{dropped}
-use Rattle.peripheral.specs.Layout.{peripheralBytes}
+use Rattle.state.specs.Channel.{place, partBytes}
 use Rattle.state.specs.Sound.{sound}
-use Rattle.state.specs.Layout.{stateLength, packed}
+use Rattle.state.specs.Layout.{stateLength, packed, unpacked}
 use Rattle.state.specs.declared.State.{State}
-use Rattle.rules.specs.Rules.Channel.{Channel, peripheral, wires, Part}
+use Rattle.rules.specs.Rules.Channel.{Channel, peripheral, wires, Part, Change, nextOf, outOf}
 use Rattle.rules.specs.Rules.Calls.{kept}
 use Rattle.rules.specs.declared.Kept.the-variants as K
-use Rattle.rules.specs.declared.Reply.the-variants.{Silent}
+use Rattle.rules.specs.declared.Body.{Body}
+use Rattle.rules.specs.declared.Out.{Out}
+use Rattle.rules.specs.declared.Response.the-variants.{Accept}
+use Rattle.rules.specs.declared.Reply.the-variants.{Silent, Said}
 use Rattle.rules.specs.declared.Plan.{Plan}
 use Rattle.engine.specs.declared.Outgoing.{Outgoing}
 
--- the bytes are those that `load` found: they pack this sound state
+-- the bytes pack this sound state
 pub record Packs (s : State) (l : List ℕ) : Type 0 where
   pub long : stateLength ≤ length l
   pub good : sound s ≡ true
   pub bytes : take stateLength l ≡ packed s
+
+-- they pack the sound state that they hold
+abbrev pub Loadable : List ℕ → Type 0
+Loadable l = Packs (unpacked l) l
 
 pub record Carried : Type 0 where
   pub goes : Outgoing
@@ -46,12 +52,22 @@ carriedBy p st = carried (outgoing p) (kept (p .next) st)
 
 -- a channel's bytes at their place
 abbrev pub putPart : (k : Channel) → Part k → List ℕ → List ℕ
-putPart peripheral p l = B.put 12 (peripheralBytes p) l
-putPart wires w l = B.put 64 (wiresBytes w) l
+putPart k q l = B.put (place k) (partBytes k q) l
 
 -- those of a change with this number: a refused one stores none
 abbrev pub storedBy : (k : Channel) → ℕ → Part k → List ℕ → List ℕ
 storedBy k number q l = pick (eqb number 0) (putPart k q l) l
+
+-- a channel's change carried out on the bytes: what goes out of it, and what is stored
+pub record Changed : Type 0 where
+  pub goes : Out
+  pub state : List ℕ
+
+abbrev pub changedTo : Out → List ℕ → Changed
+changedTo o l = record { goes = o; state = l }
+
+abbrev pub changedBy : (k : Channel) → Change k → List ℕ → Changed
+changedBy k x l = changedTo (outOf k x) (storedBy k (outOf k x .number) (nextOf k x) l)
 
 -- those of an edge of the enable bit: of channel 0 the falling one alone drops what is held
 abbrev pub edgeStored : (k : Channel) → Bool → Bool → Part k → List ℕ → List ℕ
@@ -62,7 +78,10 @@ edgeStored wires was is w l = pick (was && not is) (putPart wires (disabled w) l
 abbrev pub Stays : State → Plan → Type 0
 Stays s p = eqb (p .number) 0 ≡ false → p .next ≡ s
 
--- ---- a silent plan
+-- ---- a plan that shows, a silent plan
+
+abbrev pub showing : Body → ℕ → Outgoing
+showing body word = record { number = 0; reply = Said Accept body word; kept = K.Nothing }
 
 abbrev pub quiet : ℕ → Outgoing
 quiet number = record { number = number; reply = Silent; kept = K.Nothing }

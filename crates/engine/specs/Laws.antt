@@ -3,4 +3,5 @@ pub mod Tests
 pub mod Peripheral
 pub mod Wires
 pub mod Stored
+pub mod Loaded
 pub mod Exchange

@@ -60,7 +60,7 @@ pub(crate) fn set(s: State, address: u32, val: u32, state: &mut [u8]) -> Outgoin
     let c = s.config;
     reconfigure(s, c.write(address, val), state);
     // The reply shows the status before the write.
-    crate::shown(Body::Nothing, s)
+    crate::shown(Body::Nothing, s.status())
 }
 
 // RESET: register 008h and nothing else.

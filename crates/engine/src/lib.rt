@@ -1,4 +1,4 @@
-// Every command and board call on the bytes of a loaded state: the channel decides over its own part by value, and a lift stores that part at its place.
+// Every command and board call on the bytes of a sound state: a channel reads its own part where it stands and stores what it touches.
 mod configuration;
 mod out;
 mod peripheral_channel;
@@ -6,6 +6,8 @@ mod wires_channel;
 
 use command::Command;
 use command::Decoded;
+use command::PeripheralCommand;
+use command::WiresCommand;
 use peripheral::Peripheral;
 use registers::Config;
 use registers::Reg010;
@@ -19,18 +21,16 @@ use rules::WiresChange;
 use state::State;
 use wires::Wires;
 ghost use mathlib.Core.Path.{_≡_};
-ghost use Prim.Native.Nat.{_+_};
 ghost use lib.ListN.{length};
-ghost use Rattle.wires.specs.Groups.{wiresStatus};
-ghost use Rattle.command.specs.Facts.{CommandFits};
-ghost use Rattle.peripheral.specs.Status.{peripheralStatus};
+ghost use Rattle.command.specs.Facts.{CommandFits, PeripheralFits, WiresFits};
+ghost use Rattle.state.specs.Layout.{unpacked};
 ghost use Rattle.rules.specs.Rules.Reset.{espiReset, platformReset};
 ghost use Rattle.rules.specs.Rules.Peripheral.{succeeded, answerTo, taken};
 ghost use Rattle.rules.specs.Rules.Wires.{setting};
-ghost use Rattle.rules.specs.Rules.Channel.{peripheral, wires};
-ghost use Rattle.rules.specs.Rules.Lift.{withStatus, lift, show};
-ghost use Rattle.rules.specs.Rules.Exchange.{wasReset, decide, exchange};
-ghost use Rattle.engine.specs.Carried.{Packs, Stays, carried, carriedBy, outgoing, quiet, refusedBy};
+ghost use Rattle.rules.specs.Rules.Channel.{peripheral, wires, actOf};
+ghost use Rattle.rules.specs.Rules.Lift.{withStatus, lift};
+ghost use Rattle.rules.specs.Rules.Exchange.{wasReset, acted, decide, exchange};
+ghost use Rattle.engine.specs.Carried.{Loadable, Stays, carried, carriedBy, showing, quiet, refusedBy};
 
 // A plan without its next state, which stands in the state's bytes.
 pub struct Outgoing {
@@ -41,46 +41,73 @@ pub struct Outgoing {
 
 // ---- a channel's change put back into the whole
 
-// Only a reply has a status: that of the parts after the command.
-fn reply_with(say: Say, p: Peripheral, w: Wires) -> Reply
-    ensures { λ r. ⌜ r ≡ withStatus say (peripheralStatus p + wiresStatus w) ⌝ }
+// Only a reply has a status.
+fn reply_with(say: Say, word: u32) -> Reply
+    ensures { λ r. ⌜ r ≡ withStatus say word ⌝ }
 {
     match say {
         Say::Silent => Reply::Silent,
-        Say::Said(response, body) => Reply::Said(response, body, p.status() + w.status()),
+        Say::Said(response, body) => Reply::Said(response, body, word),
     }
 }
 
-fn lift_peripheral(s: State, x: PeripheralChange, state: &mut [u8]) -> Outgoing
-    requires { ⌜ Packs s (now state) × Stays s (lift peripheral s x) ⌝ }
-    ensures { λ r. ⌜ carried r (now (state .exit)) ≡ carriedBy (lift peripheral s x) (now (state .entry)) ⌝ }
+fn lift_peripheral(x: PeripheralChange, state: &mut [u8]) -> Outgoing
+    requires { ⌜ Loadable (now state) × Stays (unpacked (now state)) (lift peripheral (unpacked (now state)) x) ⌝ }
+    ensures { λ r. ⌜ carried r (now (state .exit)) ≡ carriedBy (lift peripheral (unpacked (now (state .entry))) x) (now (state .entry)) ⌝ }
 {
     let next = x.next;
     let out = x.out;
     let say = out.say;
     let kept = out.kept;
+    let word = next.status() + Wires::status_in(state);
     peripheral_channel::store(out.number, next, state);
     Outgoing {
         number: out.number,
-        reply: reply_with(say, next, s.wires),
+        reply: reply_with(say, word),
         kept,
     }
 }
 
-fn lift_wires(s: State, x: WiresChange, state: &mut [u8]) -> Outgoing
-    requires { ⌜ Packs s (now state) × Stays s (lift wires s x) ⌝ }
-    ensures { λ r. ⌜ carried r (now (state .exit)) ≡ carriedBy (lift wires s x) (now (state .entry)) ⌝ }
+fn lift_wires(x: WiresChange, state: &mut [u8]) -> Outgoing
+    requires { ⌜ Loadable (now state) × Stays (unpacked (now state)) (lift wires (unpacked (now state)) x) ⌝ }
+    ensures { λ r. ⌜ carried r (now (state .exit)) ≡ carriedBy (lift wires (unpacked (now (state .entry))) x) (now (state .entry)) ⌝ }
 {
     let next = x.next;
     let out = x.out;
     let say = out.say;
     let kept = out.kept;
+    let word = Peripheral::status_in(state) + next.status();
     wires_channel::store(out.number, next, state);
     Outgoing {
         number: out.number,
-        reply: reply_with(say, s.peripheral, next),
+        reply: reply_with(say, word),
         kept,
     }
+}
+
+// ---- a channel's command, decided by the channel and put back
+
+// Channel 0 stores the queue that it touches itself; the status is then that of the bytes.
+fn act_peripheral(c: Config, o: PeripheralCommand, b: &[u8], state: &mut [u8]) -> Outgoing
+    requires { ⌜ Loadable (now state) × (c ≡ unpacked (now state) .config) × PeripheralFits o (now b) ⌝ }
+    ensures { λ r. ⌜ carried r (now (state .exit)) ≡ carriedBy (acted peripheral (unpacked (now (state .entry))) (actOf peripheral (unpacked (now (state .entry)) .config) o (now (b .entry)))) (now (state .entry)) ⌝ }
+{
+    let others = Wires::status_in(state);
+    let out = peripheral_channel::decide(c, o, b, state);
+    let say = out.say;
+    let kept = out.kept;
+    Outgoing {
+        number: out.number,
+        reply: reply_with(say, Peripheral::status_in(state) + others),
+        kept,
+    }
+}
+
+fn act_wires(c: Config, o: WiresCommand, b: &[u8], state: &mut [u8]) -> Outgoing
+    requires { ⌜ Loadable (now state) × (c ≡ unpacked (now state) .config) × WiresFits o (now b) ⌝ }
+    ensures { λ r. ⌜ carried r (now (state .exit)) ≡ carriedBy (acted wires (unpacked (now (state .entry))) (actOf wires (unpacked (now (state .entry)) .config) o (now (b .entry)))) (now (state .entry)) ⌝ }
+{
+    lift_wires(wires_channel::decide(c, Wires::unpack(state), o, b), state)
 }
 
 // ---- above all channels
@@ -95,33 +122,28 @@ fn silently(number: u8) -> Outgoing
     }
 }
 
-fn shown(body: Body, s: State) -> Outgoing
-    ensures { λ r. ⌜ r ≡ outgoing (show body s) ⌝ }
+fn shown(body: Body, word: u32) -> Outgoing
+    ensures { λ r. ⌜ r ≡ showing body word ⌝ }
 {
     Outgoing {
         number: 0,
-        reply: Reply::Said(Response::Accept, body, s.status()),
+        reply: Reply::Said(Response::Accept, body, word),
         kept: Kept::Nothing,
     }
 }
 
-fn decided(s: State, o: Command, b: &[u8], state: &mut [u8]) -> Outgoing
-    requires { ⌜ Packs s (now state) × CommandFits o (now b) ⌝ }
-    ensures { λ r. ⌜ carried r (now (state .exit)) ≡ carriedBy (decide s o (now (b .entry))) (now (state .entry)) ⌝ }
+fn decided(c: Config, o: Command, b: &[u8], state: &mut [u8]) -> Outgoing
+    requires { ⌜ Loadable (now state) × (c ≡ unpacked (now state) .config) × CommandFits o (now b) ⌝ }
+    ensures { λ r. ⌜ carried r (now (state .exit)) ≡ carriedBy (decide (unpacked (now (state .entry))) o (now (b .entry))) (now (state .entry)) ⌝ }
 {
-    let c = s.config;
     match o {
-        Command::Peripheral(k) => lift_peripheral(
-            s,
-            peripheral_channel::decide(c, s.peripheral, k, b),
-            state,
-        ),
-        Command::Wires(k) => lift_wires(s, wires_channel::decide(c, s.wires, k, b), state),
-        Command::GetConfiguration(a) => shown(Body::Word(c.read(a)), s),
-        Command::SetConfiguration(a, v) => configuration::set(s, a, v, state),
-        Command::GetStatus => shown(Body::Nothing, s),
+        Command::Peripheral(k) => act_peripheral(c, k, b, state),
+        Command::Wires(k) => act_wires(c, k, b, state),
+        Command::GetConfiguration(a) => shown(Body::Word(c.read(a)), state::status_in(state)),
+        Command::SetConfiguration(a, v) => configuration::set(state::unpack(state), a, v, state),
+        Command::GetStatus => shown(Body::Nothing, state::status_in(state)),
         Command::Reset => {
-            configuration::reset_008(s, state);
+            configuration::reset_008(state::unpack(state), state);
             silently(0)
         }
     }
@@ -140,17 +162,17 @@ fn refused(d: Decoded) -> Outgoing
 }
 
 // What an exchange sends and keeps; the state's bytes are the next state's after it.
-pub fn exchange(s: State, b: &[u8], state: &mut [u8]) -> Outgoing
-    requires { ⌜ Packs s (now state) ⌝ }
-    ensures { λ r. ⌜ carried r (now (state .exit)) ≡ carriedBy (exchange s (now (b .entry))) (now (state .entry)) ⌝ }
+pub fn exchange(b: &[u8], state: &mut [u8]) -> Outgoing
+    requires { ⌜ Loadable (now state) ⌝ }
+    ensures { λ r. ⌜ carried r (now (state .exit)) ≡ carriedBy (exchange (unpacked (now (state .entry))) (now (b .entry))) (now (state .entry)) ⌝ }
 {
-    let config = s.config;
-    let r008 = config.r008;
-    let d = command::admit(configuration::channels(config), r008.crc_checked(), b);
+    let c = Config::unpack(state);
+    let r008 = c.r008;
+    let d = command::admit(configuration::channels(c), r008.crc_checked(), b);
     let Decoded::Known(o) = d else {
         return refused(d);
     };
-    decided(s, o, b, state)
+    decided(c, o, b, state)
 }
 
 // ---- the resets: each channel its own
@@ -188,33 +210,32 @@ pub fn platform_reset(s: State) -> State
 // ---- the board's calls
 
 // The board answers the request with this serial with these bytes, or with failure.
-pub fn answer(s: State, serial: u32, success: u32, bytes: &[u8], state: &mut [u8]) -> Outgoing
-    requires { ⌜ Packs s (now state) ⌝ }
-    ensures { λ r. ⌜ carried r (now (state .exit)) ≡ carriedBy (lift peripheral s (answerTo (s .peripheral) serial (succeeded success) (length (now (bytes .entry))))) (now (state .entry)) ⌝ }
+pub fn answer(serial: u32, success: u32, bytes: &[u8], state: &mut [u8]) -> Outgoing
+    requires { ⌜ Loadable (now state) ⌝ }
+    ensures { λ r. ⌜ carried r (now (state .exit)) ≡ carriedBy (lift peripheral (unpacked (now (state .entry))) (answerTo (unpacked (now (state .entry)) .peripheral) serial (succeeded success) (length (now (bytes .entry))))) (now (state .entry)) ⌝ }
 {
     lift_peripheral(
-        s,
-        peripheral_channel::answer_to(s.peripheral, serial, success != 0, bytes.len()),
+        peripheral_channel::answer_to(Peripheral::unpack(state), serial, success != 0, bytes.len()),
         state,
     )
 }
 
 // The board takes the held write.
-pub fn take_write(s: State, state: &mut [u8]) -> Outgoing
-    requires { ⌜ Packs s (now state) ⌝ }
-    ensures { λ r. ⌜ carried r (now (state .exit)) ≡ carriedBy (lift peripheral s (taken (s .peripheral))) (now (state .entry)) ⌝ }
+pub fn take_write(state: &mut [u8]) -> Outgoing
+    requires { ⌜ Loadable (now state) ⌝ }
+    ensures { λ r. ⌜ carried r (now (state .exit)) ≡ carriedBy (lift peripheral (unpacked (now (state .entry))) (taken (unpacked (now (state .entry)) .peripheral))) (now (state .entry)) ⌝ }
 {
-    lift_peripheral(s, peripheral_channel::taken(s.peripheral), state)
+    lift_peripheral(peripheral_channel::taken(Peripheral::unpack(state)), state)
 }
 
 // The board sets one wire.
-pub fn set_wire(s: State, index: u32, bit: u32, value: u32, state: &mut [u8]) -> Outgoing
-    requires { ⌜ Packs s (now state) ⌝ }
-    ensures { λ r. ⌜ carried r (now (state .exit)) ≡ carriedBy (lift wires s (setting (s .config) (s .wires) index bit value)) (now (state .entry)) ⌝ }
+pub fn set_wire(index: u32, bit: u32, value: u32, state: &mut [u8]) -> Outgoing
+    requires { ⌜ Loadable (now state) ⌝ }
+    ensures { λ r. ⌜ carried r (now (state .exit)) ≡ carriedBy (lift wires (unpacked (now (state .entry))) (setting (unpacked (now (state .entry)) .config) (unpacked (now (state .entry)) .wires) index bit value)) (now (state .entry)) ⌝ }
 {
+    let c = Config::unpack(state);
     lift_wires(
-        s,
-        wires_channel::setting(s.config, s.wires, index, bit, value),
+        wires_channel::setting(c, Wires::unpack(state), index, bit, value),
         state,
     )
 }

@@ -1,4 +1,4 @@
-// Channel 0: its commands and the board's calls, over the configuration and the channel's own part.
+// Channel 0: its commands, over the configuration and the channel's own bytes, and the board's calls, over its part by value.
 use crate::out;
 use command::Access;
 use command::Head;
@@ -14,29 +14,24 @@ use peripheral::Write;
 use registers::Config;
 use rules::Body;
 use rules::Kept;
+use rules::Out;
 use rules::PeripheralChange;
 ghost use mathlib.Core.Path.{_≡_};
 ghost use mathlib.Core.Bool.{true};
 ghost use Prim.Native.Nat.{_+_, _≤_};
 ghost use lib.ListN.{length};
+ghost use lib.ListN as L;
 ghost use Rattle.registers.specs.Registers.{reachable};
 ghost use Rattle.command.specs.declared.PeripheralCommand.the-variants.{Short};
 ghost use Rattle.command.specs.Facts.{PeripheralFits, SizeFits};
-ghost use Rattle.peripheral.specs.Sound.{soundRequest};
+ghost use Rattle.peripheral.specs.Sound.{Block, soundRequest};
+ghost use Rattle.peripheral.specs.Layout.{npIn, peripheralIn};
+ghost use Rattle.peripheral.specs.Stored.{Stands};
 ghost use Rattle.state.specs.Layout.{stateLength};
 ghost use Rattle.rules.specs.Rules.Channel.{peripheral};
 ghost use Rattle.rules.specs.Rules.Out as O;
 ghost use Rattle.rules.specs.Rules.Peripheral as P;
-ghost use Rattle.engine.specs.Carried.{storedBy, edgeStored};
-
-fn fatally(p: Peripheral) -> PeripheralChange
-    ensures { λ r. ⌜ r ≡ P.change p O.fatal ⌝ }
-{
-    PeripheralChange {
-        next: p,
-        out: out::fatal(),
-    }
-}
+ghost use Rattle.engine.specs.Carried.{changedTo, changedBy, storedBy, edgeStored};
 
 // A board call refused.
 fn refused(p: Peripheral, number: u8) -> PeripheralChange
@@ -61,39 +56,26 @@ fn with_request(p: Peripheral, n: Np) -> Peripheral
 
 // ---- posted writes
 
-fn holding(p: Peripheral, address: u64, length: u32, payload: u32) -> Peripheral
-    ensures { λ r. ⌜ r ≡ P.holding p address length payload ⌝ }
-{
-    let request = p.request;
-    Peripheral {
-        write: Write::Held(Posted {
-            address,
-            length,
-            payload,
-        }),
-        request,
-        serial: p.serial,
-    }
-}
-
 // Credit, then size; the data from this byte of the command on is kept.
-fn post(c: Config, p: Peripheral, address: u64, length: u32, from: u32) -> PeripheralChange
-    requires { ⌜ reachable c ≡ true ⌝ }
-    ensures { λ r. ⌜ r ≡ P.post c p address length from ⌝ }
+fn post(c: Config, address: u64, length: u32, from: u32, state: &mut [u8]) -> Out
+    requires { ⌜ (64 ≤ L.length (now state)) × Stands (peripheralIn (now state)) (now state) × (reachable c ≡ true) ⌝ }
+    ensures { λ r. ⌜ changedTo r (now (state .exit)) ≡ changedBy peripheral (P.post c (peripheralIn (now (state .entry))) address length from) (now (state .entry)) ⌝ }
 {
-    let w = p.write;
-    if !peripheral::pc_free(w) {
-        return fatally(p);
+    if !Peripheral::takes_write(state) {
+        return out::fatal();
     }
     let r = c.r010;
     let payload = r.payload_size();
     if !peripheral::within(address, length, payload) {
-        return fatally(p);
+        return out::fatal();
     }
-    PeripheralChange {
-        next: holding(p, address, length, payload),
-        out: out::accept(Body::Nothing, Kept::Data(from, length)),
-    }
+    let w = Posted {
+        address,
+        length,
+        payload,
+    };
+    Peripheral::hold(w, state);
+    out::accept(Body::Nothing, Kept::Data(from, length))
 }
 
 // ---- non-posted requests
@@ -125,35 +107,20 @@ fn size_for(q: Request) -> u32
     }
 }
 
-// The serial goes up by one modulo 2^32.
-fn asking(p: Peripheral, q: Request) -> Peripheral
-    ensures { λ r. ⌜ r ≡ P.asking p q ⌝ }
-{
-    let write = p.write;
-    Peripheral {
-        write,
-        request: Np::Waiting(q),
-        serial: std::num::wrapping_add_u32(p.serial, 1),
-    }
-}
-
 // Credit, then size.
-fn ask(p: Peripheral, q: Request) -> PeripheralChange
-    requires { ⌜ (1 ≤ q .payload) × (1 ≤ q .readsize) ⌝ }
-    ensures { λ r. ⌜ r ≡ P.ask p q ⌝ }
+fn ask(q: Request, state: &mut [u8]) -> Out
+    requires { ⌜ (64 ≤ L.length (now state)) × Stands (peripheralIn (now state)) (now state) × Block (q .payload) × Block (q .readsize) ⌝ }
+    ensures { λ r. ⌜ changedTo r (now (state .exit)) ≡ changedBy peripheral (P.ask (peripheralIn (now (state .entry))) q) (now (state .entry)) ⌝ }
 {
-    let n = p.request;
-    if !peripheral::np_free(n) {
-        return fatally(p);
+    if !Peripheral::takes_request(state) {
+        return out::fatal();
     }
     let size = size_for(q);
     if !peripheral::within(q.address, q.length, size) {
-        return fatally(p);
+        return out::fatal();
     }
-    PeripheralChange {
-        next: asking(p, q),
-        out: out::defer(),
-    }
+    Peripheral::wait(q, state);
+    out::defer()
 }
 
 // The bytes of an I/O write of this size, low byte first.
@@ -170,36 +137,32 @@ fn bytes_of(size: u8, b: &[u8]) -> u32
     base::join4(b[3], b[4], b[5], b[6])
 }
 
-fn short_access(c: Config, p: Peripheral, a: Access, at: Span, b: &[u8]) -> PeripheralChange
-    requires { ⌜ (reachable c ≡ true) × PeripheralFits (Short a at) (now b) ⌝ }
-    ensures { λ r. ⌜ r ≡ P.acting c p (P.shortAct c a at (now (b .entry))) ⌝ }
+fn short_access(c: Config, a: Access, at: Span, b: &[u8], state: &mut [u8]) -> Out
+    requires { ⌜ (64 ≤ L.length (now state)) × Stands (peripheralIn (now state)) (now state) × (reachable c ≡ true) × PeripheralFits (Short a at) (now b) ⌝ }
+    ensures { λ r. ⌜ changedTo r (now (state .exit)) ≡ changedBy peripheral (P.acting c (peripheralIn (now (state .entry))) (P.shortAct c a at (now (b .entry)))) (now (state .entry)) ⌝ }
 {
     let n = at.size as u32;
     match a {
-        Access::IoRead => ask(p, request_of(c, Kind::IoRead, at.address, n, 0, 0)),
+        Access::IoRead => ask(request_of(c, Kind::IoRead, at.address, n, 0, 0), state),
         Access::IoWrite => {
             let bytes = bytes_of(at.size, b);
-            ask(p, request_of(c, Kind::IoWrite, at.address, n, 0, bytes))
+            ask(request_of(c, Kind::IoWrite, at.address, n, 0, bytes), state)
         }
-        Access::MemoryRead => ask(p, request_of(c, Kind::MemoryRead, at.address, n, 0, 0)),
-        Access::MemoryWrite => post(c, p, at.address, n, 5),
+        Access::MemoryRead => ask(request_of(c, Kind::MemoryRead, at.address, n, 0, 0), state),
+        Access::MemoryWrite => post(c, at.address, n, 5, state),
     }
 }
 
 // ---- GET_PC
 
-fn get_pc(p: Peripheral) -> PeripheralChange
-    requires { ⌜ soundRequest (p .request) ≡ true ⌝ }
-    ensures { λ r. ⌜ r ≡ P.getPc p ⌝ }
+fn get_pc(state: &mut [u8]) -> Out
+    requires { ⌜ (64 ≤ L.length (now state)) × Stands (peripheralIn (now state)) (now state) × (soundRequest (npIn (now state)) ≡ true) ⌝ }
+    ensures { λ r. ⌜ changedTo r (now (state .exit)) ≡ changedBy peripheral (P.getPc (peripheralIn (now (state .entry)))) (now (state .entry)) ⌝ }
 {
-    let n = p.request;
-    let up = peripheral::next_completion(n);
+    let up = Peripheral::hand_over(state);
     match up {
-        Next::Nothing => fatally(p),
-        Next::One(c) => PeripheralChange {
-            next: with_request(p, peripheral::handed(n)),
-            out: out::accept(Body::Piece(c), Kept::Nothing),
-        },
+        Next::Nothing => out::fatal(),
+        Next::One(c) => out::accept(Body::Piece(c), Kept::Nothing),
     }
 }
 
@@ -215,18 +178,18 @@ fn data_at(h: Head) -> u32
     8
 }
 
-pub(crate) fn decide(c: Config, p: Peripheral, o: PeripheralCommand, b: &[u8]) -> PeripheralChange
-    requires { ⌜ (reachable c ≡ true) × (soundRequest (p .request) ≡ true) × PeripheralFits o (now b) ⌝ }
-    ensures { λ r. ⌜ r ≡ P.decide c p o (now (b .entry)) ⌝ }
+pub(crate) fn decide(c: Config, o: PeripheralCommand, b: &[u8], state: &mut [u8]) -> Out
+    requires { ⌜ (64 ≤ L.length (now state)) × Stands (peripheralIn (now state)) (now state) × (reachable c ≡ true) × (soundRequest (npIn (now state)) ≡ true) × PeripheralFits o (now b) ⌝ }
+    ensures { λ r. ⌜ changedTo r (now (state .exit)) ≡ changedBy peripheral (P.decide c (peripheralIn (now (state .entry))) o (now (b .entry))) (now (state .entry)) ⌝ }
 {
     match o {
-        PeripheralCommand::PutPc(h) => post(c, p, h.address, h.length, data_at(h)),
-        PeripheralCommand::GetPc => get_pc(p),
+        PeripheralCommand::PutPc(h) => post(c, h.address, h.length, data_at(h), state),
+        PeripheralCommand::GetPc => get_pc(state),
         PeripheralCommand::PutNp(h) => ask(
-            p,
             request_of(c, Kind::MemoryRead, h.address, h.length, h.tag, 0),
+            state,
         ),
-        PeripheralCommand::Short(a, at) => short_access(c, p, a, at, b),
+        PeripheralCommand::Short(a, at) => short_access(c, a, at, b, state),
     }
 }
 

@@ -1,13 +1,17 @@
 // The C boundary: the nine calls over lent bytes, and nothing else.
 use engine::Outgoing;
 use peripheral::Np;
+use peripheral::Peripheral;
 use state::State;
-use state::load;
 use state::pack;
+use wires::Wires;
+use wires::Words;
 ghost use mathlib.Core.Path.{_≡_};
 ghost use Prim.Native.Nat.{_≤_};
 ghost use lib.ListN.{length};
+ghost use Rattle.wires.specs.Layout.{wiresOf};
 ghost use Rattle.rules.specs.Rules.Fits.{ReplyFits, KeptFits};
+ghost use Rattle.rules.specs.Rules.Step.{replyLength, writeLength, readLength};
 ghost use Rattle.rules.specs.Rules.Calls.{done, exchanged, stored, looked, startCall, espiResetCall, platformResetCall, exchangeCall, lookCall, answerCall, takeWriteCall, setWireCall, readWireCall};
 ghost use Rattle.espi.specs.Boundary.{sent, sentBy};
 
@@ -47,12 +51,10 @@ pub extern "C" fn espi_reset(state: &mut [u8]) -> u32
     if state.len() < STATE {
         return rules::STORE_TOO_SHORT;
     }
-    let got = load(state);
-    if !got.ok {
+    if !state::holds(state) {
         return rules::STATE_NOT_SOUND;
     }
-    let s = got.state;
-    pack(engine::espi_reset(s), state);
+    pack(engine::espi_reset(state::unpack(state)), state);
     0
 }
 
@@ -63,29 +65,28 @@ pub extern "C" fn espi_platform_reset(state: &mut [u8]) -> u32
     if state.len() < STATE {
         return rules::STORE_TOO_SHORT;
     }
-    let got = load(state);
-    if !got.ok {
+    if !state::holds(state) {
         return rules::STATE_NOT_SOUND;
     }
-    let s = got.state;
-    pack(engine::platform_reset(s), state);
+    pack(engine::platform_reset(state::unpack(state)), state);
     0
 }
 
-// What goes out of an exchange: its reply and its data on the lent bytes.
+// What goes out of an exchange: its reply, over the wires as they were, and its data on the lent bytes.
 fn commit(
     p: Outgoing,
+    was: Words,
     command: &[u8],
     reply: &mut [u8],
     write_store: &mut [u8],
     read_store: &[u8],
 ) -> u32
-    requires { ⌜ (263 ≤ length (now reply)) × (256 ≤ length (now «write_store»)) × (4096 ≤ length (now «read_store»)) × ReplyFits (p .reply) × KeptFits (p .kept) (length (now command)) 256 ⌝ }
-    ensures { λ r. ⌜ sent r (now (reply .exit)) (now («write_store» .exit)) ≡ sentBy p (now (command .entry)) (now (reply .entry)) (now («write_store» .entry)) (now («read_store» .entry)) ⌝ }
+    requires { ⌜ (replyLength ≤ length (now reply)) × (writeLength ≤ length (now «write_store»)) × (readLength ≤ length (now «read_store»)) × ReplyFits (p .reply) (wiresOf was) × KeptFits (p .kept) (length (now command)) writeLength ⌝ }
+    ensures { λ r. ⌜ sent r (now (reply .exit)) (now («write_store» .exit)) ≡ sentBy p (wiresOf was) (now (command .entry)) (now (reply .entry)) (now («write_store» .entry)) (now («read_store» .entry)) ⌝ }
 {
     let r = p.reply;
     let k = p.kept;
-    let n = reply::put_reply(reply, r, read_store);
+    let n = reply::put_reply(reply, r, was, read_store);
     reply::keep(write_store, k, command);
     (p.number as u32) + 256 * n
 }
@@ -112,13 +113,12 @@ pub extern "C" fn espi_exchange(
     if read_store.len() < READ_STORE {
         return rules::STORE_TOO_SHORT;
     }
-    let got = load(state);
-    if !got.ok {
+    if !state::holds(state) {
         return rules::STATE_NOT_SOUND;
     }
-    let s = got.state;
-    let p = engine::exchange(s, command, state);
-    commit(p, command, reply, write_store, read_store)
+    let was = Words::of(state);
+    let p = engine::exchange(command, state);
+    commit(p, was, command, reply, write_store, read_store)
 }
 
 #[no_mangle]
@@ -131,12 +131,10 @@ pub extern "C" fn espi_look(state: &[u8], report: &mut [u8]) -> u32
     if report.len() < LOOK_REPORT {
         return rules::STORE_TOO_SHORT;
     }
-    let got = load(state);
-    if !got.ok {
+    if !state::holds(state) {
         return rules::STATE_NOT_SOUND;
     }
-    let s = got.state;
-    let p = s.peripheral;
+    let p = Peripheral::unpack(state);
     let n = p.request;
     match n {
         Np::Free => NOTHING_THERE,
@@ -165,12 +163,10 @@ pub extern "C" fn espi_answer(
     if read_store.len() < READ_STORE {
         return rules::STORE_TOO_SHORT;
     }
-    let got = load(state);
-    if !got.ok {
+    if !state::holds(state) {
         return rules::STATE_NOT_SOUND;
     }
-    let s = got.state;
-    let p = engine::answer(s, serial, success, bytes, state);
+    let p = engine::answer(serial, success, bytes, state);
     let k = p.kept;
     reply::keep(read_store, k, bytes);
     p.number as u32
@@ -189,14 +185,12 @@ pub extern "C" fn espi_take_write(state: &mut [u8], write_store: &[u8], report: 
     if report.len() < TAKE_REPORT {
         return rules::STORE_TOO_SHORT;
     }
-    let got = load(state);
-    if !got.ok {
+    if !state::holds(state) {
         return rules::STATE_NOT_SOUND;
     }
-    let s = got.state;
-    let h = s.peripheral;
+    let h = Peripheral::unpack(state);
     let w = h.write;
-    let p = engine::take_write(s, state);
+    let p = engine::take_write(state);
     reply::put_write(report, w);
     p.number as u32
 }
@@ -208,12 +202,10 @@ pub extern "C" fn espi_set_wire(state: &mut [u8], index: u32, bit: u32, value: u
     if state.len() < STATE {
         return rules::STORE_TOO_SHORT;
     }
-    let got = load(state);
-    if !got.ok {
+    if !state::holds(state) {
         return rules::STATE_NOT_SOUND;
     }
-    let s = got.state;
-    let p = engine::set_wire(s, index, bit, value, state);
+    let p = engine::set_wire(index, bit, value, state);
     p.number as u32
 }
 
@@ -224,14 +216,12 @@ pub extern "C" fn espi_read_wire(state: &[u8], index: u32, bit: u32) -> u32
     if state.len() < STATE {
         return rules::STORE_TOO_SHORT;
     }
-    let got = load(state);
-    if !got.ok {
+    if !state::holds(state) {
         return rules::STATE_NOT_SOUND;
     }
     if !wires::defined_bit(index, bit) {
         return NO_SUCH_WIRE;
     }
-    let s = got.state;
-    let w = s.wires;
+    let w = Wires::unpack(state);
     256 * w.read(index, bit)
 }

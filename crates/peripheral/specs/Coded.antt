@@ -1,25 +1,35 @@
 -- How the code decides what a definition says in another way: the laws that its proofs cite.
-use Prim.Native.Nat.{ℕ, zero, suc, _+_, _%_, _^_, _≤_, _<_}
+use Prim.Native.Nat.{ℕ, zero, suc, _+_, _*_, _%_, _^_, _≤_, _<_}
 use mathlib.Core.Bool.{Bool, true, false, not, _&&_, _||_}
 use mathlib.Core.List.{List, _++_, append-assoc}
 use mathlib.Core.Path.{_≡_, refl, sym, ap, subst, _∙_}
+use native.Mathlib.Nat.{add-comm, add-zero}
 use native.Mathlib.Omega.{arith}
 use lib.Dec.{eqb, ltb}
 use lib.ListN.{length, getD}
-use borrow.Author.Tests.{not-true, not-false, eqb-true, eq-eqb, ne-eqb}
+use borrow.Author.Tests.{not-true, not-false, eqb-true, eq-eqb, ne-eqb, lt-ltb, le-ltb}
 use Rattle.base.specs.Pick.{and-right, taken, passed}
-use Rattle.base.specs.Bytes.{low4, number4, number8, put, put-put}
+use Rattle.base.specs.Bytes.{bit, low4, number4, number8, put, put-put}
 use Rattle.base.specs.Numbers.{length-join, none8}
-use Rattle.peripheral.specs.Upward.{nextOf, afterPiece}
-use Rattle.peripheral.specs.Status.{pcFree, npFree}
-use Rattle.peripheral.specs.Sound.{shortSize, ioMade, soundRequest, soundWrite, nothingHeld}
+use Rattle.pieces.specs.Marks.{markOf, markType}
+use Rattle.pieces.specs.Pieces.{nextMark}
+use Rattle.pieces.specs.Edges.{place-low}
+use Rattle.pieces.specs.Laws.{next-mark}
+use Rattle.pieces.specs.declared.Mark.{Mark}
+use Rattle.peripheral.specs.Upward.{nextOf, pieceOf, bare, successOf, upward, firstOf, leftOf, afterPiece, afterSuccess, handed}
+use Rattle.peripheral.specs.Status.{pcFree, npFree, pcAvail, peripheralStatus}
+use Rattle.peripheral.specs.Sound.{Block, shortSize, ioMade, soundRequest, soundWrite, nothingHeld}
 use Rattle.peripheral.specs.Facts.{ready-request}
-use Rattle.peripheral.specs.Layout.{writeBytes, npBytes, peripheralBytes, writeOf, kindOf, npOf, postedIn, requestIn, writeIn, npIn, peripheralIn, tidyWrite, tidyRequest, blankIn, holdsWrite, holdsRequest, holdsPeripheral}
+use Rattle.peripheral.specs.Layout.{writeBytes, requestBytes, npBytes, handedBytes, peripheralBytes, writeOf, kindOf, npOf, postedIn, requestIn, writeIn, npIn, peripheralIn, tidyWrite, tidyRequest, blankIn, holdsWrite, holdsRequest, holdsPeripheral}
 use Rattle.peripheral.specs.Packing.{write-length, np-length}
+use Rattle.peripheral.specs.declared.Kind.{Kind}
 use Rattle.peripheral.specs.declared.Kind.the-variants.{IoWrite}
 use Rattle.peripheral.specs.declared.Request.{Request}
 use Rattle.peripheral.specs.declared.Np.{Np}
-use Rattle.peripheral.specs.declared.Np.the-variants.{Free, Ready, Failed}
+use Rattle.peripheral.specs.declared.Np.the-variants.{Free, Waiting, Ready, Failed}
+use Rattle.peripheral.specs.declared.Completion.{Completion}
+use Rattle.peripheral.specs.declared.Next.{Next}
+use Rattle.peripheral.specs.declared.Next.the-variants.{Nothing, One}
 use Rattle.peripheral.specs.declared.Posted.{Posted}
 use Rattle.peripheral.specs.declared.Write.the-variants.{Held}
 use Rattle.peripheral.specs.declared.Peripheral.{Peripheral}
@@ -31,6 +41,16 @@ refused {x} {t} e h = sym e ∙ not-true x h
 
 pub admitted : {x t : Bool} → x ≡ t → not x ≡ false → t ≡ true
 admitted {x} {t} e h = sym e ∙ not-false x h
+
+-- ---- places in a block, by the low bits of an address
+
+pub low-in : (A B : ℕ) → Block B → A % 4096 % B ≡ A % B
+low-in A B h = ap (λ (n : ℕ). n % B) (sym (add-zero (A % 4096))) ∙ place-low A B 0 (h .divides) ∙ ap (λ (n : ℕ). n % B) (add-zero A)
+
+pub edge-low : (A B s : ℕ) → Block B → (A % 4096 + s % 4096) % B ≡ (A + s) % B
+edge-low A B s h =
+    ap (λ (n : ℕ). n % B) (add-comm (A % 4096) (s % 4096)) ∙ place-low s B (A % 4096) (h .divides)
+    ∙ ap (λ (n : ℕ). n % B) (add-comm s (A % 4096)) ∙ place-low A B s (h .divides)
 
 -- ---- an I/O request
 
@@ -51,13 +71,59 @@ piece-facts n q sent e h =
     let r = ready-request q sent (subst (λ (z : Np). soundRequest z ≡ true) h e) in
     (r .short, r .made .most, omega (arith, r .made .payload .least), r .made .payload .divides)
 
--- what is held after a piece of n bytes, as the code decides it
-pub piece-last : (q : Request) (sent n : ℕ) → n ≡ nextOf q sent → sent + n ≡ q .length → Free ≡ afterPiece q sent
-piece-last q sent n e h = taken _ _ (eq-eqb _ _ (ap (λ (k : ℕ). sent + k) (sym e) ∙ h)) refl
+-- the bytes of what is left, as the code decides it
+module _ (q : Request) (gone : ℕ) (l l′ bytes : List ℕ) (k : l′ ≡ put 29 bytes l) where
+  pub left-last : gone ≡ q .length → bytes ≡ npBytes Free → l′ ≡ put 29 (npBytes (leftOf q gone)) l
+  left-last h e = k ∙ ap (λ (z : List ℕ). put 29 z l) (e ∙ ap npBytes (taken Free (Ready q gone) (eq-eqb gone (q .length) h) refl))
 
-pub piece-more : (q : Request) (sent n : ℕ) → n ≡ nextOf q sent → (sent + n ≡ q .length → ⊥) → Ready q (sent + n) ≡ afterPiece q sent
-piece-more q sent n e h =
-    passed _ _ (ne-eqb (sent + nextOf q sent) (q .length) (λ k. h (ap (λ (z : ℕ). sent + z) e ∙ k))) (ap (λ (z : ℕ). Ready q (sent + z)) e)
+  pub left-more : (gone ≡ q .length → ⊥) → bytes ≡ requestBytes 2 q gone → l′ ≡ put 29 (npBytes (leftOf q gone)) l
+  left-more h e = k ∙ ap (λ (z : List ℕ). put 29 z l) (e ∙ ap npBytes (passed Free (Ready q gone) (ne-eqb gone (q .length) h) refl))
+
+-- a piece worked out once: its size, its mark, what is left
+pub piece-handed : (q : Request) (sent n cycle : ℕ) (mark : Mark) (l l′ : List ℕ)
+    → n ≡ nextOf q sent
+    → mark ≡ markOf (eqb sent 0) (eqb (sent + n) (q .length))
+    → cycle ≡ markType mark
+    → l′ ≡ put 29 (npBytes (leftOf q (sent + n))) l
+    → (record { cycle = cycle; tag = q .tag; length = n; from = sent } ≡ pieceOf q sent) × (l′ ≡ put 29 (npBytes (afterPiece q sent)) l)
+piece-handed q sent n cycle mark l l′ en em ec k =
+    let c = ec ∙ ap markType (em ∙ next-mark (q .address) (q .length) (q .payload) sent en) in (
+      ap (λ (x : ℕ). record { cycle = x; tag = q .tag; length = n; from = sent }) c
+          ∙ ap (λ (y : ℕ). record { cycle = markType (nextMark (q .address) (q .length) (q .payload) sent); tag = q .tag; length = y; from = sent }) en,
+      k ∙ ap (λ (z : ℕ). put 29 (npBytes (leftOf q (sent + z))) l) en,
+    )
+
+-- by the kind that it is
+pub success-handed : (k k′ : Kind) (q : Request) (sent : ℕ) (r : Completion) (l l′ : List ℕ) → k ≡ k′
+    → (r ≡ successOf k′ q sent) × (l′ ≡ put 29 (npBytes (afterSuccess k′ q sent)) l)
+    → (r ≡ successOf k q sent) × (l′ ≡ put 29 (npBytes (afterSuccess k q sent)) l)
+success-handed k k′ q sent r l l′ e h =
+    subst (λ (z : Kind). (r ≡ successOf z q sent) × (l′ ≡ put 29 (npBytes (afterSuccess z q sent)) l)) (sym e) h
+
+-- by the phase that it is in
+module _ (m n : Np) (l l′ : List ℕ) (e : n ≡ m) where
+  abbrev Handed : Next → Np → Type 0
+  Handed r z = (r ≡ firstOf (upward z)) × (l′ ≡ handedBytes z l)
+
+  from-case : (r : Next) (z : Np) → n ≡ z → Handed r z → Handed r m
+  from-case r z f h = subst (Handed r) (sym f ∙ e) h
+
+  pub free-handed : n ≡ Free → l′ ≡ l → Handed Nothing m
+  unfolding upward
+  free-handed f k = from-case Nothing Free f (refl, k)
+
+  pub waiting-handed : (q : Request) → n ≡ Waiting q → l′ ≡ l → Handed Nothing m
+  unfolding upward
+  waiting-handed q f k = from-case Nothing (Waiting q) f (refl, k)
+
+  pub ready-handed : (q : Request) (sent : ℕ) (c : Completion) → n ≡ Ready q sent
+      → (c ≡ successOf (q .kind) q sent) × (l′ ≡ put 29 (npBytes (afterSuccess (q .kind) q sent)) l) → Handed (One c) m
+  unfolding upward handed
+  ready-handed q sent c f h = from-case (One c) (Ready q sent) f (ap One (h .0), h .1)
+
+  pub failed-handed : (q : Request) (c : Completion) → n ≡ Failed q → (c ≡ bare 0x0E q) × (l′ ≡ put 29 (npBytes Free) l) → Handed (One c) m
+  unfolding upward handed
+  failed-handed q c f h = from-case (One c) (Failed q) f (ap One (h .0), h .1)
 
 -- ---- what a byte says
 
@@ -117,15 +183,42 @@ pub blank-by : (l : List ℕ)
     ≡ blankIn l
 blank-by l = rw (none8 l 40, none8 l 48)
 
-write-none : (n : ℕ) (w : Posted) → eqb n 0 ≡ pcFree (writeOf n w)
+-- ---- the status bits, of the bytes
+
+pub write-none : (n : ℕ) (w : Posted) → eqb n 0 ≡ pcFree (writeOf n w)
 write-none zero w = refl
 write-none (suc n) w = ne-eqb (suc n) 0 (λ e. omega arith)
 
-np-none : (n : ℕ) (q : Request) (sent : ℕ) → eqb n 0 ≡ npFree (npOf n q sent)
+pub np-none : (n : ℕ) (q : Request) (sent : ℕ) → eqb n 0 ≡ npFree (npOf n q sent)
 np-none zero q sent = refl
 np-none (suc zero) q sent = refl
 np-none (suc (suc zero)) q sent = refl
 np-none (suc (suc (suc n))) q sent = ne-eqb (suc (suc (suc n))) 0 (λ e. omega arith)
+
+np-some : (n : ℕ) (q : Request) (sent : ℕ) → ltb 1 n ≡ pcAvail (npOf n q sent)
+unfolding upward
+np-some zero q sent = le-ltb 1 0 (omega arith)
+np-some (suc zero) q sent = le-ltb 1 1 (omega arith)
+np-some (suc (suc zero)) q sent = lt-ltb 1 2 (omega arith)
+np-some (suc (suc (suc n))) q sent = lt-ltb 1 (suc (suc (suc n))) (omega arith)
+
+pub status-by : (l : List ℕ) (a b c r : ℕ)
+    → a ≡ bit (eqb (getD l 12 0) 0)
+    → b ≡ bit (eqb (getD l 29 0) 0)
+    → c ≡ bit (ltb 1 (getD l 29 0))
+    → r ≡ a + b * 2 + c * 16
+    → r ≡ peripheralStatus (peripheralIn l)
+status-by l a b c r ea eb ec e =
+    let q = requestIn l in
+    let s = number4 56 l in
+    e
+    ∙ rw (
+      ea ∙ ap bit (write-none (getD l 12 0) (postedIn l)),
+      eb ∙ ap bit (np-none (getD l 29 0) q s),
+      ec ∙ ap bit (np-some (getD l 29 0) q s),
+    )
+
+-- ---- the bytes tested as they stand: the whole channel
 
 regroup : (o t u a b : Bool) → o && ((u && b) && (t && a)) ≡ ((t && u) && (o && (b && a)))
 regroup true true true a b = refl
@@ -160,3 +253,10 @@ packed-by p l m₁ m₂ m₃ h e₁ e₂ e₃ =
     let n₂ : length (b ++ c) ≡ 48 = length-join b c 17 31 n₁ (np-length (p .request)) in
     let f = e₂ ∙ ap (put 29 c) e₁ ∙ put-put 12 29 b c l (omega arith) (omega arith) in
     e₃ ∙ ap (put 60 d) f ∙ put-put 12 60 (b ++ c) d l (omega arith) (omega arith) ∙ ap (λ (z : List ℕ). put 12 z l) (append-assoc b c d)
+
+-- a waiting request and its serial: two puts
+pub waits-by : (q : Request) (k : ℕ) (l m₁ m₂ : List ℕ) → 64 ≤ length l
+    → m₁ ≡ put 29 (npBytes (Waiting q)) l
+    → m₂ ≡ put 60 (low4 k) m₁
+    → m₂ ≡ put 29 (npBytes (Waiting q) ++ low4 k) l
+waits-by q k l m₁ m₂ h e₁ e₂ = e₂ ∙ ap (put 60 (low4 k)) e₁ ∙ put-put 29 60 (npBytes (Waiting q)) (low4 k) l (omega arith) refl

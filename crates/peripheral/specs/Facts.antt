@@ -22,7 +22,7 @@ use Rattle.peripheral.specs.declared.Posted.{Posted}
 use Rattle.peripheral.specs.declared.Write.{Write}
 use Rattle.peripheral.specs.declared.Write.the-variants.{Empty, Held}
 use Rattle.peripheral.specs.declared.Peripheral.{Peripheral}
-use Rattle.peripheral.specs.Sound.{within, shortSize, ioMade, madeAs, requestMade, sentRight, soundRequest, soundWrite, nothingHeld, fitsRequest}
+use Rattle.peripheral.specs.Sound.{Block, within, shortSize, ioMade, madeAs, requestMade, sentRight, soundRequest, soundWrite, nothingHeld, soundPeripheral, fitsRequest}
 
 -- ---- sizes
 
@@ -41,14 +41,21 @@ legal-payload =
 pub record LegalRead (p : ℕ) : Type 0 where
   pub least : 64 ≤ p
   pub most : p ≤ 4096
+  pub divides : 4096 % p ≡ 0
 
 pub legal-read : (p : ℕ) → readLegal p ≡ true → LegalRead p
 legal-read =
-    read-cases LegalRead (is (omega arith) (omega arith)) (is (omega arith) (omega arith)) (is (omega arith) (omega arith)) (is (omega arith) (omega arith))
-    (is (omega arith) (omega arith)) (is (omega arith) (omega arith)) (is (omega arith) (omega arith))
+    read-cases LegalRead (is (omega arith) (omega arith) refl) (is (omega arith) (omega arith) refl) (is (omega arith) (omega arith) refl)
+    (is (omega arith) (omega arith) refl) (is (omega arith) (omega arith) refl) (is (omega arith) (omega arith) refl) (is (omega arith) (omega arith) refl)
   where
-    is : {p : ℕ} → 64 ≤ p → p ≤ 4096 → LegalRead p
-    is l m = record { least = l; most = m }
+    is : {p : ℕ} → 64 ≤ p → p ≤ 4096 → 4096 % p ≡ 0 → LegalRead p
+    is l m d = record { least = l; most = m; divides = d }
+
+pub payload-block : (p : ℕ) → payloadLegal p ≡ true → Block p
+payload-block p e = let l = legal-payload p e in record { least = omega (arith, l .least); divides = l .divides }
+
+pub read-block : (p : ℕ) → readLegal p ≡ true → Block p
+read-block p e = let l = legal-read p e in record { least = omega (arith, l .least); divides = l .divides }
 
 pub within-block : (A L B : ℕ) → within A L B ≡ true → A % B + L ≤ B
 within-block A L B e = leb-true (A % B + L) B e
@@ -281,6 +288,25 @@ nothing-held p e =
       write = no-write (p .write) (and-left (pcFree (p .write)) _ e);
       request = no-request (p .request) (and-right (pcFree (p .write)) _ e);
     }
+
+-- ---- the channel of a sound state, conjunct by conjunct
+
+pub record SoundOf (on : Bool) (p : Peripheral) : Type 0 where
+  pub held : on || nothingHeld p ≡ true
+  pub request : soundRequest (p .request) ≡ true
+  pub write : soundWrite (p .write) ≡ true
+
+pub sound-of : (on : Bool) (p : Peripheral) → soundPeripheral on p ≡ true → SoundOf on p
+sound-of on p e =
+    let r = and-right (on || nothingHeld p) _ e in
+    record {
+      held = and-left (on || nothingHeld p) _ e;
+      request = and-left (soundRequest (p .request)) _ r;
+      write = and-right (soundRequest (p .request)) _ r;
+    }
+
+pub off-of : (on : Bool) (p : Peripheral) → soundPeripheral on p ≡ true → on ≡ false → NothingHeld p
+off-of on p e off = nothing-held p (subst (λ (t : Bool). t || nothingHeld p ≡ true) off (sound-of on p e .held))
 
 -- ---- an answered request
 

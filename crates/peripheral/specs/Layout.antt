@@ -4,7 +4,10 @@ use mathlib.Core.Bool.{Bool, true, false, _&&_}
 use mathlib.Core.List.{List, _∷_, _++_}
 use lib.Dec.{eqb, leb}
 use lib.ListN.{getD}
-use Rattle.base.specs.Bytes.{low4, low8, number4, number8}
+use Rattle.base.specs.Pick.{pick}
+use Rattle.base.specs.Bytes.{low4, low8, number4, number8, put}
+use Rattle.peripheral.specs.Status.{pcAvail}
+use Rattle.peripheral.specs.Upward.{handed}
 use Rattle.peripheral.specs.Sound.{soundRequest, soundWrite, soundPeripheral}
 use Rattle.peripheral.specs.declared.Kind.{Kind}
 use Rattle.peripheral.specs.declared.Kind.the-variants.{MemoryRead, IoRead, IoWrite}
@@ -47,6 +50,10 @@ npBytes (Failed q) = requestBytes 3 q 0
 -- 60 to 63: the serial
 abbrev pub peripheralBytes : Peripheral → List ℕ
 peripheralBytes p = writeBytes (p .write) ++ (npBytes (p .request) ++ low4 (p .serial))
+
+-- the bytes once GET_PC has handed over what is next: the request's; where that is nothing they stay
+abbrev pub handedBytes : Np → List ℕ → List ℕ
+handedBytes n l = pick (pcAvail n) (put 29 (npBytes (handed n)) l) l
 
 -- ---- unpacking: total; canonical bytes are those that it gives back
 

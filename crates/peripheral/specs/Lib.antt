@@ -7,3 +7,4 @@ pub mod Layout
 pub mod Coded
 pub mod Packing
 pub mod Tidy
+pub mod Stored

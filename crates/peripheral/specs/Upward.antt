@@ -42,9 +42,12 @@ abbrev pub firstOf : List Completion → Next
 firstOf [] = Nothing
 firstOf (c ∷ cs) = One c
 
--- what is held once it is handed over: "until its last completion is sent"
+-- what is held once so many bytes have gone: "until its last completion is sent"
+abbrev pub leftOf : Request → ℕ → Np
+leftOf q gone = pick (eqb gone (q .length)) Free (Ready q gone)
+
 abbrev pub afterPiece : Request → ℕ → Np
-afterPiece q sent = pick (eqb (sent + nextOf q sent) (q .length)) Free (Ready q (sent + nextOf q sent))
+afterPiece q sent = leftOf q (sent + nextOf q sent)
 
 abbrev pub afterSuccess : Kind → Request → ℕ → Np
 afterSuccess MemoryRead q sent = afterPiece q sent

@@ -1,18 +1,20 @@
 // Channel 0: the held write and request, what GET_PC hands over of them. A status bit is computed from its queue, never stored beside it.
 ghost use mathlib.Core.Path.{_≡_};
 ghost use mathlib.Core.Bool.{true, _&&_};
+ghost use mathlib.Core.List.{_++_};
 ghost use Prim.Native.Nat.{_+_, _*_, _%_, _^_, _≤_, _<_};
 ghost use lib.Dec.{eqb, ltb, leb};
 ghost use lib.ListN.{length};
-ghost use Rattle.base.specs.Bytes.{put};
+ghost use Rattle.base.specs.Bytes.{put, low4, number4};
 ghost use Rattle.registers.specs.Registers.{payloadLegal, readLegal};
 ghost use Rattle.peripheral.specs.declared.Kind.the-variants.{MemoryRead, IoRead, IoWrite};
+ghost use Rattle.peripheral.specs.declared.Np.the-variants.{Free, Waiting};
 ghost use Rattle.peripheral.specs.declared.Write.the-variants.{Held};
 ghost use Rattle.peripheral.specs.Queues.{idle, dropped};
 ghost use Rattle.peripheral.specs.Status.{pcFree, npFree, pcAvail, peripheralStatus};
-ghost use Rattle.peripheral.specs.Upward.{bare, pieceOf, successOf, upward, firstOf, afterPiece, afterSuccess, handed};
-ghost use Rattle.peripheral.specs.Sound.{within, shortSize, ioMade, madeAs, requestMade, writeMade, sentRight, soundRequest};
-ghost use Rattle.peripheral.specs.Layout.{writeBytes, kindNumber, numberBytes, requestBytes, npBytes, peripheralBytes, postedIn, writeIn, kindOf, requestIn, npIn, peripheralIn, holdsWrite, blankIn, holdsRequest, holdsPeripheral};
+ghost use Rattle.peripheral.specs.Upward.{bare, pieceOf, successOf, upward, firstOf, leftOf, afterPiece, afterSuccess};
+ghost use Rattle.peripheral.specs.Sound.{Block, within, shortSize, ioMade, madeAs, requestMade, writeMade, sentRight, soundRequest};
+ghost use Rattle.peripheral.specs.Layout.{handedBytes, writeBytes, kindNumber, numberBytes, requestBytes, npBytes, peripheralBytes, postedIn, writeIn, kindOf, requestIn, npIn, peripheralIn, holdsWrite, blankIn, holdsRequest, holdsPeripheral};
 
 pub enum Kind {
     MemoryRead,
@@ -74,7 +76,7 @@ pub enum Next {
 
 // ---- the status bits
 
-pub fn pc_free(w: Write) -> bool
+fn pc_free(w: Write) -> bool
     ensures { λ r. ⌜ r ≡ pcFree w ⌝ }
 {
     match w {
@@ -83,7 +85,7 @@ pub fn pc_free(w: Write) -> bool
     }
 }
 
-pub fn np_free(n: Np) -> bool
+fn np_free(n: Np) -> bool
     ensures { λ r. ⌜ r ≡ npFree n ⌝ }
 {
     match n {
@@ -126,12 +128,30 @@ fn bare(cycle: u8, q: Request) -> Completion
     }
 }
 
-fn piece_of(q: Request, sent: u32) -> Completion
-    requires { ⌜ (sent < q .length) × (q .length ≤ 4096) × (1 ≤ q .payload) × (4096 % q .payload ≡ 0) ⌝ }
-    ensures { λ r. ⌜ r ≡ pieceOf q sent ⌝ }
+// The bytes of what is held once `gone` bytes have been handed over: the place is free once the last piece is, and not before.
+fn put_left(q: Request, gone: u32, b: &mut [u8])
+    requires { ⌜ 64 ≤ length (now b) ⌝ }
+    ensures { λ _. ⌜ now (b .exit) ≡ put 29 (npBytes (leftOf q gone)) (now (b .entry)) ⌝ }
+{
+    if gone == q.length {
+        let none = np_bytes(Np::Free);
+        base::put_at(b, 29, &none);
+        return;
+    }
+    let more = request_bytes(2, q, gone);
+    base::put_at(b, 29, &more);
+}
+
+// The next piece, and the request's bytes after it.
+fn hand_piece(q: Request, sent: u32, b: &mut [u8]) -> Completion
+    requires { ⌜ (64 ≤ length (now b)) × (sent < q .length) × (q .length ≤ 4096) × (1 ≤ q .payload) × (4096 % q .payload ≡ 0) ⌝ }
+    ensures { λ r. ⌜ (r ≡ pieceOf q sent) × (now (b .exit) ≡ put 29 (npBytes (afterPiece q sent)) (now (b .entry))) ⌝ }
 {
     let length = pieces::next_size(q.address, q.length, q.payload, sent);
-    let cycle = pieces::mark_type(pieces::mark_of(sent == 0, sent + length == q.length));
+    let gone = sent + length;
+    let mark = pieces::mark_of(sent == 0, gone == q.length);
+    let cycle = pieces::mark_type(mark);
+    put_left(q, gone, b);
     Completion {
         cycle,
         tag: q.tag,
@@ -140,76 +160,38 @@ fn piece_of(q: Request, sent: u32) -> Completion
     }
 }
 
-fn success_of(q: Request, sent: u32) -> Completion
-    requires { ⌜ (sent < q .length) × (q .length ≤ 4096) × (1 ≤ q .payload) × (4096 % q .payload ≡ 0) ⌝ }
-    ensures { λ r. ⌜ r ≡ successOf (q .kind) q sent ⌝ }
+// A completion without data, after which nothing is held.
+fn hand_bare(cycle: u8, q: Request, b: &mut [u8]) -> Completion
+    requires { ⌜ 64 ≤ length (now b) ⌝ }
+    ensures { λ r. ⌜ (r ≡ bare cycle q) × (now (b .exit) ≡ put 29 (npBytes Free) (now (b .entry))) ⌝ }
+{
+    let none = np_bytes(Np::Free);
+    base::put_at(b, 29, &none);
+    bare(cycle, q)
+}
+
+fn hand_success(q: Request, sent: u32, b: &mut [u8]) -> Completion
+    requires { ⌜ (64 ≤ length (now b)) × (sent < q .length) × (q .length ≤ 4096) × (1 ≤ q .payload) × (4096 % q .payload ≡ 0) ⌝ }
+    ensures { λ r. ⌜ (r ≡ successOf (q .kind) q sent) × (now (b .exit) ≡ put 29 (npBytes (afterSuccess (q .kind) q sent)) (now (b .entry))) ⌝ }
 {
     let k = q.kind;
     match k {
-        Kind::MemoryRead => piece_of(q, sent),
-        Kind::IoRead => piece_of(q, sent),
-        Kind::IoWrite => bare(0x06, q),
-    }
-}
-
-pub fn next_completion(n: Np) -> Next
-    requires { ⌜ soundRequest n ≡ true ⌝ }
-    ensures { λ r. ⌜ r ≡ firstOf (upward n) ⌝ }
-{
-    match n {
-        Np::Free => Next::Nothing,
-        Np::Waiting(_) => Next::Nothing,
-        Np::Ready(q, sent) => Next::One(success_of(q, sent)),
-        Np::Failed(q) => Next::One(bare(0x0E, q)),
-    }
-}
-
-// The place is free once the last piece is handed over, and not before.
-fn after_piece(q: Request, sent: u32) -> Np
-    requires { ⌜ (sent < q .length) × (q .length ≤ 4096) × (1 ≤ q .payload) × (4096 % q .payload ≡ 0) ⌝ }
-    ensures { λ r. ⌜ r ≡ afterPiece q sent ⌝ }
-{
-    let gone = sent + pieces::next_size(q.address, q.length, q.payload, sent);
-    if gone == q.length {
-        return Np::Free;
-    }
-    Np::Ready(q, gone)
-}
-
-fn after_success(q: Request, sent: u32) -> Np
-    requires { ⌜ (sent < q .length) × (q .length ≤ 4096) × (1 ≤ q .payload) × (4096 % q .payload ≡ 0) ⌝ }
-    ensures { λ r. ⌜ r ≡ afterSuccess (q .kind) q sent ⌝ }
-{
-    let k = q.kind;
-    match k {
-        Kind::MemoryRead => after_piece(q, sent),
-        Kind::IoRead => after_piece(q, sent),
-        Kind::IoWrite => Np::Free,
-    }
-}
-
-// What is held once the next completion is handed over.
-pub fn handed(n: Np) -> Np
-    requires { ⌜ soundRequest n ≡ true ⌝ }
-    ensures { λ r. ⌜ r ≡ handed n ⌝ }
-{
-    match n {
-        Np::Free => Np::Free,
-        Np::Waiting(_) => n,
-        Np::Ready(q, sent) => after_success(q, sent),
-        Np::Failed(_) => Np::Free,
+        Kind::MemoryRead => hand_piece(q, sent, b),
+        Kind::IoRead => hand_piece(q, sent, b),
+        Kind::IoWrite => hand_bare(0x06, q, b),
     }
 }
 
 // ---- soundness (01, Wires, last paragraph)
 
-// "at most the size, and does not cross a block of that size"
+// "at most the size, and does not cross a block of that size". Blocks divide 4,096 bytes, so the low bits of the address tell its place in one.
 pub fn within(address: u64, length: u32, block: u32) -> bool
-    requires { ⌜ 1 ≤ block ⌝ }
+    requires { ⌜ Block block ⌝ }
     ensures { λ r. ⌜ r ≡ within address length block ⌝ }
 {
-    let b = block as u64;
-    address % b + (length as u64) <= b
+    let low = (address % 4096) as u32;
+    let at = (low % block) as u64;
+    at + (length as u64) <= (block as u64)
 }
 
 fn payload_legal(p: u32) -> bool
@@ -246,21 +228,21 @@ fn bytes_fit(bytes: u32, length: u32) -> bool
 }
 
 fn memory_read_made(q: Request) -> bool
-    requires { ⌜ 1 ≤ q .readsize ⌝ }
+    requires { ⌜ Block (q .readsize) ⌝ }
     ensures { λ r. ⌜ r ≡ madeAs MemoryRead q ⌝ }
 {
     (1 <= q.length) & (within(q.address, q.length, q.readsize) & ((q.tag < 16) & (q.bytes == 0)))
 }
 
 fn io_read_made(q: Request) -> bool
-    requires { ⌜ 1 ≤ q .readsize ⌝ }
+    requires { ⌜ Block (q .readsize) ⌝ }
     ensures { λ r. ⌜ r ≡ madeAs IoRead q ⌝ }
 {
     io_made(q) & (within(q.address, q.length, q.readsize) & (q.bytes == 0))
 }
 
 fn io_write_made(q: Request) -> bool
-    requires { ⌜ 1 ≤ q .payload ⌝ }
+    requires { ⌜ Block (q .payload) ⌝ }
     ensures { λ r. ⌜ r ≡ madeAs IoWrite q ⌝ }
 {
     if !io_made(q) {
@@ -270,7 +252,7 @@ fn io_write_made(q: Request) -> bool
 }
 
 fn made_as(q: Request) -> bool
-    requires { ⌜ (1 ≤ q .payload) × (1 ≤ q .readsize) ⌝ }
+    requires { ⌜ Block (q .payload) × Block (q .readsize) ⌝ }
     ensures { λ r. ⌜ r ≡ madeAs (q .kind) q ⌝ }
 {
     let k = q.kind;
@@ -304,15 +286,16 @@ fn write_made(w: Posted) -> bool
 
 // "end at a piece's edge, short of the whole"
 fn at_edge(q: Request, sent: u32) -> bool
-    requires { ⌜ 1 ≤ q .payload ⌝ }
+    requires { ⌜ Block (q .payload) ⌝ }
     ensures { λ r. ⌜ r ≡ sentRight MemoryRead q sent ⌝ }
 {
-    let p = q.payload as u64;
-    (sent < q.length) & ((sent == 0) | ((q.address % p + (sent as u64)) % p == 0))
+    let low = (q.address % 4096) as u32;
+    let at = (low + sent % 4096) % q.payload;
+    (sent < q.length) & ((sent == 0) | (at == 0))
 }
 
 fn sent_right(q: Request, sent: u32) -> bool
-    requires { ⌜ 1 ≤ q .payload ⌝ }
+    requires { ⌜ Block (q .payload) ⌝ }
     ensures { λ r. ⌜ r ≡ sentRight (q .kind) q sent ⌝ }
 {
     let k = q.kind;
@@ -561,6 +544,67 @@ impl Peripheral {
         ensures { λ r. ⌜ r ≡ dropped self ⌝ }
     {
         Peripheral::idle(self.serial)
+    }
+
+    // Whether bytes of the channel hold no write, and no request.
+    pub fn takes_write(b: &[u8]) -> bool
+        requires { ⌜ 64 ≤ length (now b) ⌝ }
+        ensures { λ r. ⌜ r ≡ pcFree (writeIn (now (b .entry))) ⌝ }
+    {
+        b[12] == 0
+    }
+
+    pub fn takes_request(b: &[u8]) -> bool
+        requires { ⌜ 64 ≤ length (now b) ⌝ }
+        ensures { λ r. ⌜ r ≡ npFree (npIn (now (b .entry))) ⌝ }
+    {
+        b[29] == 0
+    }
+
+    // This write held: its bytes at their place, and no others.
+    pub fn hold(w: Posted, b: &mut [u8])
+        requires { ⌜ 64 ≤ length (now b) ⌝ }
+        ensures { λ _. ⌜ now (b .exit) ≡ put 12 (writeBytes (Held w)) (now (b .entry)) ⌝ }
+    {
+        let bytes = posted_bytes(w);
+        base::put_at(b, 12, &bytes);
+    }
+
+    // This request waits under the next serial, which goes up by one modulo 2^32.
+    pub fn wait(q: Request, b: &mut [u8])
+        requires { ⌜ 64 ≤ length (now b) ⌝ }
+        ensures { λ _. ⌜ now (b .exit) ≡ put 29 (npBytes (Waiting q) ++ low4 ((number4 60 (now (b .entry)) + 1) % 2 ^ 32)) (now (b .entry)) ⌝ }
+    {
+        let request = request_bytes(1, q, 0);
+        let serial = base::bytes4(std::num::wrapping_add_u32(base::get4(b, 60), 1));
+        base::put_at(b, 29, &request);
+        base::put_at(b, 60, &serial);
+    }
+
+    // What GET_PC hands over next, and the request's bytes after it; where that is nothing the bytes stay.
+    pub fn hand_over(b: &mut [u8]) -> Next
+        requires { ⌜ (64 ≤ length (now b)) × (soundRequest (npIn (now b)) ≡ true) ⌝ }
+        ensures { λ r. ⌜ (r ≡ firstOf (upward (npIn (now (b .entry))))) × (now (b .exit) ≡ handedBytes (npIn (now (b .entry))) (now (b .entry))) ⌝ }
+    {
+        let n = np_in(b);
+        match n {
+            Np::Free => Next::Nothing,
+            Np::Waiting(_) => Next::Nothing,
+            Np::Ready(q, sent) => Next::One(hand_success(q, sent, b)),
+            Np::Failed(q) => Next::One(hand_bare(0x0E, q, b)),
+        }
+    }
+
+    // The channel's word of the status, of its bytes.
+    pub fn status_in(b: &[u8]) -> u32
+        requires { ⌜ 64 ≤ length (now b) ⌝ }
+        ensures { λ r. ⌜ (r ≡ peripheralStatus (peripheralIn (now (b .entry)))) × (r ≤ 19) ⌝ }
+    {
+        word_of(
+            base::bit_of(b[12] == 0),
+            base::bit_of(b[29] == 0),
+            base::bit_of(1 < b[29]),
+        )
     }
 
     pub fn status(self) -> u32

@@ -1,16 +1,27 @@
 -- Laws by which the reply's writers meet their contracts: each follows the writes in the code's order.
-use Prim.Native.Nat.{ℕ, suc, _+_, _-_, _≤_}
-use mathlib.Core.List.{List, [], _∷_, _++_}
-use mathlib.Core.Path.{_≡_, refl, sym, ap, subst, _∙_}
+use Prim.Native.Nat.{ℕ, suc, _+_, _-_, _≤_, _<_}
+use mathlib.Core.Bool.{Bool, true, false, _&&_, true≢false}
+use mathlib.Core.List.{List, [], _∷_, _++_, append-nil, append-assoc}
+use mathlib.Core.Path.{_≡_, refl, sym, ap, ap₂, subst, _∙_}
 use native.Mathlib.Omega.{arith}
-use lib.ListN.{length, take, drop, length-append, length-drop}
+use lib.ListN.{getD, length, take, drop, length-append, length-drop, take-append-drop}
 use lib.Seq.{length-take-le}
+use lib.Dec.{ltb}
+use borrow.Author.Tests.{ltb-true, ltb-false}
 use borrow.Rule.Slice.PartMut.{midOf, putMid}
+use Rattle.base.specs.Pick.{pick, and-left, and-right}
 use Rattle.base.specs.Bytes.{low2, put, over, copied, put-over, put-first, take-over, over-over, tail-lent, tail-back, over-take, drop-over, over-parts, copied-over}
 use Rattle.crc.specs.Crc.{crc}
-use Rattle.wires.specs.Groups.{packetBytes}
+use Rattle.wires.specs.Table.{groupAt, senderOf, isUp}
+use Rattle.wires.specs.Groups.{levelAt, groupByte, pairAt, pairBytes, packetBytes}
+use Rattle.wires.specs.Rows.{up-group}
+use Rattle.wires.specs.Sending.{begun, turnOf, goTakes, takes, past, nowTaken, step, begun-turn, turn-over, turn-closed}
+use Rattle.wires.specs.Sent.{packet-length}
+use Rattle.wires.specs.declared.Wires.{Wires}
+use Rattle.wires.specs.declared.Going.{Going}
 use Rattle.wires.specs.declared.Packet.{Packet}
 use Rattle.peripheral.specs.declared.Completion.{Completion}
+use Rattle.rules.specs.Rules.Step.{replyLength, readLength}
 use Rattle.rules.specs.Rules.Reply.{headerBytes, bodyBytes, closed, replyBytes, keptBytes}
 use Rattle.rules.specs.Proofs.Reply.{closed-length}
 use Rattle.rules.specs.declared.Body.{Body}
@@ -62,38 +73,134 @@ piece-by l l₁ part src reads code from n c hs e es p =
     ∙ over-parts hd d l 4 n refl hn
 
 -- the body of the case that it is in
-pub by-body : (body case′ : Body) (l l₁ reads : List ℕ) (code n : ℕ)
+pub by-body : (body case′ : Body) (w : Wires) (l l₁ reads : List ℕ) (code n : ℕ)
     → body ≡ case′
-    → l₁ ≡ over (code ∷ bodyBytes case′ reads) l
-    → n ≡ length (code ∷ bodyBytes case′ reads)
+    → l₁ ≡ over (code ∷ bodyBytes case′ w reads) l
+    → n ≡ length (code ∷ bodyBytes case′ w reads)
     → n ≤ 260
-    → (l₁ ≡ over (code ∷ bodyBytes body reads) l) × (n ≡ length (code ∷ bodyBytes body reads)) × (n ≤ 260)
-by-body body case′ l l₁ reads code n e p q r =
-    subst (λ (z : Body). (l₁ ≡ over (code ∷ bodyBytes z reads) l) × (n ≡ length (code ∷ bodyBytes z reads)) × (n ≤ 260)) (sym e) (p, q, r)
+    → (l₁ ≡ over (code ∷ bodyBytes body w reads) l) × (n ≡ length (code ∷ bodyBytes body w reads)) × (n ≤ 260)
+by-body body case′ w l l₁ reads code n e p q r =
+    subst (λ (z : Body). (l₁ ≡ over (code ∷ bodyBytes z w reads) l) × (n ≡ length (code ∷ bodyBytes z w reads)) × (n ≤ 260)) (sym e) (p, q, r)
 
--- the packet of the case that it is in
-pub by-packet : (p case′ : Packet) (l l₁ : List ℕ) (code n : ℕ)
-    → p ≡ case′
-    → l₁ ≡ put 0 (code ∷ packetBytes case′) l
-    → n ≡ length (code ∷ packetBytes case′)
-    → n ≤ 260
-    → (l₁ ≡ over (code ∷ packetBytes p) l) × (n ≡ length (code ∷ packetBytes p)) × (n ≤ 260)
-by-packet p case′ l l₁ code n e h q r =
-    subst (λ (z : Packet). (l₁ ≡ over (code ∷ packetBytes z) l) × (n ≡ length (code ∷ packetBytes z)) × (n ≤ 260)) (sym e)
-    (h ∙ put-first (code ∷ packetBytes case′) l, q, r)
+-- ---- a wire packet, pair after pair
+
+-- two writes, the second behind the first
+put-put : (us vs l : List ℕ) (at : ℕ) → at ≤ length l → put (at + length us) vs (put at us l) ≡ put at (us ++ vs) l
+put-put us vs l at h =
+    let p = take at l in
+    let hp : length p ≡ at = length-take-le at l h in
+    let at-once : (zs : List ℕ) → put at zs l ≡ over (p ++ zs) l = λ zs. ap (put at zs) (sym (over-take l at h)) ∙ put-over p zs l at hp in
+    ap (put (at + length us) vs) (at-once us)
+    ∙ put-over (p ++ us) vs l (at + length us) (length-append p us ∙ ap (λ (n : ℕ). n + length us) hp)
+    ∙ ap (λ (z : List ℕ). over z l) (append-assoc p us vs)
+    ∙ sym (at-once (us ++ vs))
+
+put-none : (l : List ℕ) (at : ℕ) → put at [] l ≡ l
+unfolding put
+put-none l at =
+    let e : at + 0 ≡ at = omega arith in
+    ap (λ (z : List ℕ). z ++ drop (at + 0) l) (append-nil (take at l)) ∙ ap (λ (n : ℕ). take at l ++ drop n l) e ∙ take-append-drop at l
+
+pairs-both : (w : Wires) (xs ys : List ℕ) → pairBytes w (xs ++ ys) ≡ pairBytes w xs ++ pairBytes w ys
+unfolding pairBytes
+pairs-both w [] ys = refl
+pairs-both w (x ∷ xs) ys = ap (λ (l : List ℕ). groupAt x ∷ groupByte w (groupAt x) ∷ l) (pairs-both w xs ys)
+
+-- the pair of the group asked now, which waits or not, at its level
+abbrev pub pairNow : Going → Bool → ℕ → List ℕ
+pairNow g waits level = pick (goTakes waits g) (pairAt (g .group) level) []
+
+pub pair-passed : (g : Going) (waits : Bool) (level at : ℕ) (l : List ℕ) → goTakes waits g ≡ false
+    → (l ≡ put at (pairNow g waits level) l) × (at ≡ at + length (pairNow g waits level))
+pair-passed g waits level at l e =
+    let z : pairNow g waits level ≡ [] = ap (λ (b : Bool). pick b (pairAt (g .group) level) []) e in
+    (sym (ap (λ (ks : List ℕ). put at ks l) z ∙ put-none l at), omega (arith, ap length z))
+
+pub pair-taken : (g : Going) (waits : Bool) (level at : ℕ) (l l₁ pair : List ℕ) → goTakes waits g ≡ true → pair ≡ pairAt (g .group) level → l₁ ≡ put at pair l
+    → (l₁ ≡ put at (pairNow g waits level) l) × (at + 2 ≡ at + length (pairNow g waits level))
+pair-taken g waits level at l l₁ pair e ep h =
+    let z : pairNow g waits level ≡ pairAt (g .group) level = ap (λ (b : Bool). pick b (pairAt (g .group) level) []) e in
+    (h ∙ ap (λ (p : List ℕ). put at p l) (ep ∙ sym z), omega (arith, ap length z))
+
+-- over the wires it is what the packet takes now; mark and level are read at the group's row
+pub pair-is : (w : Wires) (g : Going) (row : ℕ) → isUp (g .group) ≡ true → row ≡ g .group - 2
+    → pairNow g (getD (w .pending) row false) (getD (w .level) row 0) ≡ pairBytes w (nowTaken w g)
+unfolding pairBytes
+pair-is w g row up e = ap (λ (i : ℕ). pairNow g (getD (w .pending) i false) (getD (w .level) i 0)) e ∙ go (takes w g)
+  where
+    go : (b : Bool) → pick b (pairAt (g .group) (levelAt w (g .group))) [] ≡ pairBytes w (pick b (senderOf (g .group) ∷ []) [])
+    go true = ap (λ (i : ℕ). pairAt i (levelAt w i)) (sym (up-group (g .group) up .back))
+    go false = refl
+
+-- the loop's test: some are still to be asked, and there is room
+pub record GoesOn (g : Going) : Type 0 where
+  pub left : 0 < g .left
+  pub room : 0 < g .room
+
+pub goes-on : (g : Going) → ltb 0 (g .left) && ltb 0 (g .room) ≡ true → GoesOn g
+goes-on g e = record { left = ltb-true 0 (g .left) (and-left (ltb 0 (g .left)) _ e); room = ltb-true 0 (g .room) (and-right (ltb 0 (g .left)) _ e) }
+
+pub full : (w : Wires) (g : Going) → ltb 0 (g .left) && ltb 0 (g .room) ≡ false → turnOf w g ≡ []
+full w g = go (ltb 0 (g .left)) (ltb 0 (g .room)) refl refl
+  where
+    go : (a b : Bool) → ltb 0 (g .left) ≡ a → ltb 0 (g .room) ≡ b → a && b ≡ false → turnOf w g ≡ []
+    go true true p q e = absurd (true≢false e)
+    go true false p q e = let h = ltb-false 0 (g .room) q in turn-closed w g (omega arith)
+    go false b p q e = let h = ltb-false 0 (g .left) p in turn-over w g (omega arith)
+
+-- so far written: with the pairs that still come it is the packet
+pub record Written (w : Wires) (g : Going) (at : ℕ) (l whole : List ℕ) (n : ℕ) : Type 0 where
+  pub rest : put at (pairBytes w (turnOf w g)) l ≡ whole
+  pub end : at + length (pairBytes w (turnOf w g)) ≡ n
+
+pub written-first : (w : Wires) (p : Packet) (g : Going) (code : ℕ) (l l₁ : List ℕ) → g ≡ begun (p .place) (p .count) → l₁ ≡ put 0 (code ∷ (p .count - 1) ∷ []) l
+    → Written w g 2 l₁ (over (code ∷ packetBytes w p) l) (length (code ∷ packetBytes w p))
+written-first w p g code l l₁ eg e =
+    let t = ap (turnOf w) eg ∙ begun-turn w (p .place) (p .count) in
+    let hd = code ∷ (p .count - 1) ∷ [] in
+    record {
+      rest = ap₂ (λ (ks z : List ℕ). put 2 (pairBytes w ks) z) t (e ∙ put-first hd l) ∙ put-over hd _ l 2 refl;
+      end = omega (arith, ap (λ (ks : List ℕ). length (pairBytes w ks)) t);
+    }
+
+pub pairs-small : (w : Wires) (p : Packet) (g : Going) → g ≡ begun (p .place) (p .count) → p .count ≤ 64 → length (pairBytes w (turnOf w g)) ≤ 128
+pairs-small w p g eg h =
+    omega (arith, ap (λ (ks : List ℕ). length (pairBytes w ks)) (ap (turnOf w) eg ∙ begun-turn w (p .place) (p .count)), packet-length w p)
+
+pub written-next : (w : Wires) (g g′ : Going) (at at′ n : ℕ) (l l′ whole : List ℕ) → isUp (g .group) ≡ true → 0 < g .left → at ≤ length l
+    → l′ ≡ put at (pairBytes w (nowTaken w g)) l → at′ ≡ at + length (pairBytes w (nowTaken w g)) → g′ ≡ past w g
+    → Written w g at l whole n → Written w g′ at′ l′ whole n
+written-next w g g′ at at′ n l l′ whole small more h e ea eg s =
+    let us = pairBytes w (nowTaken w g) in
+    let vs = pairBytes w (turnOf w (past w g)) in
+    let t = ap (pairBytes w) (step w g small more .turns) ∙ pairs-both w (nowTaken w g) (turnOf w (past w g)) in
+    let f = ap (λ (x : Going). pairBytes w (turnOf w x)) eg in
+    record {
+      rest = ap₂ (λ (k : ℕ) (z : List ℕ). put k z l′) ea f ∙ ap (put (at + length us) vs) e ∙ put-put us vs l at h ∙ ap (λ (z : List ℕ). put at z l) (sym t) ∙ s .rest;
+      end = omega (arith, s .end, ap length t, length-append us vs, ap length f, ea);
+    }
+
+pub written-whole : (w : Wires) (p : Packet) (g : Going) (code at : ℕ) (l l₁ : List ℕ) → p .count ≤ 64 → turnOf w g ≡ []
+    → Written w g at l₁ (over (code ∷ packetBytes w p) l) (length (code ∷ packetBytes w p))
+    → (l₁ ≡ over (code ∷ packetBytes w p) l) × (at ≡ length (code ∷ packetBytes w p)) × (at ≤ 260)
+unfolding pairBytes
+written-whole w p g code at l l₁ h z s =
+    let t = ap (pairBytes w) z in
+    let n = ap length t in
+    (sym (put-none l₁ at) ∙ ap (λ (ks : List ℕ). put at ks l₁) (sym t) ∙ s .rest, omega (arith, s .end, n), omega (arith, s .end, n, packet-length w p))
 
 four-more : (k n : ℕ) → k ≡ n → 4 + n ≡ suc (suc (suc (suc k)))
 four-more k n e = omega arith
 
-pub piece-length : (c : Completion) (n : ℕ) (reads : List ℕ) → 4096 ≤ length reads → c .from + c .length ≤ 4096 → n ≡ 4 + c .length → (code : ℕ) → n ≡ length (code ∷ bodyBytes (B.Piece c) reads)
-piece-length c n reads hs hf e code = e ∙ four-more _ _ (length-take-le (c .length) (drop (c .from) reads) (rw length-drop (omega arith)))
+pub piece-length : (c : Completion) (n : ℕ) (w : Wires) (reads : List ℕ) → readLength ≤ length reads → c .from + c .length ≤ readLength → n ≡ 4 + c .length → (code : ℕ) → n ≡ length (code ∷ bodyBytes (B.Piece c) w reads)
+piece-length c n w reads hs hf e code = e ∙ four-more _ _ (length-take-le (c .length) (drop (c .from) reads) (rw length-drop (omega arith)))
 
 -- the reply of the case that it is in
-pub by-reply : (r r′ : Reply) (l l₁ reads : List ℕ) (n : ℕ)
+pub by-reply : (r r′ : Reply) (w : Wires) (l l₁ reads : List ℕ) (n : ℕ)
     → r ≡ r′
-    → (l₁ ≡ over (replyBytes r′ reads) l) × (n ≡ length (replyBytes r′ reads)) × (n ≤ 263)
-    → (l₁ ≡ over (replyBytes r reads) l) × (n ≡ length (replyBytes r reads)) × (n ≤ 263)
-by-reply r r′ l l₁ reads n e h = subst (λ (z : Reply). (l₁ ≡ over (replyBytes z reads) l) × (n ≡ length (replyBytes z reads)) × (n ≤ 263)) (sym e) h
+    → (l₁ ≡ over (replyBytes r′ w reads) l) × (n ≡ length (replyBytes r′ w reads)) × (n ≤ replyLength)
+    → (l₁ ≡ over (replyBytes r w reads) l) × (n ≡ length (replyBytes r w reads)) × (n ≤ replyLength)
+by-reply r r′ w l l₁ reads n e h = subst (λ (z : Reply). (l₁ ≡ over (replyBytes z w reads) l) × (n ≡ length (replyBytes z w reads)) × (n ≤ replyLength)) (sym e) h
 
 -- data kept at the start of a store
 pub data-by : (dst dst′ src part : List ℕ) (at n : ℕ) → at + n ≤ length src → part ≡ drop at src → dst′ ≡ copied dst part n → dst′ ≡ over (take n (drop at src)) dst
@@ -102,3 +209,9 @@ data-by dst dst′ src part at n h ep e =
 
 pub by-kept : (k k′ : Kept) (dst dst′ src : List ℕ) → k ≡ k′ → dst′ ≡ over (keptBytes k′ src) dst → dst′ ≡ over (keptBytes k src) dst
 by-kept k k′ dst dst′ src e h = h ∙ ap (λ (z : Kept). over (keptBytes z src) dst) (sym e)
+
+-- a packet over the wires that these are
+pub by-groups : (w w′ : Wires) (p : Packet) (l l₁ : List ℕ) (code n : ℕ) → w′ ≡ w
+    → (l₁ ≡ over (code ∷ packetBytes w′ p) l) × (n ≡ length (code ∷ packetBytes w′ p)) × (n ≤ 260)
+    → (l₁ ≡ over (code ∷ packetBytes w p) l) × (n ≡ length (code ∷ packetBytes w p)) × (n ≤ 260)
+by-groups w w′ p l l₁ code n e h = subst (λ (z : Wires). (l₁ ≡ over (code ∷ packetBytes z p) l) × (n ≡ length (code ∷ packetBytes z p)) × (n ≤ 260)) e h

@@ -7,16 +7,25 @@ use rules::Body;
 use rules::Kept;
 use rules::Reply;
 use rules::Response;
+use wires::Going;
 use wires::Packet;
+use wires::Wires;
+use wires::Words;
 ghost use mathlib.Core.Path.{_≡_};
+ghost use mathlib.Core.Bool.{true};
 ghost use mathlib.Core.List.{_∷_, _++_};
-ghost use Prim.Native.Nat.{_+_, _*_, _≤_};
+ghost use Prim.Native.Nat.{_+_, _*_, _≤_, _<_};
 ghost use lib.ListN.{length, take, drop};
-ghost use Rattle.base.specs.Bytes.{over};
+ghost use Rattle.base.specs.Bytes.{put, over};
+ghost use Rattle.wires.specs.Table.{isUp};
 ghost use Rattle.wires.specs.Groups.{packetBytes};
+ghost use Rattle.wires.specs.Layout.{wiresOf};
+ghost use Rattle.wires.specs.Sending.{PacketFits};
 ghost use Rattle.rules.specs.Rules.Out.{responseByte};
 ghost use Rattle.rules.specs.Rules.Peripheral.{requestReport, postedReport, takeReport};
 ghost use Rattle.rules.specs.Rules.Reply.{headerBytes, dataBytes, bodyBytes, closed, replyBytes, keptBytes};
+ghost use Rattle.reply.specs.Written.{pairNow};
+ghost use Rattle.rules.specs.Rules.Step.{replyLength, readLength, lookLength, takeLength};
 ghost use Rattle.rules.specs.Rules.Fits.{BodyFits, ReplyFits, KeptFits};
 
 fn response_byte(r: Response) -> u8
@@ -44,7 +53,7 @@ fn header(code: u8, c: Completion) -> [u8; 4]
 
 // The data goes into the reply from its fifth byte on.
 fn put_piece(reply: &mut [u8], code: u8, c: Completion, reads: &[u8]) -> usize
-    requires { ⌜ (263 ≤ length (now reply)) × (4096 ≤ length (now reads)) × (c .length ≤ 256) × (c .from + c .length ≤ 4096) ⌝ }
+    requires { ⌜ (replyLength ≤ length (now reply)) × (readLength ≤ length (now reads)) × (c .length ≤ 256) × (c .from + c .length ≤ readLength) ⌝ }
     ensures { λ r. ⌜ (now (reply .exit) ≡ over ((code ∷ headerBytes c) ++ dataBytes c (now (reads .entry))) (now (reply .entry))) × (r ≡ 4 + c .length) ⌝ }
 {
     let first = header(code, c);
@@ -55,38 +64,39 @@ fn put_piece(reply: &mut [u8], code: u8, c: Completion, reads: &[u8]) -> usize
     4 + n
 }
 
-// The response byte and a wire packet.
-fn put_groups(reply: &mut [u8], code: u8, p: Packet) -> usize
-    requires { ⌜ 263 ≤ length (now reply) ⌝ }
-    ensures { λ r. ⌜ (now (reply .exit) ≡ over (code ∷ packetBytes p) (now (reply .entry))) × (r ≡ length (code ∷ packetBytes p)) × (r ≤ 260) ⌝ }
+// The pair of the group that is asked now, if the packet takes it; where the next pair goes.
+fn put_pair(reply: &mut [u8], at: usize, g: Going, waits: bool, level: u8) -> usize
+    requires { ⌜ (at + 2 ≤ length (now reply)) × (isUp (g .group) ≡ true) × (level < 16) ⌝ }
+    ensures { λ r. ⌜ (now (reply .exit) ≡ put at (pairNow g waits level) (now (reply .entry))) × (r ≡ at + length (pairNow g waits level)) ⌝ }
 {
-    match p {
-        Packet::Nothing => {
-            base::put_at(reply, 0, &[code]);
-            1
-        }
-        Packet::One(a) => {
-            base::put_at(reply, 0, &[code, 0, a.index, a.byte]);
-            4
-        }
-        Packet::Two(a, b) => {
-            base::put_at(reply, 0, &[code, 1, a.index, a.byte, b.index, b.byte]);
-            6
-        }
-        Packet::Three(a, b, c) => {
-            base::put_at(
-                reply,
-                0,
-                &[code, 2, a.index, a.byte, b.index, b.byte, c.index, c.byte],
-            );
-            8
-        }
+    if !g.takes(waits) {
+        return at;
     }
+    let pair = wires::pair(g.group, level);
+    base::put_at(reply, at, &pair);
+    at + 2
+}
+
+// The response byte and a wire packet, group by group over the wires as they were, until it is full.
+fn put_groups(reply: &mut [u8], code: u8, w: Wires, p: Packet) -> usize
+    requires { ⌜ (replyLength ≤ length (now reply)) × PacketFits w p ⌝ }
+    ensures { λ r. ⌜ (now (reply .exit) ≡ over (code ∷ packetBytes w p) (now (reply .entry))) × (r ≡ length (code ∷ packetBytes w p)) × (r ≤ 260) ⌝ }
+{
+    base::put_at(reply, 0, &[code, p.count - 1]);
+    let mut at: usize = 2;
+    let mut g = wires::go_round(p.place, p.count as u32);
+    while (0 < g.left) & (0 < g.room) {
+        let row = (g.group - 2) as usize;
+        let waits = w.pending[row];
+        at = put_pair(reply, at, g, waits, w.level[row]);
+        g = g.past(waits);
+    }
+    at
 }
 
 // The response byte and a register.
 fn put_word(reply: &mut [u8], code: u8, v: u32) -> usize
-    requires { ⌜ 263 ≤ length (now reply) ⌝ }
+    requires { ⌜ replyLength ≤ length (now reply) ⌝ }
     ensures { λ r. ⌜ (now (reply .exit) ≡ over (code ∷ Rattle.base.specs.Bytes.low4 v) (now (reply .entry))) × (r ≡ 5) ⌝ }
 {
     let w = base::bytes4(v);
@@ -94,9 +104,9 @@ fn put_word(reply: &mut [u8], code: u8, v: u32) -> usize
     5
 }
 
-fn put_body(reply: &mut [u8], code: u8, body: Body, reads: &[u8]) -> usize
-    requires { ⌜ (263 ≤ length (now reply)) × (4096 ≤ length (now reads)) × BodyFits body ⌝ }
-    ensures { λ r. ⌜ (now (reply .exit) ≡ over (code ∷ bodyBytes body (now (reads .entry))) (now (reply .entry))) × (r ≡ length (code ∷ bodyBytes body (now (reads .entry)))) × (r ≤ 260) ⌝ }
+fn put_body(reply: &mut [u8], code: u8, body: Body, w: Words, reads: &[u8]) -> usize
+    requires { ⌜ (replyLength ≤ length (now reply)) × (readLength ≤ length (now reads)) × BodyFits body (wiresOf w) ⌝ }
+    ensures { λ r. ⌜ (now (reply .exit) ≡ over (code ∷ bodyBytes body (wiresOf w) (now (reads .entry))) (now (reply .entry))) × (r ≡ length (code ∷ bodyBytes body (wiresOf w) (now (reads .entry)))) × (r ≤ 260) ⌝ }
 {
     match body {
         Body::Nothing => {
@@ -105,7 +115,7 @@ fn put_body(reply: &mut [u8], code: u8, body: Body, reads: &[u8]) -> usize
         }
         Body::Word(v) => put_word(reply, code, v),
         Body::Piece(c) => put_piece(reply, code, c, reads),
-        Body::Groups(p) => put_groups(reply, code, p),
+        Body::Groups(p) => put_groups(reply, code, w.wires(), p),
     }
 }
 
@@ -121,19 +131,19 @@ fn finish(reply: &mut [u8], n: usize, status: u32)
     base::put_at(reply, end, &one);
 }
 
-fn say(reply: &mut [u8], code: u8, body: Body, status: u32, reads: &[u8]) -> u32
-    requires { ⌜ (263 ≤ length (now reply)) × (4096 ≤ length (now reads)) × BodyFits body ⌝ }
-    ensures { λ r. ⌜ (now (reply .exit) ≡ over (closed (code ∷ bodyBytes body (now (reads .entry))) status) (now (reply .entry))) × (r ≡ length (closed (code ∷ bodyBytes body (now (reads .entry))) status)) × (r ≤ 263) ⌝ }
+fn say(reply: &mut [u8], code: u8, body: Body, status: u32, w: Words, reads: &[u8]) -> u32
+    requires { ⌜ (replyLength ≤ length (now reply)) × (readLength ≤ length (now reads)) × BodyFits body (wiresOf w) ⌝ }
+    ensures { λ r. ⌜ (now (reply .exit) ≡ over (closed (code ∷ bodyBytes body (wiresOf w) (now (reads .entry))) status) (now (reply .entry))) × (r ≡ length (closed (code ∷ bodyBytes body (wiresOf w) (now (reads .entry))) status)) × (r ≤ replyLength) ⌝ }
 {
-    let n = put_body(reply, code, body, reads);
+    let n = put_body(reply, code, body, w, reads);
     finish(reply, n, status);
     (n + 3) as u32
 }
 
-// The reply's bytes; their count.
-pub fn put_reply(reply: &mut [u8], r: Reply, reads: &[u8]) -> u32
-    requires { ⌜ (263 ≤ length (now reply)) × (4096 ≤ length (now reads)) × ReplyFits r ⌝ }
-    ensures { λ n. ⌜ (now (reply .exit) ≡ over (replyBytes r (now (reads .entry))) (now (reply .entry))) × (n ≡ length (replyBytes r (now (reads .entry)))) × (n ≤ 263) ⌝ }
+// The reply's bytes, over the wires as they were before the command; their count.
+pub fn put_reply(reply: &mut [u8], r: Reply, w: Words, reads: &[u8]) -> u32
+    requires { ⌜ (replyLength ≤ length (now reply)) × (readLength ≤ length (now reads)) × ReplyFits r (wiresOf w) ⌝ }
+    ensures { λ n. ⌜ (now (reply .exit) ≡ over (replyBytes r (wiresOf w) (now (reads .entry))) (now (reply .entry))) × (n ≡ length (replyBytes r (wiresOf w) (now (reads .entry)))) × (n ≤ replyLength) ⌝ }
 {
     match r {
         Reply::Silent => 0,
@@ -142,6 +152,7 @@ pub fn put_reply(reply: &mut [u8], r: Reply, reads: &[u8]) -> u32
             response_byte(response),
             body,
             status,
+            w,
             reads,
         ),
     }
@@ -198,7 +209,7 @@ fn request_report(q: Request, serial: u32) -> [u8; 19]
 
 // The report of a look: kind, address, length, serial, an I/O write's bytes.
 pub fn put_request(report: &mut [u8], q: Request, serial: u32)
-    requires { ⌜ 19 ≤ length (now report) ⌝ }
+    requires { ⌜ lookLength ≤ length (now report) ⌝ }
     ensures { λ _. ⌜ now (report .exit) ≡ over (requestReport q serial) (now (report .entry)) ⌝ }
 {
     let r = request_report(q, serial);
@@ -225,7 +236,7 @@ fn posted_report(w: Posted) -> [u8; 10]
 }
 
 fn put_posted(report: &mut [u8], w: Posted)
-    requires { ⌜ 10 ≤ length (now report) ⌝ }
+    requires { ⌜ takeLength ≤ length (now report) ⌝ }
     ensures { λ _. ⌜ now (report .exit) ≡ over (postedReport w) (now (report .entry)) ⌝ }
 {
     let r = posted_report(w);
@@ -234,7 +245,7 @@ fn put_posted(report: &mut [u8], w: Posted)
 
 // The report of a take: address and length; nothing where no write is held.
 pub fn put_write(report: &mut [u8], w: Write)
-    requires { ⌜ 10 ≤ length (now report) ⌝ }
+    requires { ⌜ takeLength ≤ length (now report) ⌝ }
     ensures { λ _. ⌜ now (report .exit) ≡ over (takeReport w) (now (report .entry)) ⌝ }
 {
     match w {

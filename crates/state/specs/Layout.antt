@@ -8,7 +8,6 @@ use Rattle.wires.specs.Layout.{wiresBytes, wiresIn, tidyWires}
 use Rattle.peripheral.specs.Layout.{peripheralBytes, peripheralIn, tidyPeripheral}
 use Rattle.state.specs.Sound.{sound}
 use Rattle.state.specs.declared.State.{State}
-use Rattle.state.specs.declared.Loaded.{Loaded}
 
 -- the fixed length
 abbrev pub stateLength : ℕ
@@ -28,6 +27,3 @@ holds l = sound (unpacked l) && agree stateLength (packed (unpacked l)) l
 -- the canonical form, by the bytes as they stand: the same as `agree` above (`tidy-is` of Tidy.antt); any bytes are those of registers
 unfoldable pub tidy : List ℕ → Bool
 tidy l = tidyPeripheral l && tidyWires l
-
-abbrev pub loaded : List ℕ → Loaded
-loaded l = record { ok = holds l; state = unpacked l }

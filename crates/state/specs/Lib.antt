@@ -1,8 +1,10 @@
+pub mod Channel
 pub mod Fresh
 pub mod Status
 pub mod Sound
 pub mod Facts
 pub mod Layout
+pub mod Parts
 pub mod Packing
 pub mod Tidy
 pub mod Stored

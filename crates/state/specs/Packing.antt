@@ -1,7 +1,7 @@
 -- P3, packing: sound states and their 77 bytes, there and back; nothing past them matters.
 use Prim.Native.Nat.{ℕ, zero, suc, _<_, _≤_}
 use mathlib.Core.Bool.{true}
-use mathlib.Core.List.{List, [], _++_, append-assoc}
+use mathlib.Core.List.{List, []}
 use mathlib.Core.Logic.{_↔_}
 use mathlib.Core.Path.{_≡_, refl, sym, ap, subst, _∙_}
 use native.Mathlib.Nat.{le-of-eq}
@@ -11,64 +11,46 @@ use lib.Seq.{getD-take, take-all}
 use borrow.Author.Tests.{eq-eqb}
 use Rattle.base.specs.Pick.{and-left, and-right, and-true}
 use Rattle.base.specs.Bytes.{over, over-take, take-over, agree, agree-take}
-use Rattle.base.specs.Numbers.{length-join}
-use Rattle.base.specs.AllBytes.{all-append}
-use Rattle.registers.specs.Registers.{on1}
-use Rattle.registers.specs.Layout.{fitsConfig, configBytes, config-fitting, fitting-config, config-back, all-config, config-in-fits, config-same}
-use Rattle.wires.specs.Kept.{whole-level, whole-marks}
-use Rattle.wires.specs.Layout.{wiresBytes, wiresIn, wires-back, all-wires, wires-same}
-use Rattle.peripheral.specs.Sound.{fitsPeripheral}
-use Rattle.peripheral.specs.Layout.{peripheralBytes}
-use Rattle.peripheral.specs.Packing.{peripheral-length, peripheral-back, all-peripheral, peripheral-in-fits, peripheral-same}
+use Rattle.registers.specs.Layout.{configIn, config-back, config-in-fits, config-same}
+use Rattle.state.specs.Channel.{Part, part, on, fitsPart, partIn}
+use Rattle.state.specs.Parts.{last, state-is, part-found, part-back, part-bytes, part-fits, part-same, front, behind, front-length, joined-length, partsBytes, packed-config, packed-is, packed-ends, packed-all}
 use Rattle.state.specs.Sound.{sound, fits, Sound}
-use Rattle.state.specs.Facts.{sound-parts}
+use Rattle.state.specs.Facts.{sound-parts, fit-parts, fit-made}
 use Rattle.state.specs.Layout.{stateLength, packed, unpacked, holds}
 use Rattle.state.specs.declared.State.{State}
 
 pub packed-length : (s : State) → length (packed s) ≡ stateLength
-unfolding packed
-packed-length s =
-    let b = peripheralBytes (s .peripheral) in
-    length-join (configBytes (s .config)) (b ++ wiresBytes (s .wires)) 12 65 refl (length-join b (wiresBytes (s .wires)) 52 13 (peripheral-length (s .peripheral)) refl)
+packed-length s = ap length (packed-ends s) ∙ joined-length last (front last s) (part last s) (front-length last s)
 
 -- ---- a sound state's bytes, unpacked, give it back: part by part
 
 round : (s : State) → Sound s → unpacked (packed s) ≡ s
-unfolding packed unpacked fits
+unfolding unpacked
 round s w =
     let g = sound-parts s (w .isSound) in
-    let a = configBytes (s .config) in
-    let b = peripheralBytes (s .peripheral) in
-    let d = wiresBytes (s .wires) in
-    let f = and-right (fitsConfig (s .config)) _ (w .isFit) in
-    let whole = and-right (fitsPeripheral (s .peripheral)) _ f in
-    rw (
-      config-back (s .config) (b ++ d) (config-fitting (s .config) (and-left (fitsConfig (s .config)) _ (w .isFit))),
-      peripheral-back a d (s .peripheral) refl (g .request) (g .write) (and-left (fitsPeripheral (s .peripheral)) _ f),
-      ap wiresIn (sym (append-assoc a b d))
-          ∙ wires-back (a ++ b) [] (s .wires) (length-join a b 12 52 refl (peripheral-length (s .peripheral))) (whole-level (s .wires) whole) (whole-marks (s .wires) whole),
-    )
+    let f = fit-parts s (w .isFit) in
+    state-is (unpacked (packed s)) s (ap configIn (packed-config s) ∙ config-back (s .config) (partsBytes s) (f .config))
+    (λ k.
+    part-found k (packed s) ∙ ap (partIn k) (packed-is k s)
+    ∙ part-back k (on k (s .config)) (front k s) (behind k s []) (part k s) (front-length k s) (g .each k) (f .each k))
 
 -- a sound state packs to bytes
 pub packed-bytes : (s : State) → sound s ≡ true → (k : ℕ) → getD (packed s) k 0 < 256
-unfolding packed
-packed-bytes s e =
-    let g = sound-parts s e in
-    let a =
-    all-append (configBytes (s .config)) (all-config (s .config))
-    (all-append (peripheralBytes (s .peripheral)) (all-peripheral (s .peripheral) (g .request)) (all-wires (on1 (s .config .r020)) (s .wires) (g .wires))) in
-    a .byte
+packed-bytes s e = packed-all s (λ k. part-bytes k (on k (s .config)) (part k s) (sound-parts s e .each k)) .byte
 
 -- what bytes make fits
 unpacked-fits : (l : List ℕ) → ((k : ℕ) → getD l k 0 < 256) → fits (unpacked l) ≡ true
-unfolding unpacked fits
-unpacked-fits l byte = and-true (fitting-config _ (config-in-fits l byte)) (and-true (peripheral-in-fits l byte) refl)
+unfolding unpacked
+unpacked-fits l byte =
+    fit-made (unpacked l)
+    (record { config = config-in-fits l byte; each = λ k. subst (λ (q : Part k). fitsPart k q ≡ true) (sym (part-found k l)) (part-fits k l byte) })
 
 -- ---- bytes past the length do not matter
 
 unpacked-at : (a b : List ℕ) → ((k : ℕ) → k < stateLength → getD a k 0 ≡ getD b k 0) → unpacked a ≡ unpacked b
 unfolding unpacked
-unpacked-at a b e = rw (config-same a b (λ k h. e k (omega arith)), peripheral-same a b (λ k h. e k (omega arith)), wires-same a b e)
+unpacked-at a b e =
+    state-is (unpacked a) (unpacked b) (config-same a b (λ k h. e k (omega arith))) (λ k. part-found k a ∙ part-same k a b e ∙ sym (part-found k b))
 
 -- the first bytes are the same one by one
 each : (a b : List ℕ) (n : ℕ) → take n a ≡ take n b → (k : ℕ) → k < n → getD a k 0 ≡ getD b k 0

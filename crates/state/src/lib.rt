@@ -8,18 +8,12 @@ ghost use lib.ListN.{length};
 ghost use Rattle.base.specs.Bytes.{over};
 ghost use Rattle.state.specs.Fresh.{freshState};
 ghost use Rattle.state.specs.Status.{status};
-ghost use Rattle.state.specs.Layout.{stateLength, packed, unpacked, loaded};
+ghost use Rattle.state.specs.Layout.{stateLength, packed, unpacked, holds};
 
 pub struct State {
     pub config: Config,
     pub peripheral: Peripheral,
     pub wires: Wires,
-}
-
-// What state bytes hold: `ok` where they pack a sound state.
-pub struct Loaded {
-    pub ok: bool,
-    pub state: State,
 }
 
 impl State {
@@ -45,16 +39,13 @@ pub fn pack(s: State, dst: &mut [u8])
     requires { ⌜ stateLength ≤ length (now dst) ⌝ }
     ensures { λ _. ⌜ now (dst .exit) ≡ over (packed s) (now (dst .entry)) ⌝ }
 {
-    let c = s.config;
-    let p = s.peripheral;
-    let w = s.wires;
-    c.pack(dst);
-    p.pack(dst);
-    w.pack(dst);
+    s.config.pack(dst);
+    s.peripheral.pack(dst);
+    s.wires.pack(dst);
 }
 
 // The state whose bytes stand at the start of `b`, sound or not.
-fn unpack(b: &[u8]) -> State
+pub fn unpack(b: &[u8]) -> State
     requires { ⌜ stateLength ≤ length (now b) ⌝ }
     ensures { λ r. ⌜ r ≡ unpacked (now (b .entry)) ⌝ }
 {
@@ -68,17 +59,21 @@ fn unpack(b: &[u8]) -> State
     }
 }
 
-// The state that the bytes pack, and whether they pack a sound one: the bytes are tested as they stand.
-pub fn load(b: &[u8]) -> Loaded
+// Whether the bytes pack a sound state: they are tested as they stand.
+pub fn holds(b: &[u8]) -> bool
     requires { ⌜ stateLength ≤ length (now b) ⌝ }
-    ensures { λ r. ⌜ r ≡ loaded (now (b .entry)) ⌝ }
+    ensures { λ r. ⌜ r ≡ holds (now (b .entry)) ⌝ }
 {
-    let state = unpack(b);
-    let c = state.config;
+    let c = Config::unpack(b);
     let peripheral = Peripheral::holds(b, c.r010.on());
     let wires = Wires::holds(b, c.r020.on());
-    Loaded {
-        ok: c.reachable() & (peripheral & wires),
-        state,
-    }
+    c.reachable() & (peripheral & wires)
+}
+
+// The status word, of the bytes.
+pub fn status_in(b: &[u8]) -> u32
+    requires { ⌜ stateLength ≤ length (now b) ⌝ }
+    ensures { λ r. ⌜ r ≡ status (unpacked (now (b .entry))) ⌝ }
+{
+    Peripheral::status_in(b) + Wires::status_in(b)
 }

@@ -14,27 +14,24 @@ use Rattle.base.specs.Pick.{pick, pick-ind, and-left}
 use Rattle.wires.specs.Table.{rowAt, isGroup}
 use Rattle.wires.specs.Rows.{InTable, in-table, defined-bit, Settable, settable-bit, row-right}
 use Rattle.wires.specs.Nibbles.{bitOf, binary, and-bit, and-one, nibble-bit, nibble-small, mask-inside, set-bit, same-bits}
-use Rattle.wires.specs.Kept.{clash, whole-with, whole-level, whole-marks, whole-pair}
-use Rattle.wires.specs.Groups.{levelAt, markAt, withGroup, nibble, isDown, putPair, putPairs, definedBit, settable, setLevel, setWire, readWire, resetGroup, platformWires, wholeWires}
+use Rattle.wires.specs.Kept.{clash, whole-level, whole-marks, whole-pair}
+use Rattle.wires.specs.Groups.{levelAt, markAt, withGroup, nibble, isDown, putPair, putPairs, definedBit, settable, setLevel, setWire, readWire, wholeWires}
 use Rattle.wires.specs.declared.Wires.{Wires}
 
 -- ---- one group changed
 
-module _ (w : Wires) (i level : ℕ) (mark : Bool) where
-  pub level-same : wholeWires w ≡ true → 2 ≤ i → i ≤ 7 → levelAt (withGroup w i level mark) i ≡ level
+module _ (w : Wires) (i level : ℕ) (mark : Bool) (p : ℕ) where
+  pub level-same : wholeWires w ≡ true → 2 ≤ i → i ≤ 7 → levelAt (withGroup w i level mark p) i ≡ level
   level-same e h l = getD-set-same (w .level) (i - 2) level 0 (omega (arith, whole-level w e))
 
-  pub mark-same : wholeWires w ≡ true → 2 ≤ i → i ≤ 7 → markAt (withGroup w i level mark) i ≡ mark
+  pub mark-same : wholeWires w ≡ true → 2 ≤ i → i ≤ 7 → markAt (withGroup w i level mark p) i ≡ mark
   mark-same e h l = getD-set-same (w .pending) (i - 2) mark false (omega (arith, whole-marks w e))
 
-  pub level-other : (j : ℕ) → 2 ≤ i → 2 ≤ j → (j ≡ i → ⊥) → levelAt (withGroup w i level mark) j ≡ levelAt w j
+  pub level-other : (j : ℕ) → 2 ≤ i → 2 ≤ j → (j ≡ i → ⊥) → levelAt (withGroup w i level mark p) j ≡ levelAt w j
   level-other j h l n = getD-set-other (w .level) (i - 2) (j - 2) level 0 (λ e. n (omega arith))
 
-  pub mark-other : (j : ℕ) → 2 ≤ i → 2 ≤ j → (j ≡ i → ⊥) → markAt (withGroup w i level mark) j ≡ markAt w j
+  pub mark-other : (j : ℕ) → 2 ≤ i → 2 ≤ j → (j ≡ i → ⊥) → markAt (withGroup w i level mark p) j ≡ markAt w j
   mark-other j h l n = getD-set-other (w .pending) (i - 2) (j - 2) mark false (λ e. n (omega arith))
-
-  pub place-stays : withGroup w i level mark .place ≡ w .place
-  place-stays = refl
 
 -- ---- PUT_VWIRE, pair by pair
 
@@ -85,7 +82,7 @@ put-place w (i ∷ b ∷ ps) = put-place (putPair w i b) ps ∙ pair-place w i b
 pair-passes : (w : Wires) (i b j : ℕ) → 2 ≤ j → isDown j ≡ false → levelAt (putPair w i b) j ≡ levelAt w j
 pair-passes w i b j h n =
     pick-ind (λ (v : Wires). levelAt v j ≡ levelAt w j) (isDown i)
-    (λ e. level-other w i _ (markAt w i) j (in-table i (and-left (isGroup i) (rowAt (i - 2) .down) e) .from) h (λ q. clash (sym n ∙ ap isDown q ∙ e)))
+    (λ e. level-other w i _ (markAt w i) (w .place) j (in-table i (and-left (isGroup i) (rowAt (i - 2) .down) e) .from) h (λ q. clash (sym n ∙ ap isDown q ∙ e)))
     (λ _. refl)
 
 pub put-passes : (w : Wires) (ps : List ℕ) (j : ℕ) → 2 ≤ j → isDown j ≡ false → levelAt (putPairs w ps) j ≡ levelAt w j
@@ -116,14 +113,14 @@ module _ (j bit : ℕ) (down : isDown j ≡ true) (small : bit < 4) where
   pair-own : (w : Wires) (b : ℕ) → wholeWires w ≡ true
       → readWire (putPair w j b) j bit ≡ pick (eqb (bitOf (bitAnd (b / 16) (rowAt (j - 2) .defined)) bit) 1) (bitOf (b % 16) bit) (readWire w j bit)
   pair-own w b e =
-      ap (λ (t : Bool). readWire (pick t (withGroup w j (nibble (levelAt w j) (b % 16) (bitAnd (b / 16) (rowAt (j - 2) .defined))) (markAt w j)) w) j bit) down
-      ∙ ap (λ (x : ℕ). bitOf x bit) (level-same w j _ (markAt w j) e (here .from) (here .upto))
+      ap (λ (t : Bool). readWire (pick t (withGroup w j (nibble (levelAt w j) (b % 16) (bitAnd (b / 16) (rowAt (j - 2) .defined))) (markAt w j) (w .place)) w) j bit) down
+      ∙ ap (λ (x : ℕ). bitOf x bit) (level-same w j _ (markAt w j) (w .place) e (here .from) (here .upto))
       ∙ nibble-bit (levelAt w j) (b % 16) (bitAnd (b / 16) (rowAt (j - 2) .defined)) bit (omega (arith, and-le-r (b / 16) (rowAt (j - 2) .defined), defined-small)) small
 
   pair-other : (w : Wires) (i b : ℕ) → (j ≡ i → ⊥) → readWire (putPair w i b) j bit ≡ readWire w j bit
   pair-other w i b n =
       pick-ind (λ (v : Wires). readWire v j bit ≡ readWire w j bit) (isDown i)
-      (λ e. ap (λ (x : ℕ). bitOf x bit) (level-other w i _ (markAt w i) j (in-table i (and-left (isGroup i) (rowAt (i - 2) .down) e) .from) (here .from) n))
+      (λ e. ap (λ (x : ℕ). bitOf x bit) (level-other w i _ (markAt w i) (w .place) j (in-table i (and-left (isGroup i) (rowAt (i - 2) .down) e) .from) (here .from) n))
       (λ _. refl)
 
   pair-read : rowAt (j - 2) .defined / 2 ^ bit % 2 ≡ 1 → (w : Wires) (i b : ℕ) → wholeWires w ≡ true
@@ -181,17 +178,14 @@ module _ (on : Bool) (w : Wires) (i bit value : ℕ) (ok : settable i bit value 
   -- that bit of that group alone
   pub set-read : wholeWires w ≡ true → (k : ℕ) → k < 4 → readWire (setWire on w i bit value) i k ≡ pick (eqb k bit) value (readWire w i k)
   set-read e k h =
-      ap (λ (x : ℕ). bitOf x k) (level-same w i (setLevel w i bit value) (setMark on w i bit value) e (it .defined .from) (it .defined .upto))
+      ap (λ (x : ℕ). bitOf x k) (level-same w i (setLevel w i bit value) (setMark on w i bit value) (w .place) e (it .defined .from) (it .defined .upto))
       ∙ set-bit (levelAt w i) bit value k (it .defined .small) (it .level) h
 
   pub set-level-other : (j : ℕ) → 2 ≤ j → (j ≡ i → ⊥) → levelAt (setWire on w i bit value) j ≡ levelAt w j
-  set-level-other j = level-other w i (setLevel w i bit value) (setMark on w i bit value) j (it .defined .from)
+  set-level-other j = level-other w i (setLevel w i bit value) (setMark on w i bit value) (w .place) j (it .defined .from)
 
   pub set-mark-other : (j : ℕ) → 2 ≤ j → (j ≡ i → ⊥) → markAt (setWire on w i bit value) j ≡ markAt w j
-  set-mark-other j = mark-other w i (setLevel w i bit value) (setMark on w i bit value) j (it .defined .from)
-
-  pub set-place : setWire on w i bit value .place ≡ w .place
-  set-place = refl
+  set-mark-other j = mark-other w i (setLevel w i bit value) (setMark on w i bit value) (w .place) j (it .defined .from)
 
   -- the level changes exactly where the bit does
   real : levelAt w i < 16 → eqb (setLevel w i bit value) (levelAt w i) ≡ eqb (readWire w i bit) value
@@ -221,21 +215,5 @@ module _ (on : Bool) (w : Wires) (i bit value : ℕ) (ok : settable i bit value 
   pub set-mark : wholeWires w ≡ true → levelAt w i < 16
       → markAt (setWire on w i bit value) i ≡ (markAt w i || (on && not (eqb (readWire w i bit) value)))
   set-mark e h =
-      mark-same w i (setLevel w i bit value) (setMark on w i bit value) e (it .defined .from) (it .defined .upto)
+      mark-same w i (setLevel w i bit value) (setMark on w i bit value) (w .place) e (it .defined .from) (it .defined .upto)
       ∙ ap (λ (b : Bool). markAt w i || (on && not b)) (real h)
-
--- ---- enabling and platform reset
-
--- platform reset: groups 6 and 7 as at start, the others as they were
-pub platform-reset : (w : Wires) → wholeWires w ≡ true
-    → ((levelAt (platformWires w) 6 ≡ rowAt 4 .reset) × (markAt (platformWires w) 6 ≡ false))
-    × ((levelAt (platformWires w) 7 ≡ rowAt 5 .reset) × (markAt (platformWires w) 7 ≡ false))
-platform-reset w e =
-    let v = resetGroup w 6 in
-    let e₁ = whole-with w 6 (rowAt 4 .reset) false ∙ e in (
-      (
-        level-other v 7 (rowAt 5 .reset) false 6 (omega arith) (omega arith) (λ q. omega arith) ∙ level-same w 6 (rowAt 4 .reset) false e (omega arith) (omega arith),
-        mark-other v 7 (rowAt 5 .reset) false 6 (omega arith) (omega arith) (λ q. omega arith) ∙ mark-same w 6 (rowAt 4 .reset) false e (omega arith) (omega arith),
-      ),
-      (level-same v 7 (rowAt 5 .reset) false e₁ (omega arith) (omega arith), mark-same v 7 (rowAt 5 .reset) false e₁ (omega arith) (omega arith)),
-    )

@@ -1,49 +1,29 @@
 -- P4 for the wires: each change keeps them sound, and six.
 use Prim.Native.Nat.{ℕ, zero, suc, _+_, _-_, _*_, _/_, _%_, _^_, _≤_, _<_}
 use mathlib.Core.Bool.{Bool, true, false, _&&_, _||_, not, true≢false}
-use mathlib.Core.List.{List, [], _∷_}
+use mathlib.Core.List.{List, [], _∷_, _++_, map}
 use mathlib.Core.Path.{_≡_, refl, sym, ap, subst, _∙_}
 use mathlib.Core.Logic.{_⊎_, ⊎-elim}
 use native.Mathlib.Omega.{arith}
 use lib.Bits.{bitAnd, and-le-r}
 use lib.Pow.{pow-lt}
 use lib.Dec.{eqb, leb}
-use lib.ListN.{getD, set, length, length-set}
-use borrow.Author.Tests.{leb-true, le-leb, eqb-true, ne-eqb, not-true, not-false}
+use lib.ListN.{getD, set, length, length-set, drop-of-length-le}
+use lib.Seq.{paste, paste-suc, set-getD}
+use borrow.Author.Tests.{leb-true, le-leb, eqb-true, ne-eqb}
 use Rattle.base.specs.Pick.{or-either, pick, pick-ind, and-left, and-right, and-true}
-use Rattle.wires.specs.Table.{rowAt, isGroup}
-use Rattle.wires.specs.Rows.{isUp, row-right, in-table, DefinedBit, Settable, settable-bit}
-use Rattle.wires.specs.Turn.{placeAfter}
-use Rattle.wires.specs.Round.{AllBelow, none, more, turn-below, place-below}
-use Rattle.wires.specs.Sending.{Sendable}
+use Rattle.wires.specs.Below.{at-every, every-at}
+use Rattle.wires.specs.Table.{table, noRow, rowAt, isGroup, senders, groupAt, senderOf, isUp}
+use Rattle.wires.specs.Rows.{row-right, in-table, DefinedBit, Settable, settable-bit, sender-group, place-up}
+use Rattle.wires.specs.Turn.{after}
+use Rattle.wires.specs.Round.{AllBelow, none, more, after-below, turn-below}
 use Rattle.wires.specs.Nibbles.{bitOf, cleanTest, clean-view, clean-test, nibble-clean, mask-inside, one-bit}
-use Rattle.wires.specs.Groups.{senders, senderSize, waiting, levelAt, markAt, withGroup, nibble, isDown, putPair, putPairs, settable, setWire, placed, unmarked, afterSent, sent, anyPending, enabled, disabled, platformWires, freshWires, onlyDefined, undefinedZero, marksRight, placeRight, soundWires, wholeWires}
+use Rattle.wires.specs.Groups.{senderSize, waiting, levelAt, markAt, withGroup, nibble, isDown, putPair, putPairs, settable, setWire, leftBy, afterSent, sentFrom, sent, differs, remarked, enabled, disabled, platformWires, freshWires, onlyDefined, markRight, groupRight, groupsRight, placeRight, soundWires, wholeWires}
+use Rattle.wires.specs.declared.WireRow.{WireRow}
 use Rattle.wires.specs.declared.Wires.{Wires}
-
--- ---- tests
 
 pub clash : {X : Type 0} → false ≡ true → X
 clash e = absurd (true≢false (sym e))
-
--- what would make a contradiction is off
-off : (b : Bool) → (b ≡ true → false ≡ true) → b ≡ false
-off true f = sym (f refl)
-off false f = refl
-
-or-left : (a b : Bool) → a ≡ true → a || b ≡ true
-or-left a b e = rw e
-
-or-right : (a b : Bool) → b ≡ true → a || b ≡ true
-or-right true b e = refl
-or-right false b e = e
-
-or-off : {a b : Bool} → a ≡ false → b ≡ false → a || b ≡ false
-or-off {a} {b} e f = rw e f
-
--- a mark while the channel must be on
-held : (on a : Bool) → (on || not a) ≡ true → a ≡ true → on ≡ true
-held true a e f = refl
-held false a e f = clash (sym (not-true a e) ∙ f)
 
 -- ---- soundness, index by index
 
@@ -53,78 +33,43 @@ pub record Sound (on : Bool) (w : Wires) : Type 0 where
   pub from : 4 ≤ w .place
   pub upto : w .place ≤ 6
 
-pub six : (P : ℕ → Type 0) → P 2 → P 3 → P 4 → P 5 → P 6 → P 7 → (i : ℕ) → 2 ≤ i → i ≤ 7 → P i
-six P a b c d e f zero h l = absurd (omega arith)
-six P a b c d e f (suc zero) h l = absurd (omega arith)
-six P a b c d e f (suc (suc zero)) h l = a
-six P a b c d e f (suc (suc (suc zero))) h l = b
-six P a b c d e f (suc (suc (suc (suc zero)))) h l = c
-six P a b c d e f (suc (suc (suc (suc (suc zero))))) h l = d
-six P a b c d e f (suc (suc (suc (suc (suc (suc zero)))))) h l = e
-six P a b c d e f (suc (suc (suc (suc (suc (suc (suc zero))))))) h l = f
-six P a b c d e f (suc (suc (suc (suc (suc (suc (suc (suc i)))))))) h l = absurd (omega arith)
-
-clean-all : (w : Wires) → undefinedZero w ≡ true → (i : ℕ) → 2 ≤ i → i ≤ 7 → onlyDefined w i ≡ true
-clean-all w e =
-    let o : ℕ → Bool = onlyDefined w in
-    let e6 = and-left (o 2 && o 3 && o 4 && o 5 && o 6) (o 7) e in
-    let e5 = and-left (o 2 && o 3 && o 4 && o 5) (o 6) e6 in
-    let e4 = and-left (o 2 && o 3 && o 4) (o 5) e5 in
-    let e3 = and-left (o 2 && o 3) (o 4) e4 in
-    six (λ (i : ℕ). onlyDefined w i ≡ true)
-    (and-left (o 2) (o 3) e3)
-    (and-right (o 2) (o 3) e3)
-    (and-right (o 2 && o 3) (o 4) e4)
-    (and-right (o 2 && o 3 && o 4) (o 5) e5)
-    (and-right (o 2 && o 3 && o 4 && o 5) (o 6) e6)
-    (and-right (o 2 && o 3 && o 4 && o 5 && o 6) (o 7) e)
-
-marks-all : (on : Bool) (w : Wires) → marksRight on w ≡ true → (i : ℕ) → 2 ≤ i → i ≤ 7 → markAt w i ≡ true → (isUp i ≡ true) × (on ≡ true)
-marks-all on w e =
-    let m : ℕ → Bool = markAt w in
-    let downs = not-true _ (and-left (not (m 2 || (m 3 || m 7))) (on || not (anyPending w)) e) in
-    let ups = held on (anyPending w) (and-right (not (m 2 || (m 3 || m 7))) (on || not (anyPending w)) e) in
-    six (λ (i : ℕ). markAt w i ≡ true → (isUp i ≡ true) × (on ≡ true))
-    (λ t. clash (sym downs ∙ or-left (m 2) (m 3 || m 7) t))
-    (λ t. clash (sym downs ∙ or-right (m 2) (m 3 || m 7) (or-left (m 3) (m 7) t)))
-    (λ t. (refl, ups (or-left (m 4) (m 5 || m 6) t)))
-    (λ t. (refl, ups (or-right (m 4) (m 5 || m 6) (or-left (m 5) (m 6) t))))
-    (λ t. (refl, ups (or-right (m 4) (m 5 || m 6) (or-right (m 5) (m 6) t))))
-    (λ t. clash (sym downs ∙ or-right (m 2) (m 3 || m 7) (or-right (m 3) (m 7) t)))
+-- a group of the table is an up group or not by its row
+pub up-row : (i : ℕ) → 2 ≤ i → i ≤ 7 → isUp i ≡ not (rowAt (i - 2) .down)
+up-row i h l = ap (λ (t : Bool). t && not (rowAt (i - 2) .down)) (and-true (le-leb 2 i h) (le-leb i 7 l))
 
 pub sound-view : (on : Bool) (w : Wires) → soundWires on w ≡ true → Sound on w
 sound-view on w e =
-    let u = and-left (undefinedZero w && marksRight on w) (placeRight w) e in
-    let p = and-right (undefinedZero w && marksRight on w) (placeRight w) e in
+    let p = and-right (groupsRight on w (length table)) (placeRight w) e in
     record {
-      clean = clean-all w (and-left (undefinedZero w) (marksRight on w) u);
-      marks = marks-all on w (and-right (undefinedZero w) (marksRight on w) u);
+      clean = λ i h l. and-left (onlyDefined w i) (markRight on w i) (group i h l);
+      marks = λ i h l t.
+          let u = marked (markAt w i) (on && not (rowAt (i - 2) .down)) (and-right (onlyDefined w i) (markRight on w i) (group i h l)) t in
+          (up-row i h l ∙ and-right on _ u, and-left on _ u);
       from = leb-true 4 (w .place) (and-left (leb 4 (w .place)) (leb (w .place) 6) p);
       upto = leb-true (w .place) 6 (and-right (leb 4 (w .place)) (leb (w .place) 6) p);
     }
+  where
+    group : (i : ℕ) → 2 ≤ i → i ≤ 7 → groupRight on w i ≡ true
+    group i h l =
+        let q : i - 2 + 2 ≡ i = omega arith in
+        subst (λ (j : ℕ). groupRight on w j ≡ true) q
+        (at-every (length table) (λ (k : ℕ). groupRight on w (k + 2)) (and-left (groupsRight on w (length table)) (placeRight w) e) (i - 2) (omega arith))
+
+    marked : (m b : Bool) → not m || b ≡ true → m ≡ true → b ≡ true
+    marked true b q t = q
+    marked false b q t = clash t
 
 pub sound-test : (on : Bool) (w : Wires) → Sound on w → soundWires on w ≡ true
 sound-test on w s =
-    and-true (and-true cleans marks-right) (and-true (le-leb 4 (w .place) (s .from)) (le-leb (w .place) 6 (s .upto)))
+    and-true (every-at (length table) (λ (k : ℕ). groupRight on w (k + 2)) (λ k h. group (k + 2) (omega arith) (omega arith)))
+    (and-true (le-leb 4 (w .place) (s .from)) (le-leb (w .place) 6 (s .upto)))
   where
-    at : (i : ℕ) → isGroup i ≡ true → onlyDefined w i ≡ true
-    at i e = let t = in-table i e in s .clean i (t .from) (t .upto)
+    right : (i : ℕ) → 2 ≤ i → i ≤ 7 → (m : Bool) → markAt w i ≡ m → not m || (on && not (rowAt (i - 2) .down)) ≡ true
+    right i h l true e = let t = s .marks i h l e in and-true (t .1) (sym (up-row i h l) ∙ t .0)
+    right i h l false e = refl
 
-    cleans : undefinedZero w ≡ true
-    cleans = and-true (and-true (and-true (and-true (and-true (at 2 refl) (at 3 refl)) (at 4 refl)) (at 5 refl)) (at 6 refl)) (at 7 refl)
-
-    down-off : (i : ℕ) → isGroup i ≡ true → isUp i ≡ false → markAt w i ≡ false
-    down-off i e d = let g = in-table i e in off (markAt w i) (λ t. sym d ∙ s .marks i (g .from) (g .upto) t .0)
-
-    up-off : on ≡ false → (i : ℕ) → isGroup i ≡ true → markAt w i ≡ false
-    up-off d i e = let g = in-table i e in off (markAt w i) (λ t. sym d ∙ s .marks i (g .from) (g .upto) t .1)
-
-    ups : (b : Bool) → on ≡ b → (b || not (anyPending w)) ≡ true
-    ups true e = refl
-    ups false e = ap not (or-off (up-off e 4 refl) (or-off (up-off e 5 refl) (up-off e 6 refl)))
-
-    marks-right : marksRight on w ≡ true
-    marks-right = and-true (ap not (or-off (down-off 2 refl refl) (or-off (down-off 3 refl refl) (down-off 7 refl refl)))) (ups on refl)
+    group : (i : ℕ) → 2 ≤ i → i ≤ 7 → groupRight on w i ≡ true
+    group i h l = and-true (s .clean i h l) (right i h l (markAt w i) refl)
 
 -- ---- one group changed
 
@@ -136,9 +81,9 @@ set-cases Q (x ∷ l) zero (suc j) a d f q = q
 set-cases Q (x ∷ l) (suc i) zero a d f q = q
 set-cases Q (x ∷ l) (suc i) (suc j) a d f q = set-cases Q l i j a d (λ e. f (ap suc e)) q
 
-pub sound-with : {on : Bool} {w : Wires} (i level : ℕ) (mark : Bool) → 2 ≤ i → i ≤ 7 → cleanTest (rowAt (i - 2) .defined) level ≡ true
-    → (mark ≡ true → (isUp i ≡ true) × (on ≡ true)) → Sound on w → Sound on (withGroup w i level mark)
-sound-with {on} {w} i level mark h l c m s =
+sound-with : {on : Bool} {w : Wires} (i level : ℕ) (mark : Bool) (p : ℕ) → 2 ≤ i → i ≤ 7 → cleanTest (rowAt (i - 2) .defined) level ≡ true
+    → (mark ≡ true → (isUp i ≡ true) × (on ≡ true)) → 4 ≤ p → p ≤ 6 → Sound on w → Sound on (withGroup w i level mark p)
+sound-with {on} {w} i level mark p h l c m from upto s =
     record {
       clean = λ j hj lj.
           set-cases (λ (x : ℕ). cleanTest (rowAt (j - 2) .defined) x ≡ true) (w .level) (i - 2) (j - 2) level 0
@@ -148,12 +93,9 @@ sound-with {on} {w} i level mark h l c m s =
           set-cases (λ (b : Bool). b ≡ true → (isUp j ≡ true) × (on ≡ true)) (w .pending) (i - 2) (j - 2) mark false
           (λ e. let q : i ≡ j = omega arith in subst (λ (k : ℕ). mark ≡ true → (isUp k ≡ true) × (on ≡ true)) q m)
           (s .marks j hj lj);
-      from = s .from;
-      upto = s .upto;
+      from = from;
+      upto = upto;
     }
-
-pub sound-placed : {on : Bool} {w : Wires} (p : ℕ) → 4 ≤ p → p ≤ 6 → Sound on w → Sound on (placed w p)
-sound-placed p h l s = record { clean = s .clean; marks = s .marks; from = h; upto = l }
 
 -- ---- each change
 
@@ -174,11 +116,11 @@ pair-kept {on} w i b s =
     (λ e.
     let t = in-table i (and-left (isGroup i) (rowAt (i - 2) .down) e) in
     let d = rowAt (i - 2) .defined in
-    sound-with i _ (markAt w i) (t .from) (t .upto)
+    sound-with i _ (markAt w i) (w .place) (t .from) (t .upto)
     (clean-nibble i (b % 16) (bitAnd (b / 16) d) (t .from) (t .upto)
     (omega (arith, and-le-r (b / 16) d, small-row i (t .from) (t .upto)))
     (λ k _ q. mask-inside (b / 16) d k q) s)
-    (s .marks i (t .from) (t .upto))
+    (s .marks i (t .from) (t .upto)) (s .from) (s .upto)
     s)
     (λ _. s)
 
@@ -188,20 +130,13 @@ pairs-kept w [] s = s
 pairs-kept w (i ∷ []) s = s
 pairs-kept w (i ∷ b ∷ ps) s = pairs-kept (putPair w i b) ps (pair-kept w i b s)
 
--- the up rows by their index
-up-row : (i : ℕ) → 2 ≤ i → i ≤ 7 → rowAt (i - 2) .down ≡ false → isUp i ≡ true
-up-row i h l e =
-    let r = row-right (i - 2) (omega arith) in
-    let q : i - 2 + 2 ≡ i = omega arith in
-    sym (ap isUp (r .index-is ∙ q)) ∙ not-false _ (sym (r .down-is) ∙ e)
-
 wire-kept : (on : Bool) (w : Wires) (i bit value : ℕ) → Settable i bit value → Sound on w → Sound on (setWire on w i bit value)
 wire-kept on w i bit value t s =
     let d = t .defined in
-    sound-with i _ _ (d .from) (d .upto)
+    sound-with i _ _ (w .place) (d .from) (d .upto)
     (clean-nibble i (value * 2 ^ bit) (2 ^ bit) (d .from) (d .upto) (pow-lt (d .small)) (alone d) s)
-    (λ e. ⊎-elim (s .marks i (d .from) (d .upto)) (λ o. (up-row i (d .from) (d .upto) (t .up), and-left on _ o)) (or-either (markAt w i) _ e))
-    s
+    (λ e. ⊎-elim (s .marks i (d .from) (d .upto)) (λ o. (up-row i (d .from) (d .upto) ∙ ap not (t .up), and-left on _ o)) (or-either (markAt w i) _ e))
+    (s .from) (s .upto) s
   where
     alone : DefinedBit i bit → (k : ℕ) → k < 4 → bitOf (rowAt (i - 2) .defined) k ≡ 0 → bitOf (2 ^ bit) k ≡ 0
     alone d k hk z =
@@ -209,46 +144,83 @@ wire-kept on w i bit value t s =
         ∙ ap (λ (b : Bool). pick b 1 0)
         (ne-eqb k bit (λ e. let q : _≡_ {A = ℕ} 0 1 = sym z ∙ ap (bitOf (rowAt (i - 2) .defined)) e ∙ d .one in omega arith))
 
-unmarked-kept : {on : Bool} {ks : List ℕ} (w : Wires) → AllBelow 3 ks → Sound on w → Sound on (unmarked w ks)
-unfolding unmarked
-unmarked-kept w none s = s
-unmarked-kept w (more {i = k} h hs) s =
-    unmarked-kept _ hs
-    (sound-with (k + 4) (levelAt w (k + 4)) false (omega arith) (omega arith) (s .clean (k + 4) (omega arith) (omega arith)) clash s)
+-- one sender sent
+left-kept : {on : Bool} (w : Wires) (k : ℕ) → k < senders → Sound on w → Sound on (leftBy w k)
+left-kept w k h s =
+    let g = sender-group k h in
+    let p = sender-group (after senders k) (after-below senders k h) in
+    sound-with (groupAt k) (levelAt w (groupAt k)) false (groupAt (after senders k)) (omega (arith, g .from)) (omega (arith, g .upto))
+    (s .clean (groupAt k) (omega (arith, g .from)) (omega (arith, g .upto))) clash (p .from) (p .upto) s
 
-pub sent-below : (w : Wires) (capacity : ℕ) → 4 ≤ w .place → w .place ≤ 6 → AllBelow 3 (sent w capacity)
-unfolding sent
-sent-below w capacity h l = turn-below senderSize (waiting w) senders senders capacity (w .place - 4) (omega arith)
+after-kept : {on : Bool} {ks : List ℕ} (w : Wires) → AllBelow senders ks → Sound on w → Sound on (afterSent w ks)
+unfolding afterSent
+after-kept w none s = s
+after-kept w (more {i = k} h hs) s = after-kept (leftBy w k) hs (left-kept w k h s)
+
+pub sent-below : (w : Wires) (capacity : ℕ) → 4 ≤ w .place → w .place ≤ 6 → AllBelow senders (sent w capacity)
+unfolding sentFrom
+sent-below w capacity h l = turn-below senderSize (waiting w) senders senders capacity (senderOf (w .place)) (place-up (w .place) h l .below)
 
 sent-kept : {on : Bool} (w : Wires) (capacity : ℕ) → Sound on w → Sound on (afterSent w (sent w capacity))
-sent-kept w capacity s =
-    let b = sent-below w capacity (s .from) (s .upto) in
-    let p : placeAfter senders (w .place - 4) (sent w capacity) < 3 = place-below senders (w .place - 4) (omega (arith, s .from, s .upto)) b in
-    sound-placed _ (omega arith) (omega arith) (unmarked-kept w b s)
+sent-kept w capacity s = after-kept w (sent-below w capacity (s .from) (s .upto)) s
 
--- an off channel's soundness is an on channel's too
-turned-on : {w : Wires} → Sound false w → Sound true w
-turned-on s = record { clean = s .clean; marks = λ i h l t. (s .marks i h l t .0, refl); from = s .from; upto = s .upto }
+map-at : {A B : Type 0} (f : A → B) (l : List A) (k : ℕ) (d : A) (e : B) → k < length l → getD (map f l) k e ≡ f (getD l k d)
+map-at f [] k d e h = absurd (omega arith)
+map-at f (x ∷ l) zero d e h = refl
+map-at f (x ∷ l) (suc k) d e h = map-at f l k d e (omega arith)
 
-enabled-kept : (w : Wires) → Sound false w → Sound true (enabled w)
-enabled-kept w s =
-    sound-with 6 _ _ (omega arith) (omega arith) (s .clean 6 (omega arith) (omega arith)) (λ _. (refl, refl))
-    (sound-with 5 _ _ (omega arith) (omega arith) (s .clean 5 (omega arith) (omega arith)) (λ _. (refl, refl))
-    (sound-with 4 _ _ (omega arith) (omega arith) (s .clean 4 (omega arith) (omega arith)) (λ _. (refl, refl)) (turned-on s)))
+-- the marks anew, index by index
+pub remarked-mark : (on : Bool) (w : Wires) (p i : ℕ) → 2 ≤ i → i ≤ 7 → markAt (remarked on w p) i ≡ (on && differs w i)
+remarked-mark on w p i h l =
+    let q : i - 2 + 2 ≡ i = omega arith in
+    map-at (λ (r : WireRow). on && differs w (r .index)) table (i - 2) noRow false (omega arith)
+    ∙ ap (λ (j : ℕ). on && differs w j) (row-right (i - 2) (omega arith) .index-is ∙ q)
 
-disabled-kept : {on : Bool} (w : Wires) → Sound on w → Sound false (disabled w)
-disabled-kept w s =
+-- one mark after the other
+pub remarked-next : (on : Bool) (w next : Wires) (p i : ℕ) → i < 6 → length (w .pending) ≡ 6 → next .level ≡ w .level
+    → next .pending ≡ paste (w .pending) 0 (remarked on w p .pending) i
+    → let v = withGroup next (i + 2) (getD (w .level) i 0) (on && (not (rowAt i .down) && not (eqb (getD (w .level) i 0) (rowAt i .reset)))) p in
+    (v .level ≡ w .level) × (v .pending ≡ paste (w .pending) 0 (remarked on w p .pending) (i + 1))
+remarked-next on w next p i h l e f =
+    let d : i + 2 - 2 ≡ i = omega arith in
+    let z : i ≡ 0 + i = omega arith in
+    let s : suc i ≡ i + 1 = omega arith in
+    let marks : List Bool = remarked on w p .pending in
+    let at : ℕ → Bool = λ j. on && (not (rowAt j .down) && not (eqb (getD (w .level) j 0) (rowAt j .reset))) in
+    let m : at i ≡ getD marks i false = ap at (sym d) ∙ sym (remarked-mark on w p (i + 2) (omega arith) (omega arith)) ∙ ap (λ (j : ℕ). getD marks j false) d in (
+      ap (λ (j : ℕ). set (next .level) j (getD (w .level) i 0)) d ∙ ap (λ (l : List ℕ). set l i (getD (w .level) i 0)) e ∙ set-getD (w .level) i 0,
+      ap (λ (j : ℕ). set (next .pending) j (at i)) d
+          ∙ ap (λ (l : List Bool). set l i (at i)) f
+          ∙ ap (set (paste (w .pending) 0 marks i) i) m
+          ∙ ap (λ (j : ℕ). set (paste (w .pending) 0 marks i) j (getD marks i false)) z
+          ∙ paste-suc (w .pending) 0 marks i false (omega arith) (omega arith)
+          ∙ ap (paste (w .pending) 0 marks) s,
+    )
+
+pub remarked-all : (on : Bool) (w next : Wires) (p : ℕ) → length (w .pending) ≡ 6 → next .level ≡ w .level
+    → next .pending ≡ paste (w .pending) 0 (remarked on w p .pending) 6 → next .place ≡ p → next ≡ remarked on w p
+remarked-all on w next p l e f g =
+    let marks : List Bool = remarked on w p .pending in
+    let q : next .pending ≡ marks = f ∙ ap (λ (t : List Bool). marks ++ t) (drop-of-length-le (w .pending) {i = 6} (omega arith)) in
+    ap (λ (l : List ℕ). record { level = l; pending = next .pending; place = next .place }) e
+    ∙ ap (λ (m : List Bool). record { level = w .level; pending = m; place = next .place }) q
+    ∙ ap (λ (n : ℕ). record { level = w .level; pending = marks; place = n }) g
+
+remarked-kept : {was : Bool} (on : Bool) (w : Wires) (p : ℕ) → 4 ≤ p → p ≤ 6 → Sound was w → Sound on (remarked on w p)
+remarked-kept on w p from upto s =
     record {
       clean = s .clean;
-      marks = six (λ (i : ℕ). markAt (disabled w) i ≡ true → (isUp i ≡ true) × (false ≡ true)) clash clash clash clash clash clash;
-      from = omega arith;
-      upto = omega arith;
+      marks = λ i h l t.
+          let e = sym (remarked-mark on w p i h l) ∙ t in
+          (up-row i h l ∙ and-left (not (rowAt (i - 2) .down)) _ (and-right on _ e), and-left on _ e);
+      from = from;
+      upto = upto;
     }
 
 platform-kept : {on : Bool} (w : Wires) → Sound on w → Sound on (platformWires w)
 platform-kept w s =
-    sound-placed 4 (omega arith) (omega arith)
-    (sound-with 7 _ false (omega arith) (omega arith) refl clash (sound-with 6 _ false (omega arith) (omega arith) refl clash s))
+    sound-with 7 _ false 4 (omega arith) (omega arith) refl clash (omega arith) (omega arith)
+    (sound-with 6 _ false 4 (omega arith) (omega arith) refl clash (omega arith) (omega arith) s)
 
 -- ---- the laws: soundness is kept
 
@@ -266,34 +238,27 @@ pub sound-sent : (on : Bool) (w : Wires) (capacity : ℕ) → soundWires on w �
 sound-sent on w capacity e = sound-test on _ (sent-kept w capacity (sound-view on w e))
 
 pub sound-enabled : (w : Wires) → soundWires false w ≡ true → soundWires true (enabled w) ≡ true
-sound-enabled w e = sound-test true _ (enabled-kept w (sound-view false w e))
+sound-enabled w e = let s = sound-view false w e in sound-test true _ (remarked-kept true w (w .place) (s .from) (s .upto) s)
 
 pub sound-disabled : (on : Bool) (w : Wires) → soundWires on w ≡ true → soundWires false (disabled w) ≡ true
-sound-disabled on w e = sound-test false _ (disabled-kept w (sound-view on w e))
+sound-disabled on w e = sound-test false _ (remarked-kept false w 4 (omega arith) (omega arith) (sound-view on w e))
 
 pub sound-platform : (on : Bool) (w : Wires) → soundWires on w ≡ true → soundWires on (platformWires w) ≡ true
 sound-platform on w e = sound-test on _ (platform-kept w (sound-view on w e))
 
--- what `send` asks
-pub sound-sendable : (on : Bool) (w : Wires) → soundWires on w ≡ true → Sendable w
-sound-sendable on w e =
-    let s = sound-view on w e in
-    record {
-      from = s .from;
-      upto = s .upto;
-      small = λ k h.
-          let a : 2 ≤ k + 4 = omega arith in
-          let b : k + 4 ≤ 7 = omega arith in
-          clean-view (rowAt (k + 4 - 2) .defined) (levelAt w (k + 4)) (small-row (k + 4) a b) (s .clean (k + 4) a b) .small;
-    }
+-- what a packet's bytes ask of the levels
+pub sound-levels : (on : Bool) (w : Wires) → soundWires on w ≡ true → (i : ℕ) → isUp i ≡ true → levelAt w i < 16
+sound-levels on w e i u =
+    let t = in-table i (and-left (isGroup i) _ u) in
+    clean-view (rowAt (i - 2) .defined) (levelAt w i) (small-row i (t .from) (t .upto)) (sound-view on w e .clean i (t .from) (t .upto)) .small
 
 -- ---- the laws: six groups stay six
 
-pub whole-with : (w : Wires) (i level : ℕ) (mark : Bool) → wholeWires (withGroup w i level mark) ≡ wholeWires w
-whole-with w i level mark = rw (length-set (w .level) (i - 2) level, length-set (w .pending) (i - 2) mark)
+pub whole-with : (w : Wires) (i level : ℕ) (mark : Bool) (p : ℕ) → wholeWires (withGroup w i level mark p) ≡ wholeWires w
+whole-with w i level mark p = rw (length-set (w .level) (i - 2) level, length-set (w .pending) (i - 2) mark)
 
 pub whole-pair : (w : Wires) (i b : ℕ) → wholeWires (putPair w i b) ≡ wholeWires w
-whole-pair w i b = pick-ind (λ (v : Wires). wholeWires v ≡ wholeWires w) (isDown i) (λ _. whole-with w i _ _) (λ _. refl)
+whole-pair w i b = pick-ind (λ (v : Wires). wholeWires v ≡ wholeWires w) (isDown i) (λ _. whole-with w i _ _ (w .place)) (λ _. refl)
 
 pub whole-put : (w : Wires) (ps : List ℕ) → wholeWires (putPairs w ps) ≡ wholeWires w
 unfolding putPairs
@@ -302,21 +267,15 @@ whole-put w (i ∷ []) = refl
 whole-put w (i ∷ b ∷ ps) = whole-put (putPair w i b) ps ∙ whole-pair w i b
 
 pub whole-set : (on : Bool) (w : Wires) (i bit value : ℕ) → wholeWires (setWire on w i bit value) ≡ wholeWires w
-whole-set on w i bit value = whole-with w i _ _
-
-whole-unmarked : (w : Wires) (ks : List ℕ) → wholeWires (unmarked w ks) ≡ wholeWires w
-unfolding unmarked
-whole-unmarked w [] = refl
-whole-unmarked w (k ∷ ks) = whole-unmarked _ ks ∙ whole-with w (k + 4) _ _
+whole-set on w i bit value = whole-with w i _ _ (w .place)
 
 pub whole-sent : (w : Wires) (ks : List ℕ) → wholeWires (afterSent w ks) ≡ wholeWires w
-whole-sent w ks = whole-unmarked w ks
+unfolding afterSent
+whole-sent w [] = refl
+whole-sent w (k ∷ ks) = whole-sent (leftBy w k) ks ∙ whole-with w (groupAt k) _ _ 0
 
-pub whole-enabled : (w : Wires) → wholeWires (enabled w) ≡ wholeWires w
-whole-enabled w = simp length-set
-
-pub whole-disabled : (w : Wires) → wholeWires w ≡ true → wholeWires (disabled w) ≡ true
-whole-disabled w e = and-true (and-left (eqb (length (w .level)) 6) _ e) refl
+pub whole-remarked : (on : Bool) (w : Wires) (p : ℕ) → wholeWires w ≡ true → wholeWires (remarked on w p) ≡ true
+whole-remarked on w p e = and-true (and-left (eqb (length (w .level)) 6) _ e) refl
 
 pub whole-platform : (w : Wires) → wholeWires (platformWires w) ≡ wholeWires w
 whole-platform w = simp length-set

@@ -2,20 +2,21 @@
 use Prim.Native.Nat.{ℕ, _-_, _<_, _≤_}
 use mathlib.Core.Bool.{Bool, true, false, _&&_, _||_}
 use mathlib.Core.List.{List, [], _∷_, _++_}
-use mathlib.Core.Path.{_≡_, refl}
+use mathlib.Core.Path.{_≡_, refl, ap, _∙_}
 use native.Mathlib.Omega.{arith}
 use lib.Bits.{bitAnd}
 use lib.Dec.{eqb, leb}
 use lib.ListN.{getD, length}
 use borrow.Author.Tests.{ltb-true}
 use Rattle.base.specs.Pick.{and-right}
-use Rattle.base.specs.Bytes.{bit, bit-below}
-use Rattle.base.specs.Numbers.{past}
+use Rattle.base.specs.Bytes.{bit, bit-below, low4, low8, number4, number8}
+use Rattle.base.specs.Numbers.{past, low4-number4, low8-number8}
 use Rattle.base.specs.AllBytes.{AllBytes, all-none, all-cons}
 use Rattle.wires.specs.Table.{rowAt}
 use Rattle.wires.specs.Groups.{levelAt, markAt, inRow, onlyDefined, soundWires}
 use Rattle.wires.specs.Kept.{sound-view}
 use Rattle.wires.specs.declared.Wires.{Wires}
+use Rattle.wires.specs.declared.Words.{Words}
 
 -- 64 to 69: levels of groups 2 to 7; 70 to 75: their pending marks; 76: the going-round place
 abbrev pub wiresBytes : Wires → List ℕ
@@ -31,6 +32,21 @@ wiresIn l =
       pending = eqb (getD l 70 0) 1 ∷ eqb (getD l 71 0) 1 ∷ eqb (getD l 72 0) 1 ∷ eqb (getD l 73 0) 1 ∷ eqb (getD l 74 0) 1 ∷ eqb (getD l 75 0) 1 ∷ [];
       place = getD l 76 0;
     }
+
+-- the same bytes as three numbers, and the wires of these: eight bytes, four, and the place
+abbrev pub wordsIn : List ℕ → Words
+wordsIn l = record { low = number8 64 l; high = number4 72 l; place = getD l 76 0 }
+
+abbrev fromBytes : List ℕ → List ℕ → ℕ → Wires
+fromBytes a b place =
+    record {
+      level = getD a 0 0 ∷ getD a 1 0 ∷ getD a 2 0 ∷ getD a 3 0 ∷ getD a 4 0 ∷ getD a 5 0 ∷ [];
+      pending = eqb (getD a 6 0) 1 ∷ eqb (getD a 7 0) 1 ∷ eqb (getD b 0 0) 1 ∷ eqb (getD b 1 0) 1 ∷ eqb (getD b 2 0) 1 ∷ eqb (getD b 3 0) 1 ∷ [];
+      place = place;
+    }
+
+abbrev pub wiresOf : Words → Wires
+wiresOf w = fromBytes (low8 (w .low)) (low4 (w .high)) (w .place)
 
 -- the canonical form, by the bytes as they stand: a mark is 0 or 1
 abbrev pub tidyWires : List ℕ → Bool
@@ -55,6 +71,11 @@ abbrev pub marksIn : Bool → List ℕ → Bool
 marksIn on l = marksFit on (getD l 6 0) (getD l 7 0) (getD l 8 0) (getD l 9 0) (getD l 10 0) (getD l 11 0)
 
 -- ---- laws
+
+pub words-back : (l : List ℕ) → ((k : ℕ) → getD l k 0 < 256) → wiresOf (wordsIn l) ≡ wiresIn l
+words-back l byte =
+    ap (λ (a : List ℕ). fromBytes a (low4 (number4 72 l)) (getD l 76 0)) (low8-number8 l byte 64)
+    ∙ ap (λ (b : List ℕ). fromBytes (getD l 64 0 ∷ getD l 65 0 ∷ getD l 66 0 ∷ getD l 67 0 ∷ getD l 68 0 ∷ getD l 69 0 ∷ getD l 70 0 ∷ getD l 71 0 ∷ []) b (getD l 76 0)) (low4-number4 l byte 72)
 
 mark-back : (b : Bool) → eqb (bit b) 1 ≡ b
 mark-back true = refl

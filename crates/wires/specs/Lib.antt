@@ -1,3 +1,4 @@
+pub mod Below
 pub mod Table
 pub mod Turn
 pub mod Groups

@@ -7,30 +7,10 @@ use native.Mathlib.Nat.{mod-lt, mod-eq-of-lt}
 use lib.Bits.{bitAnd, bitOr, and-shr, or-shr, and-mod, or-mod, and-le-r, and-zero-l, and-zero-r, or-lt}
 use lib.Pow.{pow-lt, shl-shr}
 use lib.Dec.{eqb, ltb}
-use borrow.Author.Tests.{eqb-true, eqb-false, ltb-true, eq-eqb, lt-ltb}
+use borrow.Author.Tests.{eqb-true, ltb-true, eq-eqb, lt-ltb}
 use Rattle.base.specs.Pick.{pick, and-left, and-right, and-true}
+use Rattle.wires.specs.Below.{every, at-every, every-at, at-both}
 use Rattle.wires.specs.Groups.{nibble}
-
--- ---- a test at each number below n
-
-abbrev allUnder : ℕ → (ℕ → Bool) → Bool
-allUnder zero f = true
-allUnder (suc n) f = f n && allUnder n f
-
-under : (n : ℕ) (f : ℕ → Bool) → allUnder n f ≡ true → (k : ℕ) → k < n → f k ≡ true
-under zero f e k h = absurd (omega arith)
-under (suc n) f e k h = go (eqb k n) refl (under n f (and-right (f n) _ e) k)
-  where
-    go : (b : Bool) → eqb k n ≡ b → (k < n → f k ≡ true) → f k ≡ true
-    go true q below = ap f (eqb-true k n q) ∙ and-left (f n) _ e
-    go false q below = below (omega (arith, eqb-false k n q))
-
-under-both : (m n : ℕ) (f : ℕ → ℕ → Bool) → allUnder m (λ (a : ℕ). allUnder n (f a)) ≡ true → (a b : ℕ) → a < m → b < n → f a b ≡ true
-under-both m n f e a b ha hb = under n (f a) (under m (λ (x : ℕ). allUnder n (f x)) e a ha) b hb
-
-all-under : (n : ℕ) (f : ℕ → Bool) → ((k : ℕ) → k < n → f k ≡ true) → allUnder n f ≡ true
-all-under zero f h = refl
-all-under (suc n) f h = and-true (h n (omega arith)) (all-under n f (λ k l. h k (omega arith)))
 
 -- ---- bits
 
@@ -56,20 +36,20 @@ or-bit : (a b k : ℕ) → bitOf (bitOr a b) k ≡ bitOr (bitOf a k) (bitOf b k)
 or-bit a b k = ap (λ (x : ℕ). x % 2) (or-shr a b k) ∙ or-mod (a / 2 ^ k) (b / 2 ^ k) 1
 
 not-bit : (m k : ℕ) → m < 16 → k < 4 → bitOf (15 - m) k ≡ 1 - bitOf m k
-not-bit m k hm hk = eqb-true _ _ (under-both 16 4 (λ (x j : ℕ). eqb (bitOf (15 - x) j) (1 - bitOf x j)) refl m k hm hk)
+not-bit m k hm hk = eqb-true _ _ (at-both 16 4 (λ (x j : ℕ). eqb (bitOf (15 - x) j) (1 - bitOf x j)) refl m k hm hk)
 
 -- four bits say the number
 pub same-bits : (x y : ℕ) → x < 16 → y < 16 → ((k : ℕ) → k < 4 → bitOf x k ≡ bitOf y k) → x ≡ y
 same-bits x y hx hy z =
-    let e = under-both 16 16 (λ (a b : ℕ). pick (allUnder 4 (λ (j : ℕ). eqb (bitOf a j) (bitOf b j))) (eqb a b) true) refl x y hx hy in
-    let a = all-under 4 (λ (j : ℕ). eqb (bitOf x j) (bitOf y j)) (λ k l. eq-eqb _ _ (z k l)) in
+    let e = at-both 16 16 (λ (a b : ℕ). pick (every 4 (λ (j : ℕ). eqb (bitOf a j) (bitOf b j))) (eqb a b) true) refl x y hx hy in
+    let a = every-at 4 (λ (j : ℕ). eqb (bitOf x j) (bitOf y j)) (λ k l. eq-eqb _ _ (z k l)) in
     eqb-true x y (subst (λ (t : Bool). pick t (eqb x y) true ≡ true) a e)
 
 zero-bit : (k : ℕ) → k < 4 → bitOf 0 k ≡ 0
-zero-bit k h = eqb-true _ _ (under 4 (λ (j : ℕ). eqb (bitOf 0 j) 0) refl k h)
+zero-bit k h = eqb-true _ _ (at-every 4 (λ (j : ℕ). eqb (bitOf 0 j) 0) refl k h)
 
 pub one-bit : (b k : ℕ) → b < 4 → k < 4 → bitOf (2 ^ b) k ≡ pick (eqb k b) 1 0
-one-bit b k hb hk = eqb-true _ _ (under-both 4 4 (λ (x j : ℕ). eqb (bitOf (2 ^ x) j) (pick (eqb j x) 1 0)) refl b k hb hk)
+one-bit b k hb hk = eqb-true _ _ (at-both 4 4 (λ (x j : ℕ). eqb (bitOf (2 ^ x) j) (pick (eqb j x) 1 0)) refl b k hb hk)
 
 -- ---- a nibble: the bits of val where the mask has ones, those of old elsewhere
 

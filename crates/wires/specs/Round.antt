@@ -1,5 +1,5 @@
--- P21's half that knows no wires: any number of senders, each with a size, and any capacity that fits every one of them. A sender that
--- waits is taken by the next packet, or that packet leaves the place nearer to it; and each is fewer than n steps from each place.
+-- P21 over any machine whose packets go round: any number of senders, each with a size, and any capacity that fits every one of them. A sender
+-- that waits is taken by the next packet, or that packet leaves the place nearer to it; and each is fewer than n steps from each place.
 use Prim.Native.Nat.{ℕ, zero, suc, _+_, _-_, _≤_, _<_}
 use mathlib.Core.Bool.{Bool, true, false}
 use mathlib.Core.List.{List, [], _∷_, List·Memᴰ, List·Memᴰ·head, List·Memᴰ·tail, List·Memᴰ·not-nil, List·Memᴰ·cases-cons}
@@ -8,9 +8,10 @@ use mathlib.Core.Path.{_≡_, refl, ap, _∙_}
 use native.Mathlib.Nat.{zero-add}
 use native.Mathlib.Omega.{arith}
 use lib.Dec.{eqb, ltb, leb}
-use borrow.Author.Tests.{ltb-true, leb-true, leb-false, le-leb, lt-ltb, le-ltb, eqb-true, eqb-false}
+use borrow.Author.Tests.{ltb-true, leb-true, leb-false, le-leb, lt-leb, lt-ltb, le-ltb, eqb-true, eqb-false}
 use Rattle.base.specs.Pick.{pick, pick-ind}
-use Rattle.wires.specs.Turn.{turn, after, placeAfter}
+use Rattle.base.specs.Bytes.{bit}
+use Rattle.wires.specs.Turn.{turn, after, placeAfter, sizes}
 
 clash : {X : Type 0} → _≡_ {A = ℕ} 0 1 → X
 clash e = absurd (omega arith)
@@ -20,6 +21,10 @@ clash e = absurd (omega arith)
 pub data AllBelow (n : ℕ) : List ℕ → Type 0 where
   none : AllBelow n []
   more : {i : ℕ} {is : List ℕ} → i < n → AllBelow n is → AllBelow n (i ∷ is)
+
+pub below-each : {n : ℕ} {is : List ℕ} → AllBelow n is → (i : ℕ) → List·Memᴰ i is → i < n
+below-each none i m = absurd (List·Memᴰ·not-nil m)
+below-each {n} (more h hs) i m = ⊎-elim (λ e. rw e h) (below-each hs i) (List·Memᴰ·cases-cons m)
 
 pub after-below : (n i : ℕ) → i < n → after n i < n
 unfolding after
@@ -38,6 +43,49 @@ unfolding placeAfter
 place-below n p h none = h
 place-below n p h (more {i = i} k ks) = place-below n (after n i) (after-below n i k) ks
 
+-- ---- how much a packet holds
+
+-- no more than its capacity
+pub turn-fits : (size : ℕ → ℕ) (waits : ℕ → Bool) (n left capacity i : ℕ) → sizes size (turn size waits n left capacity i) ≤ capacity
+unfolding turn sizes
+turn-fits size waits n zero capacity i = omega arith
+turn-fits size waits n (suc left) capacity i =
+    let Q : List ℕ → Type 0 = λ is. sizes size is ≤ capacity in
+    pick-ind Q (waits i)
+    (λ _. pick-ind Q (leb (size i) capacity) (λ e. omega (arith, leb-true (size i) capacity e, turn-fits size waits n left (capacity - size i) (after n i))) (λ _. omega arith))
+    (λ _. turn-fits size waits n left capacity (after n i))
+
+-- a packet of just that much takes the same senders
+pub turn-again : (size : ℕ → ℕ) (waits : ℕ → Bool) (n left capacity i : ℕ) → ((k : ℕ) → 1 ≤ size k)
+    → turn size waits n left (sizes size (turn size waits n left capacity i)) i ≡ turn size waits n left capacity i
+unfolding turn sizes
+turn-again size waits n zero capacity i h = refl
+turn-again size waits n (suc left) capacity i h = go (waits i) (leb (size i) capacity) (λ c. turn-again size waits n left c (after n i) h)
+  where
+    t : ℕ → List ℕ
+    t c = turn size waits n left c (after n i)
+
+    go : (a b : Bool) → ((c : ℕ) → t (sizes size (t c)) ≡ t c)
+        → let xs = pick a (pick b (i ∷ t (capacity - size i)) []) (t capacity) in
+        pick a (pick (leb (size i) (sizes size xs)) (i ∷ t (sizes size xs - size i)) []) (t (sizes size xs)) ≡ xs
+    go false b f = f capacity
+    go true false f = ap (λ (b : Bool). pick b (i ∷ t (0 - size i)) []) (lt-leb (size i) 0 (h i))
+    go true true f =
+        let ys = t (capacity - size i) in
+        let e : size i + sizes size ys - size i ≡ sizes size ys = omega arith in
+        ap (λ (b : Bool). pick b (i ∷ t (size i + sizes size ys - size i)) []) (le-leb (size i) (size i + sizes size ys) (omega arith))
+        ∙ ap (λ (c : ℕ). i ∷ t c) e
+        ∙ ap (λ (is : List ℕ). i ∷ is) (f (capacity - size i))
+
+-- a full packet takes none
+pub turn-full : (size : ℕ → ℕ) (waits : ℕ → Bool) (n left i : ℕ) → ((k : ℕ) → 1 ≤ size k) → turn size waits n left 0 i ≡ []
+unfolding turn
+turn-full size waits n zero i h = refl
+turn-full size waits n (suc left) i h =
+    pick-ind (λ (is : List ℕ). is ≡ []) (waits i)
+    (λ _. ap (λ (b : Bool). pick b (i ∷ turn size waits n left (0 - size i) (after n i)) []) (lt-leb (size i) 0 (h i)))
+    (λ _. turn-full size waits n left (after n i) h)
+
 -- ---- steps round
 
 -- j steps on from i
@@ -45,12 +93,12 @@ unfoldable pub steps : ℕ → ℕ → ℕ → ℕ
 steps n zero i = i
 steps n (suc j) i = steps n j (after n i)
 
-steps-up : (n j i : ℕ) → i + j < n → steps n j i ≡ i + j
+pub steps-up : (n j i : ℕ) → i + j < n → steps n j i ≡ i + j
 unfolding steps after
 steps-up n zero i h = omega arith
 steps-up n (suc j) i h = ap (λ (b : Bool). steps n j (pick b (suc i) 0)) (lt-ltb (suc i) n (omega arith)) ∙ steps-up n j (suc i) (omega arith) ∙ omega arith
 
-steps-add : (n a b i : ℕ) → steps n (a + b) i ≡ steps n b (steps n a i)
+pub steps-add : (n a b i : ℕ) → steps n (a + b) i ≡ steps n b (steps n a i)
 unfolding steps
 steps-add n zero b i = ap (λ (k : ℕ). steps n k i) (zero-add b)
 steps-add n (suc a) b i =
@@ -58,7 +106,7 @@ steps-add n (suc a) b i =
     ap (λ (k : ℕ). steps n k i) e ∙ steps-add n a b (after n i)
 
 -- round to the first sender
-steps-round : (n i : ℕ) → i < n → steps n (n - i) i ≡ 0
+pub steps-round : (n i : ℕ) → i < n → steps n (n - i) i ≡ 0
 unfolding steps after
 steps-round n i h =
     let j = n - i - 1 in
@@ -127,7 +175,7 @@ module _ (size : ℕ → ℕ) (waits : ℕ → Bool) (n : ℕ) where
       (λ _. some-taken left capacity (after n i) j f (after-below n i h) (omega arith) e)
 
 -- the packet takes g, or it does not and leaves a place that is nearer to it
-pub data Next (n g j p : ℕ) (xs : List ℕ) : Type 0 where
+data Next (n g j p : ℕ) (xs : List ℕ) : Type 0 where
   takes : List·Memᴰ g xs → Next n g j p xs
   nears : (List·Memᴰ g xs → ⊥) → (k : ℕ) → k < j → steps n k (placeAfter n p xs) ≡ g → Next n g j p xs
 
@@ -141,7 +189,7 @@ member g (x ∷ xs) = go (eqb g x) refl (member g xs)
     go false e (inr m) = inr (λ h. ⊎-elim (eqb-false g x e) m (List·Memᴰ·cases-cons h))
 
 -- a sender that waits, j steps from the place
-pub turn-nears : (size : ℕ → ℕ) (waits : ℕ → Bool) (n capacity p g j : ℕ) → ((i : ℕ) → i < n → size i ≤ capacity)
+turn-nears : (size : ℕ → ℕ) (waits : ℕ → Bool) (n capacity p g j : ℕ) → ((i : ℕ) → i < n → size i ≤ capacity)
     → p < n → j < n → steps n j p ≡ g → waits g ≡ true → Next n g j p (turn size waits n n capacity p)
 turn-nears size waits n capacity p g j f hp hj t e =
     go (rw t at (sweeps size waits n n capacity p j hj (rw t e))) (member g (turn size waits n n capacity p))
@@ -153,3 +201,71 @@ turn-nears size waits n capacity p g j f hp hj t e =
     go (hit h) (inr m) = takes h
     go (nearer k l h) (inr m) = nears m k l (h p)
     go (closed c) (inr m) = absurd (some-taken size waits n n capacity p j f hp hj (rw t e) c)
+
+-- ---- a machine whose packets go round
+
+-- a call may send a packet: of those that wait, each of its size, from the place on, as many as its capacity holds
+pub record Machine (S C : Type 0) : Type 0 where
+  pub next : S → C → S
+  pub packs : S → C → Bool
+  pub size : S → ℕ → ℕ
+  pub waits : S → ℕ → Bool
+  pub capacity : S → ℕ
+  pub place : S → ℕ
+
+module _ {S C : Type 0} (m : Machine S C) (n : ℕ) where
+  abbrev pub packet : S → List ℕ
+  packet s = turn (m .size s) (m .waits s) n n (m .capacity s) (m .place s)
+
+  -- the packets of a run
+  unfoldable pub packets : S → List C → ℕ
+  packets s [] = 0
+  packets s (c ∷ cs) = bit (m .packs s c) + packets (m .next s c) cs
+
+  -- what a call may do while g waits: without a packet it leaves the place, and g waiting; a packet has room for any one, and moves the place on
+  pub data Moves (g : ℕ) (s : S) (c : C) : Type 0 where
+    stays : m .packs s c ≡ false → m .place (m .next s c) ≡ m .place s → m .waits (m .next s c) g ≡ true → Moves g s c
+    sends : m .packs s c ≡ true → ((i : ℕ) → i < n → m .size s i ≤ m .capacity s) → m .place (m .next s c) ≡ placeAfter n (m .place s) (packet s)
+        → ((List·Memᴰ g (packet s) → ⊥) → m .waits (m .next s c) g ≡ true) → Moves g s c
+
+  pub data AllMove (g : ℕ) : S → List C → Type 0 where
+    over : {s : S} → AllMove g s []
+    on : {s : S} {c : C} {cs : List C} → (m .waits s g ≡ true → Moves g s c) → AllMove g (m .next s c) cs → AllMove g s (c ∷ cs)
+
+  -- g is in one of the first k packets of the run
+  pub data SentWithin (g : ℕ) : ℕ → S → List C → Type 0 where
+    here : {k : ℕ} {s : S} {c : C} {cs : List C} → m .packs s c ≡ true → List·Memᴰ g (packet s) → SentWithin g (suc k) s (c ∷ cs)
+    later : {k : ℕ} {s : S} {c : C} {cs : List C} (i : ℕ) → bit (m .packs s c) + i ≤ k → SentWithin g i (m .next s c) cs → SentWithin g k s (c ∷ cs)
+
+  module _ (g : ℕ) where
+    abbrev Later : ℕ → S → List C → Type 0
+    Later k s cs = m .place s < n → steps n k (m .place s) ≡ g → m .waits s g ≡ true → k < packets s cs → SentWithin g (suc k) s cs
+
+    within : (cs : List C) (s : S) (j : ℕ) → j < n → m .place s < n → steps n j (m .place s) ≡ g → m .waits s g ≡ true → AllMove g s cs → j < packets s cs
+        → SentWithin g (suc j) s cs
+    unfolding packets
+    within [] s j hj hp t e a l = absurd (omega arith)
+    within (c ∷ cs) s j hj hp t e (on f a) l = go (f e) (λ k b p q w x. within cs (m .next s c) k b p q w a x)
+      where
+        sent : m .packs s c ≡ true → m .place (m .next s c) ≡ placeAfter n (m .place s) (packet s)
+            → ((List·Memᴰ g (packet s) → ⊥) → m .waits (m .next s c) g ≡ true) → Next n g j (m .place s) (packet s) → ((k : ℕ) → k < n → Later k (m .next s c) cs) → SentWithin g (suc j) s (c ∷ cs)
+        sent p q w (takes h) rest = here p h
+        sent p q w (nears h k b u) rest =
+            let o = ap bit p in
+            let v : m .place (m .next s c) < n = rw q (place-below n (m .place s) hp (turn-below (m .size s) (m .waits s) n n (m .capacity s) (m .place s) hp)) in
+            later {k = suc j} {s = s} {c = c} (suc k) (omega arith) (rest k (omega arith) v (ap (steps n k) q ∙ u) (w h) (omega arith))
+
+        go : Moves g s c → ((k : ℕ) → k < n → Later k (m .next s c) cs) → SentWithin g (suc j) s (c ∷ cs)
+        go (stays p q w) rest = let o = ap bit p in later {k = suc j} {s = s} {c = c} (suc j) (omega arith) (rest j hj (rw q hp) (ap (steps n j) q ∙ t) w (omega arith))
+        go (sends p fit q w) rest = sent p q w (turn-nears (m .size s) (m .waits s) n (m .capacity s) (m .place s) g j fit hp hj t e) rest
+
+    sooner : {k l : ℕ} {s : S} {cs : List C} → k ≤ l → SentWithin g k s cs → SentWithin g l s cs
+    sooner {l = zero} h (here p q) = absurd (omega arith)
+    sooner {l = suc l} h (here p q) = here p q
+    sooner {l = l} h (later {s = s} {c = c} i b t) = later {k = l} {s = s} {c = c} i (omega arith) t
+
+    -- the bound: a sender that waits is in one of the first n packets
+    pub sent-within : (cs : List C) (s : S) → m .place s < n → g < n → m .waits s g ≡ true → AllMove g s cs → n ≤ packets s cs → SentWithin g n s cs
+    sent-within cs s hp hg e a l =
+        let r = reached n (m .place s) g hp hg in
+        sooner (r .1) (within cs s (r .0) (r .1) hp (r .2) e a (omega (arith, r .1)))

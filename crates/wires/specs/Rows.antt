@@ -1,76 +1,139 @@
--- P18: the six rows of the wire table, by one computed test, and what the tests on an index, a bit and a value say.
+-- P18: the six rows of the wire table and the senders among them, by computed tests, and what the tests on an index, a bit and a value say.
 use Prim.Native.Nat.{ℕ, zero, suc, _+_, _-_, _*_, _/_, _%_, _^_, _≤_, _<_}
-use mathlib.Core.Bool.{Bool, true, false, _&&_, not}
+use mathlib.Core.Bool.{Bool, true, false, _&&_, _||_, not}
 use mathlib.Core.List.{List, [], _∷_}
-use mathlib.Core.Path.{_≡_, refl, sym, _∙_}
+use mathlib.Core.Path.{_≡_, refl, sym, subst, _∙_}
 use native.Mathlib.Omega.{arith}
-use native.Mathlib.Nat.{add-zero, add-suc, suc-add, zero-add, one-mul}
+use native.Mathlib.Nat.{one-mul}
 use lib.Bits.{bitAnd}
 use lib.Pow.{shl-exact}
 use lib.Dec.{eqb, ltb, leb}
 use lib.ListN.{getD, length}
-use borrow.Author.Tests.{leb-true, ltb-true, eqb-true, not-true}
+use borrow.Author.Tests.{leb-true, ltb-true, eqb-true, le-leb, not-true}
 use Rattle.base.specs.Pick.{pick, and-left, and-right}
-use Rattle.wires.specs.Table.{table, noRow, rowAt, isGroup}
-use Rattle.wires.specs.Groups.{definedBit, settable}
-use Rattle.wires.specs.declared.WireRow.{WireRow}
+use Rattle.base.specs.Bytes.{bit}
+use Rattle.wires.specs.Below.{every, some, at-every}
+use Rattle.wires.specs.Table.{table, rowAt, isGroup, upsBefore, senders, groupAt, senderOf, isUp}
+use Rattle.wires.specs.Turn.{after}
+use Rattle.wires.specs.Groups.{definedBit, settable, firstPlace, waiting, anyPending, groupAfter, upOr}
+use Rattle.wires.specs.declared.Wires.{Wires}
 
 -- ---- the rows
 
--- the test f passes at each element and its place, counted from i
-abbrev pub everyAt : {A : Type 0} → (ℕ → A → Bool) → ℕ → List A → Bool
-everyAt f i [] = true
-everyAt f i (x ∷ xs) = f i x && everyAt f (suc i) xs
-
-at-each : {A : Type 0} (f : ℕ → A → Bool) (d : A) (xs : List A) (i : ℕ) → everyAt f i xs ≡ true → (k : ℕ) → k < length xs → f (i + k) (getD xs k d) ≡ true
-at-each f d [] i e k h = absurd (omega arith)
-at-each f d (x ∷ xs) i e zero h = rw (add-zero i) (and-left (f i x) _ e)
-at-each f d (x ∷ xs) i e (suc k) h = rw (add-suc i k, ← suc-add i k) (at-each f d xs (suc i) (and-right (f i x) _ e) k (omega arith))
-
--- groups 4, 5 and 6
-abbrev pub isUp : ℕ → Bool
-isUp i = leb 4 i && leb i 6
-
 -- what is right of the row at place k
-abbrev pub rightRow : ℕ → WireRow → Bool
-rightRow k r =
-    eqb (r .index) (k + 2)
-    && (pick (r .down) (not (isUp (r .index))) (isUp (r .index))
-    && (eqb (bitAnd (r .reset) (r .defined)) (r .reset)
-    && (ltb (r .defined) 16 && ltb (r .reset) 16)))
+abbrev pub rightRow : ℕ → Bool
+rightRow k =
+    eqb (rowAt k .index) (k + 2)
+    && (eqb (bitAnd (rowAt k .reset) (rowAt k .defined)) (rowAt k .reset) && (ltb (rowAt k .defined) 16 && ltb (rowAt k .reset) 16))
 
-pub record RightRow (k : ℕ) (r : WireRow) : Type 0 where
-  pub index-is : r .index ≡ k + 2
-  pub down-is : r .down ≡ not (isUp (r .index))
-  pub reset-in : bitAnd (r .reset) (r .defined) ≡ r .reset
-  pub defined-small : r .defined < 16
-  pub reset-small : r .reset < 16
+pub record RightRow (k : ℕ) : Type 0 where
+  pub index-is : rowAt k .index ≡ k + 2
+  pub reset-in : bitAnd (rowAt k .reset) (rowAt k .defined) ≡ rowAt k .reset
+  pub defined-small : rowAt k .defined < 16
+  pub reset-small : rowAt k .reset < 16
 
-denied : (a b : Bool) → pick a (not b) b ≡ true → a ≡ not b
-denied true true e = sym e
-denied true false e = refl
-denied false true e = refl
-denied false false e = e
-
-right-row : (k : ℕ) (r : WireRow) → rightRow k r ≡ true → RightRow k r
-right-row k r e =
+right-row : (k : ℕ) → rightRow k ≡ true → RightRow k
+right-row k e =
+    let r = rowAt k in
     let e₁ = and-right (eqb (r .index) (k + 2)) _ e in
-    let e₂ = and-right (pick (r .down) (not (isUp (r .index))) (isUp (r .index))) _ e₁ in
-    let e₃ = and-right (eqb (bitAnd (r .reset) (r .defined)) (r .reset)) _ e₂ in
+    let e₂ = and-right (eqb (bitAnd (r .reset) (r .defined)) (r .reset)) _ e₁ in
     record {
       index-is = eqb-true _ _ (and-left (eqb (r .index) (k + 2)) _ e);
-      down-is = denied (r .down) (isUp (r .index)) (and-left _ _ e₁);
-      reset-in = eqb-true _ _ (and-left (eqb (bitAnd (r .reset) (r .defined)) (r .reset)) _ e₂);
-      defined-small = ltb-true _ _ (and-left (ltb (r .defined) 16) _ e₃);
-      reset-small = ltb-true _ _ (and-right (ltb (r .defined) 16) _ e₃);
+      reset-in = eqb-true _ _ (and-left (eqb (bitAnd (r .reset) (r .defined)) (r .reset)) _ e₁);
+      defined-small = ltb-true _ _ (and-left (ltb (r .defined) 16) _ e₂);
+      reset-small = ltb-true _ _ (and-right (ltb (r .defined) 16) _ e₂);
     }
 
-all-right : everyAt rightRow 0 table ≡ true
-all-right = refl
+-- each row: its index is its place and 2, its reset value lies in its defined bits, which are four at most
+pub row-right : (k : ℕ) → k < 6 → RightRow k
+row-right k h = right-row k (at-every (length table) rightRow refl k h)
 
--- each row: its index is its place and 2, the up rows are 4, 5 and 6, its reset value lies in its defined bits, which are four at most
-pub row-right : (k : ℕ) → k < 6 → RightRow k (rowAt k)
-row-right k h = right-row k (rowAt k) (rw zero-add at (at-each rightRow noRow table 0 all-right k h))
+-- ---- the senders are the groups 4 to 6, in that order, and going round begins with the first of them
+
+abbrev pub rightGroup : ℕ → Bool
+rightGroup i = ltb (senderOf i) senders && (eqb (groupAt (senderOf i)) i && (leb 4 i && leb i 6))
+
+pub record UpGroup (i : ℕ) : Type 0 where
+  pub below : senderOf i < senders
+  pub back : groupAt (senderOf i) ≡ i
+  pub from : 4 ≤ i
+  pub upto : i ≤ 6
+
+-- a test that holds wherever another does, of the numbers below n
+where-holds : (n : ℕ) (f g : ℕ → Bool) → every n (λ (k : ℕ). pick (f k) (g k) true) ≡ true → (k : ℕ) → k < n → f k ≡ true → g k ≡ true
+where-holds n f g e k h t = subst (λ (b : Bool). pick b (g k) true ≡ true) t (at-every n (λ (j : ℕ). pick (f j) (g j) true) e k h)
+
+pub up-group : (i : ℕ) → isUp i ≡ true → UpGroup i
+up-group i u =
+    let l = leb-true i 7 (and-right (leb 2 i) _ (and-left (isGroup i) _ u)) in
+    let e = where-holds 8 isUp rightGroup refl i (omega arith) u in
+    let e₁ = and-right (ltb (senderOf i) senders) _ e in
+    let e₂ = and-right (eqb (groupAt (senderOf i)) i) _ e₁ in
+    record {
+      below = ltb-true _ _ (and-left (ltb (senderOf i) senders) _ e);
+      back = eqb-true _ _ (and-left (eqb (groupAt (senderOf i)) i) _ e₁);
+      from = leb-true 4 i (and-left (leb 4 i) _ e₂);
+      upto = leb-true i 6 (and-right (leb 4 i) _ e₂);
+    }
+
+-- the going-round place is an up group
+pub place-group : (p : ℕ) → 4 ≤ p → p ≤ 6 → isUp p ≡ true
+place-group p h l = where-holds 7 (leb 4) isUp refl p (omega arith) (le-leb 4 p h)
+
+pub place-up : (p : ℕ) → 4 ≤ p → p ≤ 6 → UpGroup p
+place-up p h l = up-group p (place-group p h l)
+
+pub first-sender : groupAt 0 ≡ firstPlace
+first-sender = refl
+
+pub record Sender (k : ℕ) : Type 0 where
+  pub up : isUp (groupAt k) ≡ true
+  pub own : senderOf (groupAt k) ≡ k
+
+pub sender : (k : ℕ) → k < senders → Sender k
+sender k h =
+    let e = at-every senders (λ (j : ℕ). isUp (groupAt j) && eqb (senderOf (groupAt j)) j) refl k h in
+    record { up = and-left (isUp (groupAt k)) _ e; own = eqb-true _ _ (and-right (isUp (groupAt k)) _ e) }
+
+-- a sender's group lies in the table
+pub sender-group : (k : ℕ) → k < senders → UpGroup (groupAt k)
+sender-group k h = up-group (groupAt k) (sender k h .up)
+
+-- ---- reading the senders off the table, row by row
+
+pub ups-next : (i : ℕ) → i < 6 → upsBefore (i + 1) ≡ upsBefore i + bit (not (rowAt i .down))
+ups-next i h = eqb-true _ _ (at-every (length table) (λ (k : ℕ). eqb (upsBefore (k + 1)) (upsBefore k + bit (not (rowAt k .down)))) refl i h)
+
+or-none : (b : Bool) → b ≡ (b || false)
+or-none true = refl
+or-none false = refl
+
+-- those that wait, row by row
+pub some-next : (w : Wires) (i : ℕ) → i < 6
+    → some (upsBefore (i + 1)) (waiting w) ≡ (some (upsBefore i) (waiting w) || (not (rowAt i .down) && getD (w .pending) i false))
+some-next w zero h = refl
+some-next w (suc zero) h = refl
+some-next w (suc (suc zero)) h = refl
+some-next w (suc (suc (suc zero))) h = refl
+some-next w (suc (suc (suc (suc zero)))) h = refl
+some-next w (suc (suc (suc (suc (suc zero))))) h = or-none (anyPending w)
+some-next w (suc (suc (suc (suc (suc (suc i)))))) h = absurd (omega arith)
+
+-- the group that comes after each row, from the last row back
+abbrev pub afterRows : List ℕ
+afterRows =
+    let e = upOr 5 firstPlace in
+    let d = upOr 4 e in
+    let c = upOr 3 d in
+    let b = upOr 2 c in
+    upOr 1 b ∷ b ∷ c ∷ d ∷ e ∷ firstPlace ∷ []
+
+pub rows-back : {a b c d e : ℕ} → a ≡ upOr 1 b → b ≡ upOr 2 c → c ≡ upOr 3 d → d ≡ upOr 4 e → e ≡ upOr 5 firstPlace → a ∷ b ∷ c ∷ d ∷ e ∷ firstPlace ∷ [] ≡ afterRows
+rows-back p q r s t = rw (p, q, r, s, t)
+
+pub after-rows : (i : ℕ) → isUp i ≡ true → getD afterRows (i - 2) 0 ≡ groupAfter i
+unfolding after
+after-rows i u = eqb-true _ _ (where-holds 8 isUp (λ (k : ℕ). eqb (getD afterRows (k - 2) 0) (groupAfter k)) refl i (omega (arith, up-group i u .upto)) u)
 
 -- ---- the tests on an index, a bit and a value
 

@@ -1,169 +1,181 @@
--- How the code goes round, the three senders one after the other; and that this is the turn.
-use Prim.Native.Nat.{ℕ, zero, suc, _+_, _-_, _≤_, _<_}
-use mathlib.Core.Bool.{Bool, true, false}
-use mathlib.Core.List.{List, [], _∷_, _++_, append-nil, append-assoc}
+-- How the code goes round, asking sender by sender; and that this is the turn.
+use Prim.Native.Nat.{ℕ, suc, _+_, _-_, _≤_, _<_}
+use mathlib.Core.Bool.{Bool, true, false, _&&_, true≢false}
+use mathlib.Core.List.{List, [], _∷_, _++_}
 use mathlib.Core.Path.{_≡_, refl, sym, ap, _∙_}
 use native.Mathlib.Omega.{arith}
 use lib.Dec.{leb}
-use lib.ListN.{length, getD, length-append}
-use borrow.Author.Tests.{leb-false}
-use Rattle.base.specs.Pick.{pick, pick-ind}
-use Rattle.wires.specs.Turn.{turn, after, placeAfter}
-use Rattle.wires.specs.Groups.{levelAt, withGroup, waiting, senders, senderSize, sent, groupOf, packetOf, unmarked, placed, afterSent}
+use lib.ListN.{getD}
+use borrow.Author.Tests.{leb-true}
+use Rattle.base.specs.Pick.{pick}
+use Rattle.wires.specs.Turn.{turn, after, sizes}
+use Rattle.wires.specs.Round.{after-below, turn-full}
+use Rattle.wires.specs.Table.{senders, senderOf, isUp}
+use Rattle.wires.specs.Rows.{Sender, sender, up-group}
+use Rattle.wires.specs.Groups.{levelAt, markAt, waiting, senderSize, sentFrom, sent, packetOf, withGroup, groupAfter, afterSent}
 use Rattle.wires.specs.declared.Wires.{Wires}
-use Rattle.wires.specs.declared.Group.{Group}
-use Rattle.wires.specs.declared.Asking.{Asking}
+use Rattle.wires.specs.declared.Going.{Going}
 use Rattle.wires.specs.declared.Sending.{Sending}
 use Rattle.wires.specs.declared.Packet.{Packet}
-use Rattle.wires.specs.declared.Packet.the-variants.{Nothing, One, Two, Three}
 
 -- what a GET_VWIRE sends, and the wires after it
 abbrev pub sending : Wires → ℕ → Sending
 sending w capacity = record { packet = packetOf w (sent w capacity); next = afterSent w (sent w capacity) }
 
--- what sending asks of the wires: soundness gives it
-pub record Sendable (w : Wires) : Type 0 where
-  pub from : 4 ≤ w .place
-  pub upto : w .place ≤ 6
-  pub small : (k : ℕ) → k < 3 → levelAt w (k + 4) < 16
+-- what a packet's bytes ask: soundness gives it
+pub record PacketFits (w : Wires) (p : Packet) : Type 0 where
+  pub from : 4 ≤ p .place
+  pub upto : p .place ≤ 6
+  pub some : 1 ≤ p .count
+  pub most : p .count ≤ 64
+  pub small : (i : ℕ) → isUp i ≡ true → levelAt w i < 16
 
 -- ---- the steps of the code
 
-abbrev pub packetAnd : Packet → Group → Packet
-packetAnd Nothing g = One g
-packetAnd (One a) g = Two a g
-packetAnd (Two a b) g = Three a b g
-packetAnd (Three a b c) g = Three a b c
+abbrev pub begun : (place capacity : ℕ) → Going
+begun p capacity = record { group = p; left = senders; room = capacity }
 
-abbrev pub leftBy : Wires → ℕ → Wires
-leftBy w k = placed (withGroup w (k + 4) (levelAt w (k + 4)) false) (after senders k + 4)
+-- what is still taken from here on
+abbrev pub turnOf : Wires → Going → List ℕ
+turnOf w g = turn senderSize (waiting w) senders (g .left) (g .room) (senderOf (g .group))
 
-abbrev pub asked : Wires → Asking → ℕ → Asking
-asked w r k =
-    pick (waiting w k)
-    (pick (leb 1 (r .left)) (record { packet = packetAnd (r .packet) (groupOf w k); next = leftBy (r .next) k; left = r .left - 1 }) r)
-    r
+-- the group asked now waits and fits
+abbrev pub goTakes : Bool → Going → Bool
+goTakes waits g = waits && leb (senderSize (senderOf (g .group))) (g .room)
 
--- ---- the same over the list of those taken
+abbrev pub goPast : Bool → Going → Going
+goPast waits g =
+    pick waits
+    (pick (leb (senderSize (senderOf (g .group))) (g .room))
+    (record { group = groupAfter (g .group); left = g .left - 1; room = g .room - senderSize (senderOf (g .group)) })
+    (record { group = g .group; left = 0; room = g .room }))
+    (record { group = groupAfter (g .group); left = g .left - 1; room = g .room })
 
-abbrev soFar : Wires → List ℕ → ℕ → Asking
-soFar w xs c = record { packet = packetOf w xs; next = afterSent w xs; left = c }
+abbrev pub takes : Wires → Going → Bool
+takes w g = goTakes (markAt w (g .group)) g
 
-packet-and : (w : Wires) (xs : List ℕ) (k : ℕ) → length xs ≤ 2 → packetAnd (packetOf w xs) (groupOf w k) ≡ packetOf w (xs ++ (k ∷ []))
-unfolding packetOf
-packet-and w [] k h = refl
-packet-and w (a ∷ []) k h = refl
-packet-and w (a ∷ b ∷ []) k h = refl
-packet-and w (a ∷ b ∷ c ∷ xs) k h = absurd (omega arith)
+abbrev pub past : Wires → Going → Going
+past w g = goPast (markAt w (g .group)) g
 
-pub unmarked-last : (w : Wires) (xs : List ℕ) (k : ℕ)
-    → unmarked w (xs ++ (k ∷ [])) ≡ withGroup (unmarked w xs) (k + 4) (levelAt (unmarked w xs) (k + 4)) false
-unfolding unmarked
-unmarked-last w [] k = refl
-unmarked-last w (x ∷ xs) k = unmarked-last (withGroup w (x + 4) (levelAt w (x + 4)) false) xs k
+-- what asking the group now adds to the packet
+abbrev pub nowTaken : Wires → Going → List ℕ
+nowTaken w g = pick (takes w g) (senderOf (g .group) ∷ []) []
 
--- the place moves behind the last one taken
-pub place-last : (n p : ℕ) (xs : List ℕ) (k : ℕ) → placeAfter n p (xs ++ (k ∷ [])) ≡ after n k
-unfolding placeAfter
-place-last n p [] k = refl
-place-last n p (x ∷ xs) k = place-last n (after n x) xs k
+-- ---- and that they are the turn
 
-left-by : (w : Wires) (xs : List ℕ) (k : ℕ) → leftBy (afterSent w xs) k ≡ afterSent w (xs ++ (k ∷ []))
-left-by w xs k = simp (unmarked-last w xs k, place-last senders (w .place - 4) xs k)
+pub begun-turn : (w : Wires) (p capacity : ℕ) → turnOf w (begun p capacity) ≡ sentFrom w p capacity
+unfolding sentFrom
+begun-turn w p capacity = refl
 
-abbrev took : Wires → List ℕ → ℕ → ℕ → List ℕ
-took w xs c k = pick (waiting w k) (pick (leb 1 c) (xs ++ (k ∷ [])) xs) xs
-
-abbrev room : Wires → ℕ → ℕ → ℕ
-room w c k = pick (waiting w k) (pick (leb 1 c) (c - 1) c) c
-
-asked-took : (w : Wires) (xs : List ℕ) (c k : ℕ) → length xs ≤ 2 → asked w (soFar w xs c) k ≡ soFar w (took w xs c k) (room w c k)
-asked-took w xs c k h = go (waiting w k) (leb 1 c)
-  where
-    go : (a b : Bool)
-        → pick a (pick b (record { packet = packetAnd (packetOf w xs) (groupOf w k); next = leftBy (afterSent w xs) k; left = c - 1 }) (soFar w xs c)) (soFar w xs c)
-        ≡ soFar w (pick a (pick b (xs ++ (k ∷ [])) xs) xs) (pick a (pick b (c - 1) c) c)
-    go true true =
-        ap (λ (p : Packet). record { packet = p; next = leftBy (afterSent w xs) k; left = c - 1 }) (packet-and w xs k h)
-        ∙ ap (λ (v : Wires). record { packet = packetOf w (xs ++ (k ∷ [])); next = v; left = c - 1 }) (left-by w xs k)
-    go true false = refl
-    go false b = refl
-
-took-length : (w : Wires) (xs : List ℕ) (c k : ℕ) → length (took w xs c k) ≤ suc (length xs)
-took-length w xs c k =
-    pick-ind (λ (ys : List ℕ). length ys ≤ suc (length xs)) (waiting w k)
-    (λ _. pick-ind (λ (ys : List ℕ). length ys ≤ suc (length xs)) (leb 1 c) (λ _. simp length-append (omega arith)) (λ _. omega arith))
-    (λ _. omega arith)
-
--- a packet with no room takes no one
-turn-full : (waits : ℕ → Bool) (n left i : ℕ) → turn senderSize waits n left 0 i ≡ []
+pub turn-over : (w : Wires) (g : Going) → g .left ≡ 0 → turnOf w g ≡ []
 unfolding turn
-turn-full waits n zero i = refl
-turn-full waits n (suc left) i = pick-ind (λ (l : List ℕ). l ≡ []) (waits i) (λ _. refl) (λ _. turn-full waits n left (after n i))
+turn-over w g e = ap (λ (l : ℕ). turn senderSize (waiting w) senders l (g .room) (senderOf (g .group))) e
 
-took-turn : (w : Wires) (n left : ℕ) (xs : List ℕ) (c k : ℕ)
-    → took w xs c k ++ turn senderSize (waiting w) n left (room w c k) (after n k) ≡ xs ++ turn senderSize (waiting w) n (suc left) c k
-unfolding turn
-took-turn w n left xs c k = go (waiting w k) (leb 1 c) refl
+pub turn-closed : (w : Wires) (g : Going) → g .room ≡ 0 → turnOf w g ≡ []
+turn-closed w g e =
+    ap (λ (n : ℕ). turn senderSize (waiting w) senders (g .left) n (senderOf (g .group))) e
+    ∙ turn-full senderSize (waiting w) senders (g .left) (senderOf (g .group)) (λ k. omega arith)
+
+-- a step: nearer the end, what it takes and then the rest, and the room that is left
+pub record Step (w : Wires) (g : Going) (now : List ℕ) (h : Going) : Type 0 where
+  pub up : isUp (h .group) ≡ true
+  pub less : h .left < g .left
+  pub turns : turnOf w g ≡ now ++ turnOf w h
+  pub room : h .room + sizes senderSize (turnOf w g) ≡ g .room + sizes senderSize (turnOf w h)
+
+pub step : (w : Wires) (g : Going) → isUp (g .group) ≡ true → 0 < g .left → Step w g (nowTaken w g) (past w g)
+unfolding turn sizes
+step w g here more = go (markAt w (g .group)) (leb (senderSize k) (g .room)) refl asked
   where
-    go : (a b : Bool) → leb 1 c ≡ b
-        → pick a (pick b (xs ++ (k ∷ [])) xs) xs ++ turn senderSize (waiting w) n left (pick a (pick b (c - 1) c) c) (after n k)
-        ≡ xs ++ pick a (pick b (k ∷ turn senderSize (waiting w) n left (c - 1) (after n k)) []) (turn senderSize (waiting w) n left c (after n k))
-    go true true e = append-assoc xs (k ∷ []) _
-    go true false e =
-        let l = leb-false 1 c e in
-        let z : c ≡ 0 = omega arith in
-        ap (λ (m : ℕ). xs ++ turn senderSize (waiting w) n left m (after n k)) z ∙ ap (λ (ys : List ℕ). xs ++ ys) (turn-full (waiting w) n left (after n k))
-    go false b e = refl
+    k : ℕ
+    k = senderOf (g .group)
 
--- nothing is taken yet
-start : (w : Wires) (c : ℕ) → 4 ≤ w .place → record { packet = Nothing; next = w; left = c } ≡ soFar w [] c
-unfolding packetOf unmarked placeAfter
-start w c h =
-    let e : w .place ≡ w .place - 4 + 4 = omega arith in
-    ap (λ (p : ℕ). record { packet = Nothing; next = placed w p; left = c }) e
+    next : Sender (after senders k)
+    next = sender (after senders k) (after-below senders k (up-group (g .group) here .below))
 
--- the three senders from the place on, each asked, are the turn
-took-sent : (w : Wires) (c : ℕ) →
-    let a = w .place - 4 in
-    let b = after senders a in
-    took w (took w (took w [] c a) (room w c a) b) (room w (room w c a) b) (after senders b) ≡ sent w c
-unfolding sent turn
-took-sent w c =
-    let a = w .place - 4 in
-    let b = after senders a in
-    let x₁ = took w [] c a in
-    let x₂ = took w x₁ (room w c a) b in
-    sym (append-nil _)
-    ∙ took-turn w senders 0 x₂ (room w (room w c a) b) (after senders b)
-    ∙ took-turn w senders 1 x₁ (room w c a) b
-    ∙ took-turn w senders 2 [] c a
+    rest : ℕ → List ℕ
+    rest room = turn senderSize (waiting w) senders (g .left - 1) room (senderOf (groupAfter (g .group)))
 
--- so the three senders asked from the place on make what is sent
-pub asked-all : (w : Wires) (capacity : ℕ) (one two all : Asking) → 4 ≤ w .place
-    → one ≡ asked w (record { packet = Nothing; next = w; left = capacity }) (w .place - 4)
-    → two ≡ asked w one (after senders (w .place - 4))
-    → all ≡ asked w two (after senders (after senders (w .place - 4)))
-    → record { packet = all .packet; next = all .next } ≡ sending w capacity
-asked-all w capacity one two all h e₁ e₂ e₃ =
-    let a = w .place - 4 in
-    let b = after senders a in
-    let c = after senders b in
-    let c₁ = room w capacity a in
-    let c₂ = room w c₁ b in
-    let x₁ = took w [] capacity a in
-    let x₂ = took w x₁ c₁ b in
-    let l₁ = took-length w [] capacity a in
-    let l₂ = took-length w x₁ c₁ b in
-    let f₁ : one ≡ soFar w x₁ c₁ = e₁ ∙ ap (λ (r : Asking). asked w r a) (start w capacity h) ∙ asked-took w [] capacity a (omega arith) in
-    let f₂ : two ≡ soFar w x₂ c₂ = e₂ ∙ ap (λ (r : Asking). asked w r b) f₁ ∙ asked-took w x₁ c₁ b (omega arith) in
-    let f₃ : all ≡ soFar w (took w x₂ c₂ c) (room w c₂ c) = e₃ ∙ ap (λ (r : Asking). asked w r c) f₂ ∙ asked-took w x₂ c₂ c (omega arith) in
-    ap (λ (r : Asking). record { packet = r .packet; next = r .next }) f₃
-    ∙ ap (λ (xs : List ℕ). record { packet = packetOf w xs; next = afterSent w xs }) (took-sent w capacity)
+    asked : turnOf w g ≡ pick (markAt w (g .group)) (pick (leb (senderSize k) (g .room)) (k ∷ rest (g .room - senderSize k)) []) (rest (g .room))
+    asked =
+        let e : g .left ≡ suc (g .left - 1) = omega arith in
+        let t : ℕ → ℕ → List ℕ = λ room j. turn senderSize (waiting w) senders (g .left - 1) room j in
+        ap (λ (l : ℕ). turn senderSize (waiting w) senders l (g .room) k) e
+        ∙ ap (λ (j : ℕ). pick (waiting w k) (pick (leb (senderSize k) (g .room)) (k ∷ t (g .room - senderSize k) j) []) (t (g .room) j)) (sym (next .own))
+        ∙ ap (λ (i : ℕ). pick (markAt w i) (pick (leb (senderSize k) (g .room)) (k ∷ rest (g .room - senderSize k)) []) (rest (g .room))) (up-group (g .group) here .back)
 
--- index k + 4 stands at place k + 2
-pub sender-place : (k : ℕ) → k + 4 - 2 ≡ k + 2
-sender-place k = omega arith
+    go : (a b : Bool) → leb (senderSize k) (g .room) ≡ b → turnOf w g ≡ pick a (pick b (k ∷ rest (g .room - senderSize k)) []) (rest (g .room))
+        → Step w g (pick (a && b) (k ∷ []) [])
+        (pick a
+        (pick b (record { group = groupAfter (g .group); left = g .left - 1; room = g .room - senderSize k }) (record { group = g .group; left = 0; room = g .room }))
+        (record { group = groupAfter (g .group); left = g .left - 1; room = g .room }))
+    go true true f e = record { up = next .up; less = omega arith; turns = e; room = let q = ap (sizes senderSize) e in omega (arith, q, leb-true 1 (g .room) f) }
+    go true false f e = record { up = here; less = more; turns = e; room = let q = ap (sizes senderSize) e in omega (arith, q) }
+    go false b f e = record { up = next .up; less = omega arith; turns = e; room = let q = ap (sizes senderSize) e in omega (arith, q) }
 
-pub waits-as : (w : Wires) (k : ℕ) (t : Bool) → getD (w .pending) (k + 2) false ≡ t → waiting w k ≡ t
-waits-as w k t e = ap (λ (i : ℕ). getD (w .pending) i false) (sender-place k) ∙ e
+-- ---- the same over the wires that are left behind
+
+module _ (w : Wires) (g : Going) (here : isUp (g .group) ≡ true) (more : 0 < g .left) (next : Wires) where
+  left-by : (b : Bool) → takes w g ≡ b → afterSent next (turnOf w g) ≡ afterSent next (pick b (senderOf (g .group) ∷ []) [] ++ turnOf w (past w g))
+  left-by b e = ap (afterSent next) (step w g here more .turns ∙ ap (λ (t : Bool). pick t (senderOf (g .group) ∷ []) [] ++ turnOf w (past w g)) e)
+
+  -- the group after it is the next place
+  on-place : (a b : Bool) → a && b ≡ true
+      → pick {A = Going} a
+      (pick b (record { group = groupAfter (g .group); left = g .left - 1; room = g .room - 1 }) (record { group = g .group; left = 0; room = g .room }))
+      (record { group = groupAfter (g .group); left = g .left - 1; room = g .room }) .group ≡ groupAfter (g .group)
+  on-place true true e = refl
+  on-place true false e = absurd (true≢false (sym e))
+  on-place false b e = refl
+
+  pub left-taken : takes w g ≡ true
+      → afterSent (withGroup next (g .group) (levelAt next (g .group)) false (past w g .group)) (turnOf w (past w g)) ≡ afterSent next (turnOf w g)
+  unfolding afterSent
+  left-taken e =
+      ap (λ (v : Wires). afterSent v (turnOf w (past w g)))
+      (ap (withGroup next (g .group) (levelAt next (g .group)) false) (on-place (markAt w (g .group)) (leb 1 (g .room)) e)
+      ∙ ap (λ (i : ℕ). withGroup next i (levelAt next i) false (groupAfter (g .group))) (sym (up-group (g .group) here .back)))
+      ∙ sym (left-by true e)
+
+  pub left-passed : takes w g ≡ false → afterSent next (turnOf w (past w g)) ≡ afterSent next (turnOf w g)
+  left-passed e = sym (left-by false e)
+
+pub left-over : (w : Wires) (g : Going) (next : Wires) → g .left ≡ 0 → afterSent next (turnOf w g) ≡ next
+unfolding afterSent
+left-over w g next e = ap (afterSent next) (turn-over w g e)
+
+pub sizes-over : (w : Wires) (g : Going) → g .left ≡ 0 → sizes senderSize (turnOf w g) ≡ 0
+unfolding sizes
+sizes-over w g e = ap (sizes senderSize) (turn-over w g e)
+
+-- ---- so far sent: what is still to be taken completes it
+
+pub record Gone (w : Wires) (capacity : ℕ) (next : Wires) (g : Going) : Type 0 where
+  pub up : isUp (g .group) ≡ true
+  pub rest : afterSent next (turnOf w g) ≡ afterSent w (sent w capacity)
+  pub room : g .room + sizes senderSize (sent w capacity) ≡ capacity + sizes senderSize (turnOf w g)
+
+pub gone-first : (w : Wires) (capacity : ℕ) (g : Going) → isUp (w .place) ≡ true → g ≡ begun (w .place) capacity → Gone w capacity w g
+gone-first w capacity g up e =
+    let t = ap (turnOf w) e ∙ begun-turn w (w .place) capacity in
+    record { up = ap (λ (h : Going). isUp (h .group)) e ∙ up; rest = ap (afterSent w) t; room = omega (arith, ap (λ (h : Going). h .room) e, ap (sizes senderSize) t) }
+
+pub gone-on : {w next : Wires} {capacity : ℕ} {g : Going} (next′ : Wires) (h : Going) → Gone w capacity next g → 0 < g .left → h ≡ past w g
+    → afterSent next′ (turnOf w (past w g)) ≡ afterSent next (turnOf w g) → Gone w capacity next′ h
+gone-on {w} {next} {capacity} {g} next′ h s more e q =
+    let t = step w g (s .up) more in
+    record {
+      up = ap (λ (x : Going). isUp (x .group)) e ∙ t .up;
+      rest = ap (λ (x : Going). afterSent next′ (turnOf w x)) e ∙ q ∙ s .rest;
+      room = omega (arith, s .room, t .room, ap (λ (x : Going). x .room) e, ap (λ (x : Going). sizes senderSize (turnOf w x)) e);
+    }
+
+pub gone-less : (w : Wires) (g h : Going) → isUp (g .group) ≡ true → 0 < g .left → h ≡ past w g → h .left < g .left
+gone-less w g h up more e = omega (arith, ap (λ (x : Going). x .left) e, step w g up more .less)
+
+-- with the mark read at the group's row
+pub past-at : (w : Wires) (g h : Going) {row : ℕ} → row ≡ g .group - 2 → h ≡ goPast (getD (w .pending) row false) g → h ≡ past w g
+past-at w g h r e = e ∙ ap (λ (i : ℕ). goPast (getD (w .pending) i false) g) r
+
+pub takes-at : (w : Wires) (g : Going) {t b : Bool} {row : ℕ} → row ≡ g .group - 2 → t ≡ goTakes (getD (w .pending) row false) g → t ≡ b → takes w g ≡ b
+takes-at w g r e h = sym (e ∙ ap (λ (i : ℕ). goTakes (getD (w .pending) i false) g) r) ∙ h

@@ -1,6 +1,6 @@
 -- Going round: which senders a packet takes. Over any number of senders, each with a size, and any capacity (01, Wires: GET_VWIRE;
--- there three senders, groups 4, 5 and 6, of size 1 each, and the operating count for the capacity).
-use Prim.Native.Nat.{ℕ, zero, suc, _-_}
+-- there the senders are the up groups, of size 1 each, and the capacity is the operating count).
+use Prim.Native.Nat.{ℕ, zero, suc, _+_, _-_}
 use mathlib.Core.Bool.{Bool}
 use mathlib.Core.List.{List, [], _∷_}
 use lib.Dec.{ltb, leb}
@@ -23,3 +23,8 @@ turn size waits n (suc left) capacity i =
 unfoldable pub placeAfter : ℕ → ℕ → List ℕ → ℕ
 placeAfter n p [] = p
 placeAfter n p (i ∷ is) = placeAfter n (after n i) is
+
+-- how much of a packet they fill
+unfoldable pub sizes : (ℕ → ℕ) → List ℕ → ℕ
+sizes size [] = 0
+sizes size (i ∷ is) = size i + sizes size is

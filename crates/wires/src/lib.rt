@@ -1,14 +1,14 @@
 // Virtual wires: the table of six rows, and the six groups by value.
 ghost use mathlib.Core.Path.{_≡_};
-ghost use mathlib.Core.Bool.{true};
+ghost use mathlib.Core.Bool.{true, false};
 ghost use Prim.Native.Nat.{_+_, _-_, _*_, _≤_, _<_};
 ghost use lib.ListN.{length, take};
 ghost use mathlib.Core.List.{_++_};
 ghost use Rattle.base.specs.Bytes.{put, low4, low8};
-ghost use Rattle.wires.specs.Turn.{after};
-ghost use Rattle.wires.specs.Sending.{packetAnd, leftBy, asked, sending, Sendable};
-ghost use Rattle.wires.specs.Groups.{senders, groupOf, freshWires, withGroup, levelAt, nibble, putPair, putPairs, definedBit, settable, setWire, readWire, anyPending, wiresStatus, differs, enabled, disabled, placed, resetGroup, platformWires, inRow};
-ghost use Rattle.wires.specs.Layout.{wiresBytes, wiresIn, holdsWires, levelsFit, marksIn};
+ghost use Rattle.wires.specs.Table.{senders, senderOf, isUp};
+ghost use Rattle.wires.specs.Sending.{begun, goTakes, goPast, sending};
+ghost use Rattle.wires.specs.Groups.{senderSize, groupAfter, upOr, pairAt, freshWires, withGroup, levelAt, nibble, putPair, putPairs, definedBit, settable, setWire, readWire, anyPending, wiresStatus, remarked, enabled, disabled, resetGroup, platformWires, inRow};
+ghost use Rattle.wires.specs.Layout.{wiresBytes, wiresIn, holdsWires, levelsFit, marksIn, wordsIn, wiresOf};
 
 pub struct WireRow {
     pub index: u8,
@@ -56,6 +56,9 @@ pub const TABLE: [WireRow; 6] = [
     },
 ];
 
+// Where going round begins: "from 4 itself".
+const FIRST_PLACE: u8 = 4;
+
 // Index i stands at place i - 2 of both arrays; `place` is the index that the next GET_VWIRE begins with.
 pub struct Wires {
     pub level: [u8; 6],
@@ -63,18 +66,17 @@ pub struct Wires {
     pub place: u8,
 }
 
-// One group as it is sent.
-pub struct Group {
-    pub index: u8,
-    pub byte: u8,
+// The wires' thirteen bytes as three numbers: so they are carried from before a command to its reply.
+pub struct Words {
+    pub low: u64,
+    pub high: u32,
+    pub place: u8,
 }
 
-// What a GET_VWIRE sends: at most the three up groups.
-pub enum Packet {
-    Nothing,
-    One(Group),
-    Two(Group, Group),
-    Three(Group, Group, Group),
+// What a GET_VWIRE sends, over the wires as they were: so many entries, going round from a place.
+pub struct Packet {
+    pub place: u8,
+    pub count: u8,
 }
 
 // What a GET_VWIRE sends, and the wires after it.
@@ -83,11 +85,11 @@ pub struct Sending {
     pub next: Wires,
 }
 
-// Going round: the packet so far, the wires after it, and how many groups more it holds.
-struct Asking {
-    packet: Packet,
-    next: Wires,
-    left: u32,
+// Going round: the group to be asked now, how many are still to be asked, and the room left in the packet.
+pub struct Going {
+    pub group: u8,
+    pub left: u8,
+    pub room: u32,
 }
 
 // Four bits: those of `val` where the mask has ones, those of `old` elsewhere.
@@ -98,31 +100,116 @@ fn nibble_of(old: u8, val: u8, mask: u8) -> u8
     (old & (15 - mask)) | (val & mask)
 }
 
-fn after_sender(k: u8) -> u8
-    requires { ⌜ k < 3 ⌝ }
-    ensures { λ r. ⌜ (r ≡ after senders k) × (r < 3) ⌝ }
+// How many groups go up.
+fn senders() -> u8
+    ensures { λ r. ⌜ r ≡ senders ⌝ }
 {
-    if k + 1 < 3 {
-        return k + 1;
+    let mut ups: u8 = 0;
+    let mut i: usize = 0;
+    while i < 6 {
+        ups += base::bit_of(!TABLE[i].down);
+        i += 1;
     }
-    0
+    ups
 }
 
-impl Packet {
-    // One group more; there is no fourth.
-    fn and(self, group: Group) -> Packet
-        ensures { λ r. ⌜ r ≡ packetAnd self group ⌝ }
+// The place in the table of a group that goes up.
+fn row_of(group: u8) -> usize
+    requires { ⌜ isUp group ≡ true ⌝ }
+    ensures { λ r. ⌜ (r ≡ group - 2) × (2 ≤ group) × (r < 6) ⌝ }
+{
+    (group - 2) as usize
+}
+
+// The group of a row that goes up, or else the one that comes next.
+fn up_or(at: usize, next: u8) -> u8
+    requires { ⌜ at < 6 ⌝ }
+    ensures { λ r. ⌜ r ≡ upOr at next ⌝ }
+{
+    if TABLE[at].down {
+        return next;
+    }
+    TABLE[at].index
+}
+
+// The next group that goes up, going round: after the last row the first place. The compiler knows every entry.
+fn group_after(group: u8) -> u8
+    requires { ⌜ isUp group ≡ true ⌝ }
+    ensures { λ r. ⌜ r ≡ groupAfter group ⌝ }
+{
+    let e = up_or(5, FIRST_PLACE);
+    let d = up_or(4, e);
+    let c = up_or(3, d);
+    let b = up_or(2, c);
+    let a = up_or(1, b);
+    let next = [a, b, c, d, e, FIRST_PLACE];
+    next[row_of(group)]
+}
+
+// A group is one entry of a packet.
+fn sender_size(group: u8) -> u32
+    ensures { λ r. ⌜ r ≡ senderSize (senderOf group) ⌝ }
+{
+    1
+}
+
+// Every sender is to be asked, from the group at the place on.
+pub fn go_round(place: u8, capacity: u32) -> Going
+    ensures { λ r. ⌜ r ≡ begun place capacity ⌝ }
+{
+    Going {
+        group: place,
+        left: senders(),
+        room: capacity,
+    }
+}
+
+impl Going {
+    // Whether the group asked now is taken: it waits, and it fits.
+    pub fn takes(self, waits: bool) -> bool
+        ensures { λ r. ⌜ r ≡ goTakes waits self ⌝ }
     {
-        match self {
-            Packet::Nothing => Packet::One(group),
-            Packet::One(a) => Packet::Two(a, group),
-            Packet::Two(a, b) => Packet::Three(a, b, group),
-            Packet::Three(a, b, c) => Packet::Three(a, b, c),
+        waits & (sender_size(self.group) <= self.room)
+    }
+
+    // The next group is asked; at the first that does not fit the packet closes.
+    pub fn past(self, waits: bool) -> Going
+        requires { ⌜ (isUp (self .group) ≡ true) × (0 < self .left) ⌝ }
+        ensures { λ r. ⌜ r ≡ goPast waits self ⌝ }
+    {
+        let next = group_after(self.group);
+        if !waits {
+            return Going {
+                group: next,
+                left: self.left - 1,
+                room: self.room,
+            };
+        }
+        let size = sender_size(self.group);
+        if self.room < size {
+            return Going {
+                group: self.group,
+                left: 0,
+                room: self.room,
+            };
+        }
+        Going {
+            group: next,
+            left: self.left - 1,
+            room: self.room - size,
         }
     }
 }
 
-// "undefined wire bits are 0"
+// Index and data of a group, "with all defined bits valid".
+pub fn pair(group: u8, level: u8) -> [u8; 2]
+    requires { ⌜ (isUp group ≡ true) × (level < 16) ⌝ }
+    ensures { λ r. ⌜ r ≡ pairAt group level ⌝ }
+{
+    let valid = TABLE[row_of(group)].defined;
+    [group, valid * 16 + level]
+}
+
 pub fn defined_bit(index: u32, bit: u32) -> bool
     ensures { λ r. ⌜ r ≡ definedBit index bit ⌝ }
 {
@@ -163,19 +250,20 @@ impl Wires {
                 TABLE[5].reset,
             ],
             pending: [false; 6],
-            place: 4,
+            place: FIRST_PLACE,
         }
     }
 
-    // The one place where a group changes.
-    fn with(self, index: usize, level: u8, mark: bool) -> Wires
+    // The one place where the wires change: a group's level and mark, and the place.
+    fn with(self, index: usize, level: u8, mark: bool, place: u8) -> Wires
         requires { ⌜ (2 ≤ index) × (index ≤ 7) ⌝ }
-        ensures { λ r. ⌜ r ≡ withGroup self index level mark ⌝ }
+        ensures { λ r. ⌜ r ≡ withGroup self index level mark place ⌝ }
     {
         let i = index - 2;
         let mut next = self;
         next.level[i] = level;
         next.pending[i] = mark;
+        next.place = place;
         next
     }
 
@@ -194,7 +282,7 @@ impl Wires {
             return self;
         }
         let level = nibble_of(self.level[at], byte % 16, (byte / 16) & TABLE[at].defined);
-        self.with(index as usize, level, self.pending[at])
+        self.with(index as usize, level, self.pending[at], self.place)
     }
 
     pub fn put(self, pairs: &[u8], n: usize) -> Wires
@@ -221,6 +309,7 @@ impl Wires {
             index as usize,
             level,
             self.pending[at] | (on & (level != old)),
+            self.place,
         )
     }
 
@@ -232,74 +321,39 @@ impl Wires {
         ((self.level[at] >> bit) % 2) as u32
     }
 
-    // "with all defined bits valid"
-    fn group(self, k: u8) -> Group
-        requires { ⌜ (k < 3) × (levelAt self (k + 4) < 16) ⌝ }
-        ensures { λ r. ⌜ r ≡ groupOf self k ⌝ }
-    {
-        let at = (k + 2) as usize;
-        let valid = TABLE[at].defined;
-        let byte = valid * 16 + self.level[at];
-        let index = k + 4;
-        Group { index, byte }
-    }
-
-    // Sender k is sent: its mark goes, and the place moves behind it.
-    fn left_by(self, k: u8) -> Wires
-        requires { ⌜ k < 3 ⌝ }
-        ensures { λ r. ⌜ r ≡ leftBy self k ⌝ }
-    {
-        let at = (k + 2) as usize;
-        let next = after_sender(k);
-        self.with((k + 4) as usize, self.level[at], false)
-            .placed(next + 4)
-    }
-
-    // Sender k is asked: it is taken if it waits and the packet has room.
-    fn asked(self, so_far: Asking, k: u8) -> Asking
-        requires { ⌜ (k < 3) × (levelAt self (k + 4) < 16) ⌝ }
-        ensures { λ r. ⌜ r ≡ asked self «so_far» k ⌝ }
-    {
-        let at = (k + 2) as usize;
-        if !self.pending[at] {
-            return so_far;
-        }
-        if so_far.left < 1 {
-            return so_far;
-        }
-        let packet = so_far.packet;
-        let next = so_far.next;
-        Asking {
-            packet: packet.and(self.group(k)),
-            next: next.left_by(k),
-            left: so_far.left - 1,
-        }
-    }
-
     pub fn send(self, capacity: u32) -> Sending
-        requires { ⌜ Sendable self ⌝ }
+        requires { ⌜ (4 ≤ self .place) × (self .place ≤ 6) × (capacity ≤ 64) ⌝ }
         ensures { λ r. ⌜ r ≡ sending self capacity ⌝ }
     {
-        let a = self.place - 4;
-        let b = after_sender(a);
-        let c = after_sender(b);
-        let none = Asking {
-            packet: Packet::Nothing,
-            next: self,
-            left: capacity,
-        };
-        let one = self.asked(none, a);
-        let two = self.asked(one, b);
-        let all = self.asked(two, c);
-        let packet = all.packet;
-        let next = all.next;
-        Sending { packet, next }
+        let place = self.place;
+        let mut next = self;
+        let mut g = go_round(place, capacity);
+        while 0 < g.left {
+            let at = row_of(g.group);
+            let waits = self.pending[at];
+            let on = g.past(waits);
+            if g.takes(waits) {
+                next = next.with(g.group as usize, next.level[at], false, on.group);
+            }
+            g = on;
+        }
+        let count = (capacity - g.room) as u8;
+        Sending {
+            packet: Packet { place, count },
+            next,
+        }
     }
 
     pub fn any_pending(self) -> bool
         ensures { λ r. ⌜ r ≡ anyPending self ⌝ }
     {
-        self.pending[2] | (self.pending[3] | self.pending[4])
+        let mut any = false;
+        let mut i: usize = 0;
+        while i < 6 {
+            any = any | (!TABLE[i].down & self.pending[i]);
+            i += 1;
+        }
+        any
     }
 
     // Bit 2, VWIRE_FREE, is always 1.
@@ -309,57 +363,53 @@ impl Wires {
         4 + (base::bit_of(self.any_pending()) as u32) * 64
     }
 
-    fn differs(self, index: usize) -> bool
-        requires { ⌜ (2 ≤ index) × (index ≤ 7) ⌝ }
-        ensures { λ r. ⌜ r ≡ differs self index ⌝ }
+    // The channel's word of the status, of its bytes.
+    pub fn status_in(b: &[u8]) -> u32
+        requires { ⌜ 77 ≤ length (now b) ⌝ }
+        ensures { λ r. ⌜ (r ≡ wiresStatus (wiresIn (now (b .entry)))) × (r ≤ 68) ⌝ }
     {
-        let at = index - 2;
-        self.level[at] != TABLE[at].reset
+        let w = Wires::unpack(b);
+        w.status()
+    }
+
+    // Each mark anew: that of an up group that differs from its reset value, or none.
+    fn remarked(self, on: bool, place: u8) -> Wires
+        ensures { λ r. ⌜ r ≡ remarked on self place ⌝ }
+    {
+        let mut next = self;
+        let mut i: usize = 0;
+        while i < 6 {
+            let mark = on & (!TABLE[i].down & (self.level[i] != TABLE[i].reset));
+            next = next.with(i + 2, self.level[i], mark, place);
+            i += 1;
+        }
+        next
     }
 
     // "Enabling it from disabled makes each up group pending that differs from its reset value."
     pub fn enabled(self) -> Wires
         ensures { λ r. ⌜ r ≡ enabled self ⌝ }
     {
-        self.with(4, self.level[2], self.differs(4))
-            .with(5, self.level[3], self.differs(5))
-            .with(6, self.level[4], self.differs(6))
+        self.remarked(true, self.place)
     }
 
     pub fn disabled(self) -> Wires
         ensures { λ r. ⌜ r ≡ disabled self ⌝ }
     {
-        let level = self.level;
-        Wires {
-            level,
-            pending: [false; 6],
-            place: 4,
-        }
-    }
-
-    fn placed(self, place: u8) -> Wires
-        ensures { λ r. ⌜ r ≡ placed self place ⌝ }
-    {
-        let level = self.level;
-        let pending = self.pending;
-        Wires {
-            level,
-            pending,
-            place,
-        }
+        self.remarked(false, FIRST_PLACE)
     }
 
     fn reset_group(self, index: usize) -> Wires
         requires { ⌜ (2 ≤ index) × (index ≤ 7) ⌝ }
         ensures { λ r. ⌜ r ≡ resetGroup self index ⌝ }
     {
-        self.with(index, TABLE[index - 2].reset, false)
+        self.with(index, TABLE[index - 2].reset, false, FIRST_PLACE)
     }
 
     pub fn platform(self) -> Wires
         ensures { λ r. ⌜ r ≡ platformWires self ⌝ }
     {
-        self.reset_group(6).reset_group(7).placed(4)
+        self.reset_group(6).reset_group(7)
     }
 
     fn bytes(self) -> [u8; 13]
@@ -419,6 +469,45 @@ impl Wires {
         let high = base::get4(b, 72);
         let place = b[76];
         levels_fit(low) & (marks_fit(on, low, high) & ((4 <= place) & (place <= 6)))
+    }
+}
+
+impl Words {
+    pub fn of(b: &[u8]) -> Words
+        requires { ⌜ 77 ≤ length (now b) ⌝ }
+        ensures { λ r. ⌜ r ≡ wordsIn (now (b .entry)) ⌝ }
+    {
+        Words {
+            low: base::get8(b, 64),
+            high: base::get4(b, 72),
+            place: b[76],
+        }
+    }
+
+    pub fn wires(self) -> Wires
+        ensures { λ r. ⌜ r ≡ wiresOf self ⌝ }
+    {
+        let low = self.low;
+        let high = self.high;
+        Wires {
+            level: [
+                (low % 256) as u8,
+                (low / 256 % 256) as u8,
+                (low / 65536 % 256) as u8,
+                (low / 16777216 % 256) as u8,
+                (low / 4294967296 % 256) as u8,
+                (low / 1099511627776 % 256) as u8,
+            ],
+            pending: [
+                low / 281474976710656 % 256 == 1,
+                low / 72057594037927936 % 256 == 1,
+                high % 256 == 1,
+                high / 256 % 256 == 1,
+                high / 65536 % 256 == 1,
+                high / 16777216 % 256 == 1,
+            ],
+            place: self.place,
+        }
     }
 }
 

@@ -1,89 +1,61 @@
-use Prim.Native.Nat.{ℕ}
 use mathlib.Core.Path.{ap, sym, subst, _∙_}
 use denote.Ref.{now}
-use Rattle.command.specs.Facts.{CommandFits}
-use Rattle.command.specs.declared.Command.{Command}
-use Rattle.state.specs.Facts.{sound-config, sound-request, sound-wires}
-use Rattle.rules.specs.Rules.Peripheral as P
-use Rattle.rules.specs.Rules.Wires as W
+use Rattle.registers.specs.Registers.{readAt}
+use Rattle.registers.specs.declared.Config.{Config}
+use Rattle.state.specs.declared.State.{State}
+use Rattle.state.specs.Layout.{unpacked}
 use Rattle.rules.specs.Rules.Channel.{peripheral, wires}
-use Rattle.rules.specs.Rules.Lift.{lift, show}
-use Rattle.rules.specs.Rules.Exchange.{decide}
 use Rattle.rules.specs.declared.Body.the-variants as B
-use Rattle.rules.specs.declared.PeripheralChange.{PeripheralChange}
-use Rattle.rules.specs.declared.WiresChange.{WiresChange}
-use Rattle.engine.specs.Carried.{carriedBy}
-use Rattle.engine.specs.Laws.Exchange.{shown-decided, reset-decided}
-use Rattle.engine.specs.Laws.Stored.{acting-stays}
+use Rattle.engine.specs.Carried.{Packs}
+use Rattle.engine.specs.Laws.Exchange.{fits-as, acted-decided, read-decided, set-decided, status-decided, reset-decided}
+use Rattle.engine.specs.Laws.Loaded.{shown-is, set-unpacked, reset-unpacked}
 use borrow.Author.Needs.{needs}
 use Rattle.engine.proofs.decided.Statement.{statement}
 use Rattle.engine.proofs.decided.Tie as tie
 
-decide-requires : tie.Need-decide-requires
-decide-requires c κs = let a = c .before .before .before .before .before .before .args in let p = c .before .before .before .before .before .before .pre in (sound-config (a .s) (p .0 .good), sound-request (a .s) (p .0 .good), subst (λ (z : Command). CommandFits z (now (a .b))) (c .before .o .given .1) (p .1))
+act-peripheral-requires : tie.Need-act-peripheral-requires
+act-peripheral-requires c κs = let p = c .before .before .before .before .before .before .pre in (p .0, p .1, fits-as (now (c .before .before .before .before .before .before .args .b)) (c .before .before .o .given .1) (p .2))
 
-lift-peripheral-requires : tie.Need-lift-peripheral-requires
-unfolding P.decide W.decide
-lift-peripheral-requires c κs = let a = c .before .before .before .before .before .before .before .before .args in (c .before .before .before .before .before .before .before .before .pre .0, acting-stays peripheral (a .s) (P.actOf (a .s .config) (c .before .before .before .o .given .0 .0) (now (a .b))) _ (c .before .decide .ensures))
+act-wires-requires : tie.Need-act-wires-requires
+act-wires-requires c κs = let p = c .before .before .before .before .before .before .pre in (p .0, p .1, fits-as (now (c .before .before .before .before .before .before .args .b)) (c .before .before .o2 .given .1) (p .2))
 
-decide-requires-2 : tie.Need-decide-requires-2
-decide-requires-2 c κs = let a = c .before .before .before .before .before .before .args in let p = c .before .before .before .before .before .before .pre in (sound-config (a .s) (p .0 .good), sound-wires (a .s) (p .0 .good), subst (λ (z : Command). CommandFits z (now (a .b))) (c .before .o2 .given .1) (p .1))
+set-requires : tie.Need-set-requires
+set-requires c κs = subst (λ (s : State). Packs s (now (c .before .before .before .before .before .before .before .before .args .state))) (sym (c .before .unpack .ensures)) (c .before .before .before .before .before .before .before .before .pre .0)
 
-lift-wires-requires : tie.Need-lift-wires-requires
-unfolding P.decide W.decide
-lift-wires-requires c κs = let a = c .before .before .before .before .before .before .before .before .args in (c .before .before .before .before .before .before .before .before .pre .0, acting-stays wires (a .s) (W.actOf (c .before .before .before .o2 .given .0 .0) (now (a .b))) _ (c .before .decide2 .ensures))
-
-returns : tie.Need-returns
-unfolding decide P.decide W.decide
-returns c = let a = c .before .before .before .before .before .before .before .before .before .before .before .args in c .before .before .lift-peripheral .ensures ∙ ap (λ (x : PeripheralChange). carriedBy (lift peripheral (a .s) x) (now (a .state))) (c .before .before .before .before .decide .ensures) ∙ ap (λ (z : Command). carriedBy (decide (a .s) z (now (a .b))) (now (a .state))) (sym (c .before .before .before .before .before .before .o .given .1))
-
-returns-2 : tie.Need-returns-2
-unfolding decide P.decide W.decide
-returns-2 c = let a = c .before .before .before .before .before .before .before .before .before .before .before .args in c .before .before .lift-wires .ensures ∙ ap (λ (x : WiresChange). carriedBy (lift wires (a .s) x) (now (a .state))) (c .before .before .before .before .decide2 .ensures) ∙ ap (λ (z : Command). carriedBy (decide (a .s) z (now (a .b))) (now (a .state))) (sym (c .before .before .before .before .before .before .o2 .given .1))
-
-returns-3 : tie.Need-returns-3
-unfolding decide P.decide W.decide
-returns-3 c = let a = c .before .before .before .before .before .before .before .before .args in shown-decided (a .s) (now (a .b)) (now (a .state)) (a .o) _ _ (c .before .before .before .before .before .before .before .before .pre .0) (ap (λ (z : Command). decide (a .s) z (now (a .b))) (c .before .before .before .o3 .given .1) ∙ ap (λ (z : ℕ). show (B.Word z) (a .s)) (sym (c .before .read .ensures))) (c .shown .ensures)
-
-returns-4 : tie.Need-returns-4
-unfolding decide P.decide W.decide
-returns-4 c = let a = c .before .before .before .before .before .before .before .before .before .before .args in c .before .before .set .ensures ∙ ap (λ (z : Command). carriedBy (decide (a .s) z (now (a .b))) (now (a .state))) (sym (c .before .before .before .before .before .o4 .given .1))
-
-returns-5 : tie.Need-returns-5
-unfolding decide P.decide W.decide
-returns-5 c = let a = c .before .before .before .before .before .before .args in shown-decided (a .s) (now (a .b)) (now (a .state)) (a .o) _ _ (c .before .before .before .before .before .before .pre .0) (ap (λ (z : Command). decide (a .s) z (now (a .b))) (c .before .enum-told .given .1)) (c .shown2 .ensures)
-
-returns-6 : tie.Need-returns-6
-unfolding decide P.decide W.decide
-returns-6 c = let a = c .before .before .before .before .before .before .before .before .before .before .args in reset-decided (a .s) (now (a .b)) (now (a .state)) (a .o) _ _ (c .before .before .before .before .before .enum-told2 .given .1) (c .before .before .before .reset-008 .ensures) (c .silently .ensures)
+reset-008-requires : tie.Need-reset-008-requires
+reset-008-requires c κs = subst (λ (s : State). Packs s (now (c .before .before .before .before .before .before .before .args .state))) (sym (c .before .unpack2 .ensures)) (c .before .before .before .before .before .before .before .pre .0)
 
 pub decided-spec : {M : Type 1} → statement M
 decided-spec =
     tie.close
     (tie.spec
     (λ c. search needs)
-    decide-requires
-    lift-peripheral-requires
+    act-peripheral-requires
     (λ c. search needs)
-    decide-requires-2
-    lift-wires-requires
+    act-wires-requires
+    (λ c. search needs)
+    (λ c κs. search needs)
+    (λ c κs. search needs)
+    (λ c κs. search needs)
+    (λ c. search needs)
+    (λ c κs. search needs)
+    set-requires
     (λ c. search needs)
     (λ c κs. search needs)
     (λ c κs. search needs)
     (λ c. search needs)
     (λ c κs. search needs)
-    (λ c. search needs)
+    reset-008-requires
     (λ c κs. search needs)
     (λ c. search needs)
-    (λ c κs. search needs)
-    (λ c κs. search needs)
+    (λ c. acted-decided (unpacked (now (c .before .before .before .before .before .before .before .before .before .args .state))) _ _ _ peripheral _ _ (c .before .before .before .before .before .o .given .1) (c .before .before .act-peripheral .ensures))
     (λ c. search needs)
-    returns
+    (λ c. acted-decided (unpacked (now (c .before .before .before .before .before .before .before .before .before .args .state))) _ _ _ wires _ _ (c .before .before .before .before .before .o2 .given .1) (c .before .before .act-wires .ensures))
     (λ c. search needs)
-    returns-2
-    returns-3
+    (λ c. let s = unpacked (now (c .before .before .before .before .before .before .before .before .before .args .state)) in let a = c .before .before .before .before .before .o3 .given .0 .0 in read-decided s _ _ _ a _ _ (c .before .before .before .before .before .before .before .before .before .pre .0) (c .before .before .before .before .before .o3 .given .1) (c .before .before .before .read .ensures ∙ ap (λ (z : Config). readAt z a) (c .before .before .before .before .before .before .before .before .before .pre .1)) (shown-is s _ _ _ (c .shown .ensures) (c .before .status-in .ensures)))
     (λ c. search needs)
-    returns-4
-    returns-5
+    (λ c. let l = now (c .before .before .before .before .before .before .before .before .before .before .before .args .state) in set-decided (unpacked l) _ l _ _ _ _ (c .before .before .before .before .before .before .before .o4 .given .1) (set-unpacked l _ _ (c .before .before .set .ensures) (c .before .before .before .before .unpack .ensures)))
     (λ c. search needs)
-    returns-6)
+    (λ c. let s = unpacked (now (c .before .before .before .before .before .before .before .args .state)) in status-decided s _ _ _ _ (c .before .before .before .before .before .before .before .pre .0) (c .before .before .before .enum-told .given .1) (shown-is s B.Nothing _ _ (c .shown2 .ensures) (c .before .status-in2 .ensures)))
+    (λ c. search needs)
+    (λ c. let l = now (c .before .before .before .before .before .before .before .before .before .before .before .args .state) in reset-decided (unpacked l) _ l _ _ _ (c .before .before .before .before .before .before .before .enum-told2 .given .1) (reset-unpacked l (c .before .before .before .reset-008 .ensures) (c .before .before .before .before .before .unpack2 .ensures)) (c .silently .ensures)))

@@ -2,9 +2,9 @@
 use Prim.Native.Nat.{ℕ}
 use mathlib.Core.Bool.{Bool, true, false}
 use mathlib.Core.List.{List}
-use mathlib.Core.Path.{_≡_, refl, sym, ap, _∙_}
+use mathlib.Core.Path.{_≡_, refl, sym, ap, subst, _∙_}
 use Rattle.base.specs.Pick.{taken, passed}
-use Rattle.registers.specs.Registers.{crcChecked, forbiddenAt, writeAt}
+use Rattle.registers.specs.Registers.{crcChecked, readAt, forbiddenAt, writeAt}
 use Rattle.registers.specs.declared.Config.{Config}
 use Rattle.command.specs.Decode.{admit}
 use Rattle.command.specs.Facts.{CommandFits, IsBytes, admit-fits}
@@ -16,8 +16,10 @@ use Rattle.command.specs.declared.Decoded.the-variants.{Known, Refused}
 use Rattle.state.specs.declared.State.{State}
 use Rattle.rules.specs.Rules.Calls.{kept}
 use Rattle.rules.specs.Rules.Lift.{silent, show, nonFatal, acceptThen}
-use Rattle.rules.specs.Rules.Exchange.{reconfigured, setConfiguration, reset008h, channelsOf, byDecoded, decide, exchange}
-use Rattle.rules.specs.declared.Body.{Body}
+use Rattle.rules.specs.Rules.Channel as K
+use Rattle.rules.specs.Rules.Channel.{Channel, peripheral, wires, actOf}
+use Rattle.rules.specs.Rules.Exchange.{reconfigured, setConfiguration, reset008h, channelsOf, byDecoded, acted, decide, exchange}
+use Rattle.rules.specs.Statements.Plans.{commandOf}
 use Rattle.rules.specs.declared.Body.the-variants as B
 use Rattle.rules.specs.declared.Plan.{Plan}
 use Rattle.engine.specs.Carried.{Packs, Carried, carried, carriedBy, outgoing, quiet, refusedBy}
@@ -45,15 +47,37 @@ module _ (s : State) (a v : ℕ) (l : List ℕ) where
       rw (k, el)
       (ap (λ (z : Config). carriedBy (acceptThen s (reconfigured s z)) l) ec ∙ ap (λ (p : Plan). carriedBy p l) (passed _ (acceptThen s (reconfigured s (writeAt (s .config) a v))) (tested e t) refl))
 
--- ---- a command that no channel has
+-- ---- a decision
 
-module _ (s : State) (b l : List ℕ) (o : Command) where
-  pub shown-decided : (body : Body) (r : Outgoing) → Packs s l → decide s o b ≡ show body s → r ≡ outgoing (show body s) → carried r l ≡ carriedBy (decide s o b) l
-  shown-decided body r h e k = stays-carried s l (show body s) r h refl k ∙ ap (λ (p : Plan). carriedBy p l) (sym e)
+pub fits-as : (b : List ℕ) {x y : Command} → x ≡ y → CommandFits x b → CommandFits y b
+fits-as b e = subst (λ (z : Command). CommandFits z b) e
 
-  pub reset-decided : (l′ : List ℕ) (r : Outgoing) → o ≡ C.Reset → l′ ≡ kept (reset008h s) l → r ≡ quiet 0 → carried r l′ ≡ carriedBy (decide s o b) l
+module _ (s : State) (b l : List ℕ) (z : Command) where
+  decided-as : (y : Command) (x : Carried) → z ≡ y → x ≡ carriedBy (decide s y b) l → x ≡ carriedBy (decide s z b) l
+  decided-as y x e h = h ∙ ap (λ (c : Command). carriedBy (decide s c b) l) (sym e)
+
+  -- a command of a channel is its channel's
+  pub acted-decided : (k : Channel) (o : K.Command k) (x : Carried) → z ≡ commandOf k o → x ≡ carriedBy (acted k s (actOf k (s .config) o b)) l → x ≡ carriedBy (decide s z b) l
   unfolding decide
-  reset-decided l′ r e el k = rw (k, el) (ap (λ (z : Command). carriedBy (decide s z b) l) (sym e))
+  acted-decided peripheral o x e h = decided-as (C.Peripheral o) x e h
+  acted-decided wires o x e h = decided-as (C.Wires o) x e h
+
+  pub read-decided : (a v : ℕ) (r : Outgoing) → Packs s l → z ≡ C.GetConfiguration a → v ≡ readAt (s .config) a → r ≡ outgoing (show (B.Word v) s) → carried r l ≡ carriedBy (decide s z b) l
+  unfolding decide
+  read-decided a v r h e ev k =
+      stays-carried s l (show (B.Word v) s) r h refl k ∙ decided-as (C.GetConfiguration a) _ e (ap (λ (n : ℕ). carriedBy (show (B.Word n) s) l) ev)
+
+  pub set-decided : (a v : ℕ) (x : Carried) → z ≡ C.SetConfiguration a v → x ≡ carriedBy (setConfiguration s a v) l → x ≡ carriedBy (decide s z b) l
+  unfolding decide
+  set-decided a v x e h = decided-as (C.SetConfiguration a v) x e h
+
+  pub status-decided : (r : Outgoing) → Packs s l → z ≡ C.GetStatus → r ≡ outgoing (show B.Nothing s) → carried r l ≡ carriedBy (decide s z b) l
+  unfolding decide
+  status-decided r h e k = stays-carried s l (show B.Nothing s) r h refl k ∙ decided-as C.GetStatus _ e refl
+
+  pub reset-decided : (l′ : List ℕ) (r : Outgoing) → z ≡ C.Reset → l′ ≡ kept (reset008h s) l → r ≡ quiet 0 → carried r l′ ≡ carriedBy (decide s z b) l
+  unfolding decide
+  reset-decided l′ r e el k = decided-as C.Reset _ e (rw (k, el))
 
 -- ---- the exchange
 

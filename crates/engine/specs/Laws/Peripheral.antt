@@ -2,14 +2,14 @@
 use Prim.Native.Nat.{ℕ, _+_, _≤_, _<_}
 use mathlib.Core.Bool.{Bool, true, false, not}
 use mathlib.Core.List.{List, [], _∷_}
-use mathlib.Core.Path.{_≡_, refl, sym, ap, _∙_}
+use mathlib.Core.Path.{_≡_, refl, sym, ap, subst, _∙_}
 use mathlib.Core.Logic.{inl, inr}
 use native.Mathlib.Omega.{arith}
 use lib.Dec.{eqb}
 use lib.ListN.{getD, take, drop, length-take, List·getD-eq-default}
 use lib.Seq.{getD-take, getD-drop}
-use Rattle.base.specs.Pick.{taken, passed}
-use Rattle.base.specs.Bytes.{joined4}
+use Rattle.base.specs.Pick.{pick, taken, passed}
+use Rattle.base.specs.Bytes.{joined4, put}
 use Rattle.registers.specs.Registers.{payloadSize, readSize, reachable}
 use Rattle.registers.specs.Laws.{payload-legal, read-legal, reachable-r010}
 use Rattle.registers.specs.declared.Config.{Config}
@@ -24,34 +24,50 @@ use Rattle.peripheral.specs.declared.Peripheral.{Peripheral}
 use Rattle.peripheral.specs.declared.Completion.{Completion}
 use Rattle.peripheral.specs.declared.Next.{Next}
 use Rattle.peripheral.specs.declared.Next.the-variants.{Nothing, One}
-use Rattle.peripheral.specs.Sound.{within}
-use Rattle.peripheral.specs.Facts.{legal-payload, legal-read}
+use Rattle.peripheral.specs.Sound.{Block, within}
+use Rattle.peripheral.specs.Facts.{payload-block, read-block}
+use Rattle.peripheral.specs.Layout.{peripheralBytes}
+use Rattle.rules.specs.Rules.Channel.{peripheral}
 use Rattle.rules.specs.Rules.Out.{fatal, accept, defer, number}
 use Rattle.rules.specs.Rules.Peripheral.{change, withRequest, holding, post, requestOf, sizeFor, asking, ask, bytesOf, handing, getPc, bytesFor, answered, answeringWaiting}
 use Rattle.rules.specs.declared.Body.the-variants as B
 use Rattle.rules.specs.declared.Kept.the-variants as K
 use Rattle.rules.specs.declared.Out.{Out}
 use Rattle.rules.specs.declared.PeripheralChange.{PeripheralChange}
+use Rattle.engine.specs.Carried.{Changed, changedTo, changedBy}
 use Rattle.engine.specs.Laws.Tests.{denied}
 
 -- the same change of the same part
 pub changed : {p q : Peripheral} {a b : Out} → p ≡ q → a ≡ b → change p a ≡ change q b
 changed {p} {q} {a} {b} e f = ap (λ (z : Peripheral). change z a) e ∙ ap (change q) f
 
+-- ---- a change on the bytes
+
+pub as-change : (l : List ℕ) {x y : PeripheralChange} {z : Changed} → z ≡ changedBy peripheral x l → x ≡ y → z ≡ changedBy peripheral y l
+as-change l e f = e ∙ ap (λ (c : PeripheralChange). changedBy peripheral c l) f
+
+-- refused: no byte is stored
+pub refused-there : (l l′ : List ℕ) (p : Peripheral) (o : Out) {x : PeripheralChange} → change p fatal ≡ x → o ≡ fatal → l′ ≡ l → changedTo o l′ ≡ changedBy peripheral x l
+refused-there l l′ p o e k m = as-change l (rw (k, m)) e
+
+-- accepted: the whole part is stored, whatever was put to store it
+pub stored-there : (l l′ : List ℕ) (q : Peripheral) (o o′ : Out) {x : PeripheralChange} → eqb (o′ .number) 0 ≡ true → change q o′ ≡ x → o ≡ o′ → l′ ≡ put 12 (peripheralBytes q) l
+    → changedTo o l′ ≡ changedBy peripheral x l
+stored-there l l′ q o o′ n e k m =
+    as-change l (ap (λ (z : Out). changedTo z l′) k ∙ ap (changedTo o′) (subst (λ (t : Bool). l′ ≡ pick t (put 12 (peripheralBytes q) l) l) (sym n) m)) e
+
 -- ---- what a reachable configuration gives
 
 module _ (c : Config) (h : reachable c ≡ true) where
-  pub payload-pos : 1 ≤ payloadSize (c .r010)
-  payload-pos = let l = legal-payload (payloadSize (c .r010)) (payload-legal (c .r010) (reachable-r010 c h)) in omega (arith, l .least)
-
-  read-pos : 1 ≤ readSize (c .r010)
-  read-pos = let l = legal-read (readSize (c .r010)) (read-legal (c .r010) (reachable-r010 c h)) in omega (arith, l .least)
+  pub payload-there : Block (payloadSize (c .r010))
+  payload-there = payload-block (payloadSize (c .r010)) (payload-legal (c .r010) (reachable-r010 c h))
 
   -- a request made of its registers has sizes
-  pub request-sizes : (q : Request) (kind : Kind) (address length tag bytes : ℕ) → q ≡ requestOf c kind address length tag bytes
-      → (1 ≤ q .payload) × (1 ≤ q .readsize)
-  request-sizes q kind address length tag bytes e =
-      (omega (arith, payload-pos, ap (λ (z : Request). z .payload) e), omega (arith, read-pos, ap (λ (z : Request). z .readsize) e))
+  pub request-sizes : (q : Request) (kind : Kind) (address length tag bytes : ℕ) → q ≡ requestOf c kind address length tag bytes → Block (q .payload) × Block (q .readsize)
+  request-sizes q kind address length tag bytes e = (
+    subst (λ (z : Request). Block (z .payload)) (sym e) payload-there,
+    subst (λ (z : Request). Block (z .readsize)) (sym e) (read-block (readSize (c .r010)) (read-legal (c .r010) (reachable-r010 c h))),
+  )
 
 -- ---- posted writes
 
@@ -118,11 +134,11 @@ module _ (p : Peripheral) (q : Request) where
   ask-done free ok size next out e h es eo ho en k =
       passed _ _ (denied e h) (passed _ _ (denied (eo ∙ ap (λ (z : ℕ). within (q .address) (q .length) z) es) ho) (changed en k))
 
--- the recorded size that a request obeys is there
-pub size-pos : (q : Request) (k : Kind) → 1 ≤ q .payload → 1 ≤ q .readsize → 1 ≤ sizeFor k q
-size-pos q R.MemoryRead p r = r
-size-pos q R.IoRead p r = r
-size-pos q R.IoWrite p r = p
+-- the recorded size that a request obeys is a block's
+pub size-there : (q : Request) (k : Kind) → Block (q .payload) → Block (q .readsize) → Block (sizeFor k q)
+size-there q R.MemoryRead p r = r
+size-there q R.IoRead p r = r
+size-there q R.IoWrite p r = p
 
 -- an I/O write's bytes: those there are, 0 past them
 byte-there : (b : List ℕ) (n i : ℕ) → i < n → getD (take n (drop 3 b)) i 0 ≡ getD b (3 + i) 0

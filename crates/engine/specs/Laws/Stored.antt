@@ -17,16 +17,16 @@ use Rattle.peripheral.specs.Queues.{dropped}
 use Rattle.state.specs.Status.{status}
 use Rattle.state.specs.Layout.{stateLength, packed}
 use Rattle.state.specs.Packing.{packed-length}
-use Rattle.state.specs.Stored.{stored-config, stored-peripheral, stored-wires}
+use Rattle.state.specs.Stored.{stored-config, stored-part}
 use Rattle.state.specs.declared.State.{State}
 use Rattle.rules.specs.Rules.Out.{fatal, number}
-use Rattle.rules.specs.Rules.Channel.{Channel, peripheral, wires, Part, Act, Board, Change, nextOf, outOf, part, put, on, acting, settle, enableEdge}
+use Rattle.rules.specs.Rules.Channel.{Channel, peripheral, wires, Part, Act, Board, Change, nextOf, outOf, part, put, each, on, acting, settle, enableEdge}
 use Rattle.rules.specs.Rules.Lift.{lift, withStatus}
 use Rattle.rules.specs.Rules.Calls.{kept}
 use Rattle.rules.specs.Rules.Exchange.{channelsOf, reconfigured, reset008h}
 use Rattle.rules.specs.Statements.Channels as L
 use Rattle.rules.specs.Statements.Channels.{Acts, Settles}
-use Rattle.rules.specs.Proofs.Lift.{lift-change, lift-stays, put-same}
+use Rattle.rules.specs.Proofs.Lift.{lift-change, lift-stays, put-same, each-as}
 use Rattle.rules.specs.Proofs.Plans.{did}
 use Rattle.rules.specs.Proofs.Channels as H
 use Rattle.rules.specs.declared.Reply.{Reply}
@@ -69,12 +69,11 @@ module _ (s : State) (l₀ l : List ℕ) (e : l ≡ kept s l₀) where
   again : (t : State) → kept t l ≡ kept t l₀
   again t = ap (kept t) e ∙ over-over (packed s) (packed t) l₀ (le-of-eq (packed-length s ∙ sym (packed-length t)))
 
-  config-stored : (c : Config) → B.put 0 (configBytes c) l ≡ kept (record { config = c; peripheral = s .peripheral; wires = s .wires }) l₀
+  config-stored : (c : Config) → B.put 0 (configBytes c) l ≡ kept (each (λ k q. q) c s) l₀
   config-stored c = stored-config s l found c ∙ again _
 
   part-stored : (k : Channel) (q : Part k) → putPart k q l ≡ kept (put k q s) l₀
-  part-stored peripheral q = stored-peripheral s l found q ∙ again _
-  part-stored wires q = stored-wires s l found q ∙ again _
+  part-stored k q = stored-part s l found k q ∙ again _
 
   -- the part that a test picks: the one that stands there is not stored
   picked-stored : (k : Channel) (t : Bool) (q : Part k) → pick t (putPart k q l) l ≡ kept (put k (pick t q (part k s)) s) l₀
@@ -113,19 +112,34 @@ edge-stored wires s l₀ l was is e = go (was && not is)
 pub cleared-by : (s : State) (l l′ : List ℕ) → Packs s l → l′ ≡ B.put 0 (configBytes (reset008h s .config)) l → l′ ≡ kept (reset008h s) l
 cleared-by s l l′ h e = e ∙ config-stored s l l (unchanged s l h) (reset008h s .config)
 
-pub reconfigured-by : (s : State) (c : Config) (was is : Channels) (l l₁ l₂ l₃ : List ℕ)
-    → Packs s l
-    → was ≡ channelsOf (s .config)
-    → is ≡ channelsOf c
-    → l₁ ≡ B.put 0 (configBytes c) l
-    → l₂ ≡ edgeStored peripheral (was .peripheral) (is .peripheral) (s .peripheral) l₁
-    → l₃ ≡ edgeStored wires (was .wires) (is .wires) (s .wires) l₂
-    → l₃ ≡ kept (reconfigured s c) l
-reconfigured-by s c was is l l₁ l₂ l₃ h ew ei e₁ e₂ e₃ =
-    let s₁ : State = record { config = c; peripheral = s .peripheral; wires = s .wires } in
-    let s₂ : State = put peripheral (enableEdge peripheral (was .peripheral) (is .peripheral) (s .peripheral)) s₁ in
-    let f₁ : l₁ ≡ kept s₁ l = e₁ ∙ config-stored s l l (unchanged s l h) c in
-    let f₂ : l₂ ≡ kept s₂ l = e₂ ∙ edge-stored peripheral s₁ l l₁ (was .peripheral) (is .peripheral) f₁ in
-    e₃ ∙ edge-stored wires s₂ l l₂ (was .wires) (is .wires) f₂
-    ∙ ap (λ (z : Channels). kept (record { config = c; peripheral = enableEdge peripheral (z .peripheral) (is .peripheral) (s .peripheral); wires = enableEdge wires (z .wires) (is .wires) (s .wires) }) l) ew
-    ∙ ap (λ (z : Channels). kept (record { config = c; peripheral = enableEdge peripheral (on peripheral (s .config)) (z .peripheral) (s .peripheral); wires = enableEdge wires (on wires (s .config)) (z .wires) (s .wires) }) l) ei
+-- whether a channel is among those that are on
+abbrev pub isOn : Channel → Channels → Bool
+isOn peripheral x = x .peripheral
+isOn wires x = x .wires
+
+on-of : (k : Channel) (c : Config) → isOn k (channelsOf c) ≡ on k c
+on-of peripheral c = refl
+on-of wires c = refl
+
+-- SET_CONFIGURATION, put by put: the bytes m pack the state t, whose channels were and are on as found
+pub record Configured (s : State) (c : Config) (l : List ℕ) (was is : Channels) (t : State) (m : List ℕ) : Type 0 where
+  before : was ≡ channelsOf (s .config)
+  after : is ≡ channelsOf c
+  bytes : m ≡ kept t l
+
+module _ {s : State} {c : Config} {l : List ℕ} {was is : Channels} {m : List ℕ} where
+  pub configured-start : was ≡ channelsOf (s .config) → is ≡ channelsOf c → Packs s l → m ≡ B.put 0 (configBytes c) l → Configured s c l was is (each (λ k q. q) c s) m
+  configured-start ew ei h e = record { before = ew; after = ei; bytes = e ∙ config-stored s l l (unchanged s l h) c }
+
+  pub configured-then : {t : State} {n : List ℕ} (k : Channel) → n ≡ edgeStored k (isOn k was) (isOn k is) (part k t) m → Configured s c l was is t m
+      → Configured s c l was is (put k (enableEdge k (isOn k was) (isOn k is) (part k t)) t) n
+  configured-then {t} {n} k e h = record { before = h .before; after = h .after; bytes = e ∙ edge-stored k t l m (isOn k was) (isOn k is) (h .bytes) }
+
+  pub configured-done : Configured s c l was is (each (λ k. enableEdge k (isOn k was) (isOn k is)) c s) m → m ≡ kept (reconfigured s c) l
+  configured-done h =
+      h .bytes
+      ∙ ap (λ (t : State). kept t l)
+      (each-as (λ k. enableEdge k (isOn k was) (isOn k is)) (λ k. enableEdge k (on k (s .config)) (on k c)) c c s refl
+      (λ k.
+      ap (λ (x : Bool). enableEdge k x (isOn k is) (part k s)) (ap (isOn k) (h .before) ∙ on-of k (s .config))
+      ∙ ap (λ (x : Bool). enableEdge k (on k (s .config)) x (part k s)) (ap (isOn k) (h .after) ∙ on-of k c)))

@@ -14,7 +14,7 @@ use Rattle.registers.specs.declared.Config.{Config}
 use Rattle.wires.specs.Groups.{putPairs, sent, anyPending, packetOf, afterSent, settable, setWire, soundWires}
 use Rattle.wires.specs.Sending as G
 use Rattle.wires.specs.Sent.{sent-none, sent-some}
-use Rattle.wires.specs.Kept.{sound-sendable}
+use Rattle.wires.specs.Kept.{sound-view}
 use Rattle.wires.specs.declared.Wires.{Wires}
 use Rattle.wires.specs.declared.Sending.{Sending}
 use Rattle.rules.specs.Rules.Out.{fatal, accept, number, keep}
@@ -51,7 +51,7 @@ module _ (c : Config) (w : Wires) where
   pub send-none : (any : Bool) (r : WiresChange) → soundWires (on1 (c .r020)) w ≡ true → any ≡ anyPending w → not any ≡ true → r ≡ change w fatal → r ≡ getVwire c w
   unfolding getVwire
   send-none any r sd e h k =
-      let z = sound-sendable (on1 (c .r020)) w sd in
+      let z = sound-view (on1 (c .r020)) w sd in
       k ∙ ap (sentOut w) (sym (sent-none w (operatingCount (c .r020)) (z .from) (z .upto) (not-true _ (denied e h))))
 
   pub send-done : (any : Bool) (count : ℕ) (o : Sending) (out : Out)
@@ -65,7 +65,7 @@ module _ (c : Config) (w : Wires) where
       → change (o .next) out ≡ getVwire c w
   unfolding getVwire
   send-done any count o out rc sd e h ec eo k =
-      let z = sound-sendable (on1 (c .r020)) w sd in
+      let z = sound-view (on1 (c .r020)) w sd in
       let n = operatingCount (c .r020) in
       let one = count-range (c .r020) (reachable-r020 c rc) .0 in
       ap (change (o .next)) k

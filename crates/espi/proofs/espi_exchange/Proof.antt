@@ -3,7 +3,9 @@ use borrow.Author.Tests.{lt-ltb, le-ltb}
 use mathlib.Core.Path.{refl}
 use denote.Ref.{now}
 use native.Mathlib.Omega.{arith}
-use Rattle.espi.specs.Boundary.{ok-is, loaded-sound, loaded-packs, exchanged-by, exchange-fits}
+use Rattle.espi.specs.Boundary.{ok-is, loadable, exchanged-by, exchange-fits}
+use Rattle.wires.specs.Layout.{wiresOf, words-back}
+use mathlib.Core.Path.{ap, _∙_}
 use Rattle.rules.specs.Rules.Calls.{exchangeCall}
 use borrow.Author.Needs.{needs}
 use Rattle.espi.proofs.espi_exchange.Statement.{statement}
@@ -27,17 +29,17 @@ returns-4 c = passed _ _ (le-ltb _ _ (c .before .before .before .if1 .left)) (pa
 
 returns-5 : tie.Need-returns-5
 unfolding exchangeCall
-returns-5 c = passed _ _ (le-ltb _ _ (c .before .before .before .before .before .before .before .if1 .left)) (passed _ _ (le-ltb _ _ (c .before .before .before .before .before .before .if2 .left)) (passed _ _ (le-ltb _ _ (c .before .before .before .before .before .if3 .left)) (passed _ _ (le-ltb _ _ (c .before .before .before .before .if4 .left)) (taken _ _ (ok-is _ (c .before .before .load .result) (c .before .before .load .ensures) (c .if5 .taken)) refl))))
+returns-5 c = passed _ _ (le-ltb _ _ (c .before .before .before .before .before .before .if1 .left)) (passed _ _ (le-ltb _ _ (c .before .before .before .before .before .if2 .left)) (passed _ _ (le-ltb _ _ (c .before .before .before .before .if3 .left)) (passed _ _ (le-ltb _ _ (c .before .before .before .if4 .left)) (taken _ _ (ok-is _ _ (c .before .holds .ensures) (c .if5 .taken)) refl))))
 
 exchange-requires : tie.Need-exchange-requires
-exchange-requires c κs = loaded-packs (now (c .before .before .before .before .before .before .before .before .before .before .before .before .before .before .before .args .state)) (c .before .before .before .before .load .result) (c .before .before .before .before .load .ensures) (omega arith) (c .before .before .if5 .left)
+exchange-requires c κs = loadable (now (c .before .before .before .before .before .before .before .before .before .before .before .before .before .before .before .args .state)) _ (c .before .before .before .before .holds .ensures) (omega arith) (c .before .before .before .if5 .left)
 
 commit-requires : tie.Need-commit-requires
-commit-requires c κs = let a = c .before .before .before .before .before .before .before .before .before .before .before .before .before .before .before .before .before .before .before .before .args in let f = exchange-fits (c .before .before .before .before .before .before .before .before .before .load .result .state) (now (a .state)) _ (now (a .command)) _ (loaded-sound (now (a .state)) (c .before .before .before .before .before .before .before .before .before .load .result) (c .before .before .before .before .before .before .before .before .before .load .ensures) (c .before .before .before .before .before .before .before .if5 .left)) (c .before .before .before .before .exchange .ensures) in (omega arith, omega arith, omega arith, f .0, f .1)
+commit-requires c κs = let a = c .before .before .before .before .before .before .before .before .before .before .before .before .before .before .before .before .before .before .before .before .args in let l = now (a .state) in let h = loadable l _ (c .before .before .before .before .before .before .before .before .before .holds .ensures) (omega arith) (c .before .before .before .before .before .before .before .before .if5 .left) in let f = exchange-fits l _ (now (a .command)) _ (c .before .before .before .before .exchange .result) h (ap wiresOf (c .before .before .before .before .before .before .of .ensures) ∙ words-back l (λ k. omega (arith, c .before .before .before .before .before .before .before .before .before .before .before .before .before .before .before .before .before .before .before .slice-known .given k))) (c .before .before .before .before .exchange .ensures) in (omega arith, omega arith, omega arith, f .0, f .1)
 
 returns-6 : tie.Need-returns-6
 unfolding exchangeCall
-returns-6 c = let a = c .before .before .before .before .before .before .before .before .before .before .before .before .before .before .before .before .before .before .before .before .before .before .before .before .before .args in passed _ _ (le-ltb _ _ (c .before .before .before .before .before .before .before .before .before .before .before .before .before .before .before .before .before .before .before .if1 .left)) (passed _ _ (le-ltb _ _ (c .before .before .before .before .before .before .before .before .before .before .before .before .before .before .before .before .before .before .if2 .left)) (passed _ _ (le-ltb _ _ (c .before .before .before .before .before .before .before .before .before .before .before .before .before .before .before .before .before .if3 .left)) (passed _ _ (le-ltb _ _ (c .before .before .before .before .before .before .before .before .before .before .before .before .before .before .before .before .if4 .left)) (passed _ _ (ok-is _ (c .before .before .before .before .before .before .before .before .before .before .before .before .before .before .load .result) (c .before .before .before .before .before .before .before .before .before .before .before .before .before .before .load .ensures) (c .before .before .before .before .before .before .before .before .before .before .before .before .if5 .left)) (exchanged-by (now (a .state)) (c .before .before .before .before .before .before .before .before .before .before .before .before .before .before .load .result) (c .before .before .before .before .before .before .before .before .before .before .before .before .before .before .load .ensures) (c .before .before .before .before .before .before .before .before .before .exchange .result) _ (now (a .command)) (now (a .reply)) _ (now (a .write-store)) _ (now (a .read-store)) _ (c .before .before .before .before .before .before .before .before .before .exchange .ensures) (c .before .before .before .before .commit .ensures))))))
+returns-6 c = passed _ _ (le-ltb _ _ (c .before .before .before .before .before .before .before .before .before .before .before .before .before .before .before .before .before .before .before .if1 .left)) (passed _ _ (le-ltb _ _ (c .before .before .before .before .before .before .before .before .before .before .before .before .before .before .before .before .before .before .if2 .left)) (passed _ _ (le-ltb _ _ (c .before .before .before .before .before .before .before .before .before .before .before .before .before .before .before .before .before .if3 .left)) (passed _ _ (le-ltb _ _ (c .before .before .before .before .before .before .before .before .before .before .before .before .before .before .before .before .if4 .left)) (passed _ _ (ok-is _ _ (c .before .before .before .before .before .before .before .before .before .before .before .before .before .before .holds .ensures) (c .before .before .before .before .before .before .before .before .before .before .before .before .before .if5 .left)) (let a = c .before .before .before .before .before .before .before .before .before .before .before .before .before .before .before .before .before .before .before .before .before .before .before .before .before .args in let l = now (a .state) in exchanged-by (now (a .state)) (c .before .before .before .before .before .before .before .before .before .exchange .result) _ _ (now (a .command)) (now (a .reply)) _ (now (a .write-store)) _ (now (a .read-store)) _ (ap wiresOf (c .before .before .before .before .before .before .before .before .before .before .before .of .ensures) ∙ words-back l (λ k. omega (arith, c .before .before .before .before .before .before .before .before .before .before .before .before .before .before .before .before .before .before .before .before .before .before .before .before .slice-known .given k))) (c .before .before .before .before .before .before .before .before .before .exchange .ensures) (c .before .before .before .before .commit .ensures))))))
 
 pub espi-exchange-spec : {M : Type 1} → statement M
 espi-exchange-spec =
@@ -50,6 +52,7 @@ espi-exchange-spec =
     (λ c κs. search needs)
     (λ c. search needs)
     returns-5
+    (λ c κs. search needs)
     exchange-requires
     commit-requires
     (λ c. search needs)

@@ -3,9 +3,9 @@ use borrow.Author.Tests.{lt-ltb, le-ltb}
 use mathlib.Core.Path.{refl}
 use denote.Ref.{now}
 use Rattle.espi.specs.Boundary.{ok-is, changed-by}
-use Rattle.rules.specs.Rules.Calls.{espiResetCall, resetCall}
 use Rattle.rules.specs.Rules.Reset.{espiReset}
 use Rattle.rules.specs.Rules.Exchange.{wasReset}
+use Rattle.rules.specs.Rules.Calls.{resetCall, espiResetCall}
 use borrow.Author.Needs.{needs}
 use Rattle.espi.proofs.espi_reset.Statement.{statement}
 use Rattle.espi.proofs.espi_reset.Tie as tie
@@ -16,11 +16,11 @@ returns c = taken _ _ (lt-ltb _ _ (c .if1 .taken)) refl
 
 returns-2 : tie.Need-returns-2
 unfolding espiResetCall resetCall
-returns-2 c = passed _ _ (le-ltb _ _ (c .before .before .before .before .if1 .left)) (taken _ _ (ok-is _ (c .before .before .load .result) (c .before .before .load .ensures) (c .if2 .taken)) refl)
+returns-2 c = passed _ _ (le-ltb _ _ (c .before .before .before .if1 .left)) (taken _ _ (ok-is _ _ (c .before .holds .ensures) (c .if2 .taken)) refl)
 
 returns-3 : tie.Need-returns-3
 unfolding espiResetCall resetCall
-returns-3 c = passed _ _ (le-ltb _ _ (c .before .before .before .before .before .before .before .before .before .before .if1 .left)) (passed _ _ (ok-is _ (c .before .before .before .before .before .before .before .before .load .result) (c .before .before .before .before .before .before .before .before .load .ensures) (c .before .before .before .before .before .before .if2 .left)) (changed-by (now (c .before .before .before .before .before .before .before .before .before .before .before .before .args .state)) (c .before .before .before .before .before .before .before .before .load .result) (c .before .before .before .before .before .before .before .before .load .ensures) (wasReset espiReset) _ _ (c .before .before .before .before .espi-reset .ensures) (c .before .before .pack .ensures)))
+returns-3 c = passed _ _ (le-ltb _ _ (c .before .before .before .before .before .before .before .before .before .before .if1 .left)) (passed _ _ (ok-is _ _ (c .before .before .before .before .before .before .before .before .holds .ensures) (c .before .before .before .before .before .before .before .if2 .left)) (changed-by (now (c .before .before .before .before .before .before .before .before .before .before .before .before .args .state)) (wasReset espiReset) _ _ _ (c .before .before .before .before .before .unpack .ensures) (c .before .before .before .before .espi-reset .ensures) (c .before .before .pack .ensures)))
 
 pub espi-reset-spec : {M : Type 1} → statement M
 espi-reset-spec =
@@ -30,6 +30,7 @@ espi-reset-spec =
     (λ c κs. search needs)
     (λ c. search needs)
     returns-2
+    (λ c κs. search needs)
     (λ c κs. search needs)
     (λ c κs. search needs)
     (λ c. search needs)

@@ -3,12 +3,9 @@ use borrow.Author.Tests.{lt-ltb, le-ltb}
 use mathlib.Core.Path.{refl}
 use denote.Ref.{now}
 use native.Mathlib.Omega.{arith}
-use Rattle.espi.specs.Boundary.{ok-is, loaded-packs, settled-by}
+use Rattle.espi.specs.Boundary.{ok-is, loadable, settled-by}
 use Rattle.rules.specs.Rules.Wires as W
-use Rattle.rules.specs.Rules.Channel.{wires}
-use Rattle.rules.specs.Rules.Lift.{lift}
 use Rattle.rules.specs.Rules.Calls.{setWireCall}
-use Rattle.state.specs.declared.State.{State}
 use borrow.Author.Needs.{needs}
 use Rattle.espi.proofs.espi_set_wire.Statement.{statement}
 use Rattle.espi.proofs.espi_set_wire.Tie as tie
@@ -19,14 +16,14 @@ returns c = taken _ _ (lt-ltb _ _ (c .if1 .taken)) refl
 
 returns-2 : tie.Need-returns-2
 unfolding setWireCall W.settle
-returns-2 c = passed _ _ (le-ltb _ _ (c .before .before .before .before .if1 .left)) (taken _ _ (ok-is _ (c .before .before .load .result) (c .before .before .load .ensures) (c .if2 .taken)) refl)
+returns-2 c = passed _ _ (le-ltb _ _ (c .before .before .before .if1 .left)) (taken _ _ (ok-is _ _ (c .before .holds .ensures) (c .if2 .taken)) refl)
 
 set-wire-requires : tie.Need-set-wire-requires
-set-wire-requires c κs = loaded-packs (now (c .before .before .before .before .before .before .before .before .args .state)) (c .before .before .before .before .load .result) (c .before .before .before .before .load .ensures) (omega arith) (c .before .before .if2 .left)
+set-wire-requires c κs = loadable (now (c .before .before .before .before .before .before .args .state)) _ (c .before .before .holds .ensures) (omega arith) (c .before .if2 .left)
 
 returns-3 : tie.Need-returns-3
 unfolding setWireCall W.settle
-returns-3 c = let a = c .before .before .before .before .before .before .before .before .before .before .before .before .args in passed _ _ (le-ltb _ _ (c .before .before .before .before .before .before .before .before .before .before .if1 .left)) (passed _ _ (ok-is _ (c .before .before .before .before .before .before .before .before .load .result) (c .before .before .before .before .before .before .before .before .load .ensures) (c .before .before .before .before .before .before .if2 .left)) (settled-by (now (a .state)) (c .before .before .before .before .before .before .before .before .load .result) (c .before .before .before .before .before .before .before .before .load .ensures) (λ (s : State). lift wires s (W.setting (s .config) (s .wires) (a .index) (a .bit) (a .value))) (c .before .before .before .set-wire .result) _ (c .before .before .before .set-wire .ensures)))
+returns-3 c = passed _ _ (le-ltb _ _ (c .before .before .before .before .before .before .before .before .if1 .left)) (passed _ _ (ok-is _ _ (c .before .before .before .before .before .before .holds .ensures) (c .before .before .before .before .before .if2 .left)) (settled-by (now (c .before .before .before .before .before .before .before .before .before .before .args .state)) _ (c .before .before .before .set-wire .result) _ (c .before .before .before .set-wire .ensures)))
 
 pub espi-set-wire-spec : {M : Type 1} → statement M
 espi-set-wire-spec =

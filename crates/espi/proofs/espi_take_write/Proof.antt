@@ -3,12 +3,9 @@ use borrow.Author.Tests.{lt-ltb, le-ltb}
 use mathlib.Core.Path.{refl}
 use denote.Ref.{now}
 use native.Mathlib.Omega.{arith}
-use Rattle.espi.specs.Boundary.{ok-is, loaded-packs, taken-by}
+use Rattle.espi.specs.Boundary.{ok-is, loadable, taken-by}
 use Rattle.rules.specs.Rules.Peripheral as P
-use Rattle.rules.specs.Rules.Channel.{peripheral}
-use Rattle.rules.specs.Rules.Lift.{lift}
 use Rattle.rules.specs.Rules.Calls.{takeWriteCall}
-use Rattle.state.specs.declared.State.{State}
 use borrow.Author.Needs.{needs}
 use Rattle.espi.proofs.espi_take_write.Statement.{statement}
 use Rattle.espi.proofs.espi_take_write.Tie as tie
@@ -27,14 +24,14 @@ returns-3 c = passed _ _ (le-ltb _ _ (c .before .before .if1 .left)) (passed _ _
 
 returns-4 : tie.Need-returns-4
 unfolding takeWriteCall P.settle
-returns-4 c = passed _ _ (le-ltb _ _ (c .before .before .before .before .before .before .if1 .left)) (passed _ _ (le-ltb _ _ (c .before .before .before .before .before .if2 .left)) (passed _ _ (le-ltb _ _ (c .before .before .before .before .if3 .left)) (taken _ _ (ok-is _ (c .before .before .load .result) (c .before .before .load .ensures) (c .if4 .taken)) refl)))
+returns-4 c = passed _ _ (le-ltb _ _ (c .before .before .before .before .before .if1 .left)) (passed _ _ (le-ltb _ _ (c .before .before .before .before .if2 .left)) (passed _ _ (le-ltb _ _ (c .before .before .before .if3 .left)) (taken _ _ (ok-is _ _ (c .before .holds .ensures) (c .if4 .taken)) refl)))
 
 take-write-requires : tie.Need-take-write-requires
-take-write-requires c κs = loaded-packs (now (c .before .before .before .before .before .before .before .before .before .before .before .before .before .args .state)) (c .before .before .before .before .before .load .result) (c .before .before .before .before .before .load .ensures) (omega arith) (c .before .before .before .if4 .left)
+take-write-requires c κs = loadable (now (c .before .before .before .before .before .before .before .before .before .before .before .before .args .state)) _ (c .before .before .before .before .holds .ensures) (omega arith) (c .before .before .before .if4 .left)
 
 returns-5 : tie.Need-returns-5
 unfolding takeWriteCall P.settle
-returns-5 c = passed _ _ (le-ltb _ _ (c .before .before .before .before .before .before .before .before .before .before .before .before .before .before .before .before .before .if1 .left)) (passed _ _ (le-ltb _ _ (c .before .before .before .before .before .before .before .before .before .before .before .before .before .before .before .before .if2 .left)) (passed _ _ (le-ltb _ _ (c .before .before .before .before .before .before .before .before .before .before .before .before .before .before .before .if3 .left)) (passed _ _ (ok-is _ (c .before .before .before .before .before .before .before .before .before .before .before .before .before .load .result) (c .before .before .before .before .before .before .before .before .before .before .before .before .before .load .ensures) (c .before .before .before .before .before .before .before .before .before .before .before .if4 .left)) (taken-by (now (c .before .before .before .before .before .before .before .before .before .before .before .before .before .before .before .before .before .before .before .before .before .args .state)) (c .before .before .before .before .before .before .before .before .before .before .before .before .before .load .result) (c .before .before .before .before .before .before .before .before .before .before .before .before .before .load .ensures) (λ (s : State). lift peripheral s (P.taken (s .peripheral))) (c .before .before .before .before .before .before .before .take-write .result) _ _ _ (c .before .before .before .before .before .before .before .take-write .ensures) (c .before .before .before .put-write .ensures)))))
+returns-5 c = passed _ _ (le-ltb _ _ (c .before .before .before .before .before .before .before .before .before .before .before .before .before .before .before .before .if1 .left)) (passed _ _ (le-ltb _ _ (c .before .before .before .before .before .before .before .before .before .before .before .before .before .before .before .if2 .left)) (passed _ _ (le-ltb _ _ (c .before .before .before .before .before .before .before .before .before .before .before .before .before .before .if3 .left)) (passed _ _ (ok-is _ _ (c .before .before .before .before .before .before .before .before .before .before .before .before .holds .ensures) (c .before .before .before .before .before .before .before .before .before .before .before .if4 .left)) (taken-by (now (c .before .before .before .before .before .before .before .before .before .before .before .before .before .before .before .before .before .before .before .before .args .state)) _ (c .before .before .before .before .before .before .before .take-write .result) _ _ _ _ (c .before .before .before .before .before .before .before .before .before .unpack .ensures) (c .before .before .before .before .before .before .before .take-write .ensures) (c .before .before .before .put-write .ensures)))))
 
 pub espi-take-write-spec : {M : Type 1} → statement M
 espi-take-write-spec =
@@ -46,6 +43,7 @@ espi-take-write-spec =
     (λ c κs. search needs)
     (λ c. search needs)
     returns-4
+    (λ c κs. search needs)
     take-write-requires
     (λ c κs. search needs)
     (λ c. search needs)

@@ -1,14 +1,14 @@
-use native.Mathlib.Nat.{mod-lt, mod-add-mod}
 use native.Mathlib.Omega.{arith}
+use Rattle.peripheral.specs.Coded.{edge-low}
 use borrow.Author.Needs.{needs}
 use Rattle.peripheral.proofs.at_edge.Statement.{statement}
 use Rattle.peripheral.proofs.at_edge.Tie as tie
 
-add-result : tie.Need-add-result
-add-result c = record { fits = omega (arith, mod-lt (c .before .before .before .args .q .address) {m = c .before .before .before .args .q .payload} (omega arith)) }
+rem-at : tie.Need-rem-at
+rem-at c = omega (arith, c .before .before .pre .least)
 
 returns : tie.Need-returns
-returns c = rw (mod-add-mod (c .before .before .before .args .q .address) (c .before .before .before .args .q .payload) (c .before .before .before .args .sent))
+returns c = let a = c .before .before .before .args in rw (edge-low (a .q .address) (a .q .payload) (a .sent) (c .before .before .before .pre))
 
 pub at-edge-spec : {M : Type 1} → statement M
-at-edge-spec = tie.close (tie.spec (λ c. search needs) (λ c. search needs) add-result (λ c. search needs) returns)
+at-edge-spec = tie.close (tie.spec (λ c. search needs) (λ c. search needs) rem-at returns)

@@ -372,10 +372,10 @@ dropped v h q xs e cs b k ke ns hi success d l =
 -- ---- wires
 
 pub third : P.SentByTheThird
-third v h g lo hi m cs b go n =
+third v h g is m cs b go n =
     let s = stands h in
     let good = holds-sound (v .state) (h .long) (h .passes) in
-    let t = sent-by-the-third (worldOf v) good g lo hi m cs b (sym (unended-at s cs b wires) ∙ go) (subst (λ (k : ℕ). 3 ≤ k) (gets-at s cs b) n) in
+    let t = sent-by-the-third (worldOf v) good g is m cs b (sym (unended-at s cs b wires) ∙ go) (subst (λ (k : ℕ). 3 ≤ k) (gets-at s cs b) n) in
     let x = split-handed (t .before) (t .call ∷ t .after) (t .split) b in
     let p = run-at s (t .before) (x .0) in
     let hc = head-handed (t .call) (t .after) (x .1) in

@@ -9,7 +9,8 @@ use lib.ListN.{length}
 use Rattle.base.specs.Bytes.{over}
 use Rattle.registers.specs.Registers.{payloadSize}
 use Rattle.pieces.specs.Pieces.{blocks}
-use Rattle.wires.specs.Groups.{markAt}
+use Rattle.wires.specs.Table.{isGroup}
+use Rattle.wires.specs.Groups.{markAt, groupByte}
 use Rattle.peripheral.specs.declared.Np.the-variants.{Free, Waiting}
 use Rattle.peripheral.specs.declared.Request.{Request}
 use Rattle.state.specs.Status.{status}
@@ -26,7 +27,7 @@ use Rattle.rules.specs.Statements.Words.{GetPc, NonPosted, Answer, Ending, Exac
 use Rattle.rules.specs.Statements.Demand3.{header, pieceBody, joinedData, crcFine, lookBytes}
 use Rattle.rules.specs.Statements.Answers.{noStart, ForHeld}
 use Rattle.rules.specs.Statements.WireEvents as W
-use Rattle.rules.specs.Statements.Bound.{Carries, groupByte}
+use Rattle.rules.specs.Statements.Bound.{Carries}
 use Rattle.rules.specs.Statements.Apart.{others, Alike, SameButWires, SameButPeripheral}
 use Rattle.promises.specs.ByteRuns.{ByteWorld, ByteOutcome, byteStep, byteRun}
 use Rattle.promises.specs.Statements.Lifted.{Holding, worldOf, replyIn, lentReply, lentReport, Meets}
@@ -243,7 +244,7 @@ pub record SentBy (g n : ℕ) (v : ByteWorld) (cs : List Call) : Type 0 where
   pub carries : Carries (replyIn (byteStep (byteRun v before) call)) g (groupByte (stateIn (byteRun v before) .wires) g)
 
 abbrev pub SentByTheThird : Type 0
-SentByTheThird = (v : ByteWorld) → Holding v → (g : ℕ) → 4 ≤ g → g ≤ 6 → markAt (stateIn v .wires) g ≡ true
+SentByTheThird = (v : ByteWorld) → Holding v → (g : ℕ) → isGroup g ≡ true → markAt (stateIn v .wires) g ≡ true
     → (cs : List Call) → allHanded cs ≡ true → byteUnended wires v cs ≡ true → 3 ≤ byteGetsIn v cs → SentBy g 3 v cs
 
 -- ---- no channel tells on another

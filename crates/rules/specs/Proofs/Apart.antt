@@ -15,6 +15,7 @@ use Rattle.crc.specs.Crc.{crc}
 use Rattle.registers.specs.Registers.{fresh008, readAt, writeAt}
 use Rattle.registers.specs.declared.Config.{Config}
 use Rattle.command.specs.declared.Command as C₀
+use Rattle.state.specs.Parts.{sum, sum-as}
 use Rattle.state.specs.Status.{status}
 use Rattle.state.specs.declared.State.{State}
 use Rattle.rules.specs.Rules.Out.{responseByte}
@@ -22,7 +23,7 @@ use Rattle.rules.specs.Rules.Channel.{Channel, peripheral, wires, Part, 
 use Rattle.rules.specs.Rules.Channel as N
 use Rattle.rules.specs.Rules.Lift.{lift, withStatus, show}
 use Rattle.rules.specs.Rules.Exchange.{reconfigured, configReset}
-use Rattle.rules.specs.Rules.Reply.{closed, replyBytes, bodyBytes, keptBytes}
+use Rattle.rules.specs.Rules.Reply.{closed, replyBytes, keptBytes}
 use Rattle.rules.specs.Rules.Step.{World, Call, Outcome, exchange, board, reset, short, lend, step, run, performed, served, shortStores, shortFor, writeLength, readLength, replyLength}
 use Rattle.rules.specs.Statements.Plans.{Settled, Admits}
 use Rattle.rules.specs.Statements.Channels.{Acts, Settles}
@@ -35,12 +36,13 @@ use Rattle.rules.specs.Statements.Apart.{storesOf, clear, isCommandOf, i
 use Rattle.rules.specs.Proofs.Plans as Q
 use Rattle.rules.specs.Proofs.Channels as L₁
 use Rattle.rules.specs.Proofs.Peripheral.Apart as P₁
+use Rattle.rules.specs.Proofs.Peripheral.Status.{avail-bit}
 use Rattle.rules.specs.Proofs.Wires.Apart as W₁
-use Rattle.rules.specs.Proofs.Stores.{lacks, SameLack, Owns, kept-other}
+use Rattle.rules.specs.Proofs.Stores.{lacks, SameLack, bodyIn, Owns, kept-other}
 use Rattle.rules.specs.Proofs.Whose.{begins, own-command}
 use Rattle.rules.specs.Proofs.Effects.{above}
 use Rattle.rules.specs.Proofs.Cases.{both}
-use Rattle.rules.specs.Proofs.Lift.{out-change, part-stays, lift-change, put-config, put-both, part-each, same-is, same-turned, planned}
+use Rattle.rules.specs.Proofs.Lift.{out-change, part-stays, lift-change, put-config, put-both, part-each, same-is, same-turned, own-or-other, planned}
 use Rattle.rules.specs.Proofs.Reads.{reads}
 use Rattle.rules.specs.Proofs.Reply.{closed-as, closed-length, status-bits, status-small, over-long}
 use Rattle.rules.specs.declared.Body.the-variants as B
@@ -54,12 +56,6 @@ use Rattle.rules.specs.declared.Response.the-variants.{Accept, NonFatal}
 
 -- ---- the status without x's bits: the others' are left
 
-abbrev sum : (Channel → ℕ) → ℕ
-sum f = f peripheral + f wires
-
-sum-as : (f g : Channel → ℕ) → ((k : Channel) → f k ≡ g k) → sum f ≡ sum g
-sum-as f g h = rw (h peripheral, h wires)
-
 -- the bits that never change: VWIRE_FREE
 abbrev fixed : Channel → ℕ
 fixed peripheral = 0
@@ -70,7 +66,7 @@ left x s = sum (λ k. pick (same x k) (fixed k) (bits k (part k s)))
 
 cleared : (x : Channel) (s : State) → clear x (status s) ≡ left x s
 unfolding status
-cleared peripheral s = omega (arith, status-bits s)
+cleared peripheral s = omega (arith, status-bits s, avail-bit s)
 cleared wires s = omega (arith, status-bits s)
 
 left-alike : (x : Channel) (s t : State) → StatesAlike x s t → left x s ≡ left x t
@@ -104,27 +100,30 @@ closed-but x m s =
     ∙ ap (λ (n : ℕ). m ++ (clear x n ∷ [])) two
 
 -- what a plan says, in two states that are alike but for x, its body's bytes being the same
-abbrev bodyOf : Say → List ℕ → List ℕ
-bodyOf Y.Silent reads = []
-bodyOf (Y.Said r body) reads = bodyBytes body reads
+abbrev bodyOf : Say → World → List ℕ
+bodyOf Y.Silent w = []
+bodyOf (Y.Said r body) w = bodyIn w body
 
-module _ (x : Channel) (s t : State) (h : StatesAlike x s t) (l m : List ℕ) where
-  said-but : (y : Say) → bodyOf y l ≡ bodyOf y m → replyBut x (replyBytes (withStatus y (status s)) l) ≡ replyBut x (replyBytes (withStatus y (status t)) m)
+module _ (x : Channel) (s t : State) (h : StatesAlike x s t) (w v : World) where
+  abbrev replyOn : World → Say → ℕ → List ℕ
+  replyOn u y word = replyBytes (withStatus y word) (u .state .wires) (u .read)
+
+  said-but : (y : Say) → bodyOf y w ≡ bodyOf y v → replyBut x (replyOn w y (status s)) ≡ replyBut x (replyOn v y (status t))
   unfolding replyBytes
   said-but Y.Silent e = refl
   said-but (Y.Said r body) e =
-      closed-but x (responseByte r ∷ bodyBytes body l) s
-      ∙ ap (λ (z : ℕ). (responseByte r ∷ bodyBytes body l) ++ (z ∷ [])) (status-alike x s t h)
+      closed-but x (responseByte r ∷ bodyIn w body) s
+      ∙ ap (λ (z : ℕ). (responseByte r ∷ bodyIn w body) ++ (z ∷ [])) (status-alike x s t h)
       ∙ ap (λ (z : List ℕ). (responseByte r ∷ z) ++ (clear x (status t) ∷ [])) e
-      ∙ sym (closed-but x (responseByte r ∷ bodyBytes body m) t)
+      ∙ sym (closed-but x (responseByte r ∷ bodyIn v body) t)
 
-  said-length : (y : Say) → bodyOf y l ≡ bodyOf y m → length (replyBytes (withStatus y (status s)) l) ≡ length (replyBytes (withStatus y (status t)) m)
+  said-length : (y : Say) → bodyOf y w ≡ bodyOf y v → length (replyOn w y (status s)) ≡ length (replyOn v y (status t))
   unfolding replyBytes
   said-length Y.Silent e = refl
   said-length (Y.Said r body) e =
-      closed-length (responseByte r ∷ bodyBytes body l) (status s)
+      closed-length (responseByte r ∷ bodyIn w body) (status s)
       ∙ ap (λ (z : List ℕ). length (responseByte r ∷ z) + 3) e
-      ∙ sym (closed-length (responseByte r ∷ bodyBytes body m) (status t))
+      ∙ sym (closed-length (responseByte r ∷ bodyIn v body) (status t))
 
 -- ---- states and worlds alike but for x
 
@@ -182,30 +181,30 @@ record Together (x : Channel) (o q : Outcome) : Type 0 where
 module _ (x : Channel) (w v : World) (h : Alike x w v) where
   -- a plan that says and keeps the same in both, with the status of s and t, and s′ and t′ after it
   exchanged-together : (b : List ℕ) (n : ℕ) (y : Say) (kept : Kept) (s t s′ t′ : State) → StatesAlike x s t → StatesAlike x s′ t′
-      → bodyOf y (w .read) ≡ bodyOf y (v .read)
+      → bodyOf y w ≡ bodyOf y v
       → SameLack (over (keptBytes kept b) (w .write)) (w .read) (over (keptBytes kept b) (v .write)) (v .read)
       → Together x (performed w b (record { number = n; reply = withStatus y (status s); next = s′; kept = kept }))
       (performed v b (record { number = n; reply = withStatus y (status t); next = t′; kept = kept }))
   unfolding performed seen
   exchanged-together b n y kept s t s′ t′ g g′ e l =
-      let reply : List ℕ = replyBut x (replyBytes (withStatus y (status s)) (w .read)) in
-      let value : ℕ = length (replyBytes (withStatus y (status t)) (v .read)) in
+      let reply : List ℕ = replyBut x (replyBytes (withStatus y (status s)) (w .state .wires) (w .read)) in
+      let value : ℕ = length (replyBytes (withStatus y (status t)) (v .state .wires) (v .read)) in
       record {
         alike =
-            ap (λ (z : ℕ). record { number = n; value = z; report = []; reply = reply }) (said-length x s t g (w .read) (v .read) y e)
-            ∙ ap (λ (z : List ℕ). record { number = n; value = value; report = []; reply = z }) (said-but x s t g (w .read) (v .read) y e);
+            ap (λ (z : ℕ). record { number = n; value = z; report = []; reply = reply }) (said-length x s t g w v y e)
+            ∙ ap (λ (z : List ℕ). record { number = n; value = value; report = []; reply = z }) (said-but x s t g w v y e);
         next = record { state = g′; stores = λ z f. owns z .written (keptBytes kept b) (w .write) (w .read) (v .write) (v .read) (h .stores z f); room = l };
       }
 
   -- above all channels nothing is kept and no store is read
-  above-together : (b : List ℕ) (n : ℕ) (y : Say) (s′ t′ : State) → StatesAlike x s′ t′ → bodyOf y (w .read) ≡ bodyOf y (v .read)
+  above-together : (b : List ℕ) (n : ℕ) (y : Say) (s′ t′ : State) → StatesAlike x s′ t′ → bodyOf y w ≡ bodyOf y v
       → Together x (performed w b (record { number = n; reply = withStatus y (status (w .state)); next = s′; kept = K.Nothing }))
       (performed v b (record { number = n; reply = withStatus y (status (v .state)); next = t′; kept = K.Nothing }))
   unfolding over
   above-together b n y s′ t′ g e = exchanged-together b n y K.Nothing (w .state) (v .state) s′ t′ (h .state) g e (h .room)
 
   module _ (k : Channel) (other : same x k ≡ false) where
-    out-together : (b : List ℕ) (q : Part k) (n : ℕ) (y : Say) (kept : Kept) → bodyOf y (w .read) ≡ bodyOf y (v .read) → ownKept k kept ≡ true
+    out-together : (b : List ℕ) (q : Part k) (n : ℕ) (y : Say) (kept : Kept) → bodyOf y w ≡ bodyOf y v → ownKept k kept ≡ true
         → Together x (performed w b (lift k (w .state) (change k q (record { number = n; say = y; kept = kept }))))
         (performed v b (lift k (v .state) (change k q (record { number = n; say = y; kept = kept }))))
     out-together b q n y kept e o =
@@ -219,7 +218,7 @@ module _ (x : Channel) (w v : World) (h : Alike x w v) where
         → Together x (performed w b (lift k (w .state) c)) (performed v b (lift k (v .state) c))
     acts-together b {p = p} L.Acts.refused = out-together b p 1 _ K.Nothing refl (owns k .nothing)
     acts-together b (L.Acts.accepted q body kept o n) =
-        out-together b q 0 (Y.Said _ body) kept (owns k .bytes body (w .write) (w .read) (v .write) (v .read) o (h .stores k other)) n
+        out-together b q 0 (Y.Said _ body) kept (owns k .bytes body w v o (h .state .parts k other) (h .stores k other)) n
 
     -- its change is the same in both
     acting-alike : (o : Command k) (b : List ℕ)
@@ -300,14 +299,24 @@ middle true b c e = absurd (true≢false e)
 middle false true c e = absurd (true≢false e)
 middle false false c e = refl
 
+-- channel 0 alone has stores
+no-stores : (y : Channel) → same peripheral y ≡ false → (write read : List ℕ) → storesOf y write read ≡ []
+no-stores peripheral e write read = absurd (true≢false e)
+no-stores wires e write read = refl
+
+same-stores : (y : Channel) → same peripheral y ≡ false → (write read write′ read′ : List ℕ) → storesOf y write read ≡ storesOf y write′ read′
+same-stores y e write read write′ read′ = no-stores y e write read ∙ sym (no-stores y e write′ read′)
+
 -- data of k's own stays out of the others' stores
 module _ (b write read : List ℕ) where
   abbrev StoresStay : Channel → (List ℕ → List ℕ) → Type 0
   StoresStay y f = (storesOf y (f write) read ≡ storesOf y write read) × (storesOf y write (f read) ≡ storesOf y write read)
 
   stores-own : (k y : Channel) (kept : Kept) → ownKept k kept ≡ true → same k y ≡ false → StoresStay y (over (keptBytes kept b))
-  stores-own k wires kept o e = (refl, refl)
-  stores-own k peripheral kept o e = kept-other (StoresStay peripheral) k (same-turned k peripheral e) kept b o (refl, refl)
+  stores-own k y kept o =
+      own-or-other peripheral (λ (z : Channel). same k z ≡ false → StoresStay z (over (keptBytes kept b)))
+      (λ e. kept-other (StoresStay peripheral) k (same-turned k peripheral e) kept b o (refl, refl))
+      (λ z n e. (same-stores z n _ _ _ _, same-stores z n _ _ _ _)) y
 
 module _ (k : Channel) (w : World) where
   acts-own : (b r : List ℕ) {p : Part k} {a : Act k} {c : Change k} → Acts k p a c → shortStores r w ≡ false
@@ -429,13 +438,9 @@ to-wires : {w v : World} → SameButWires w v → Alike wires w v
 to-wires {w} {v} h =
     record {
       state = h .state;
-      stores = stores;
+      stores = λ y e. ap (λ (l : List ℕ). storesOf y l (w .read)) (h .write) ∙ ap (storesOf y (v .write)) (h .read);
       room = λ reply. ap (λ (l : List ℕ). lacks reply l (w .read)) (h .write) ∙ ap (lacks reply (v .write)) (h .read);
     }
-  where
-    stores : (y : Channel) → same wires y ≡ false → storesOf y (w .write) (w .read) ≡ storesOf y (v .write) (v .read)
-    stores peripheral e = ap (λ (l : List ℕ). l ∷ w .read ∷ []) (h .write) ∙ ap (λ (l : List ℕ). v .write ∷ l ∷ []) (h .read)
-    stores wires e = refl
 
 from-wires : {w v : World} → Alike wires w v → SameButWires w v
 from-wires h =
@@ -449,11 +454,7 @@ pub wires-apart : WiresApart
 wires-apart w v cs ds h e = let r = none-tells wires w v cs ds (to-wires h) e in record { calls = r .calls; after = from-wires (r .after) }
 
 to-peripheral : {w v : World} → SameButPeripheral w v → Alike peripheral w v
-to-peripheral {w} {v} h = record { state = h .state; stores = stores; room = h .room }
-  where
-    stores : (y : Channel) → same peripheral y ≡ false → storesOf y (w .write) (w .read) ≡ storesOf y (v .write) (v .read)
-    stores peripheral e = absurd (true≢false e)
-    stores wires e = refl
+to-peripheral {w} {v} h = record { state = h .state; stores = λ y e. same-stores y e (w .write) (w .read) (v .write) (v .read); room = h .room }
 
 from-peripheral : {w v : World} → Alike peripheral w v → SameButPeripheral w v
 from-peripheral h = record { state = h .state; room = h .room }

@@ -5,11 +5,10 @@ use mathlib.Core.List.{List, _∷_}
 use mathlib.Core.Path.{_≡_, subst}
 use native.Mathlib.Omega.{arith}
 use lib.ListN.{length, drop, length-take}
-use Rattle.wires.specs.Groups.{packetBytes}
-use Rattle.wires.specs.declared.Packet.{Packet}
-use Rattle.wires.specs.declared.Packet.the-variants as G
+use Rattle.wires.specs.Sent.{packet-length}
+use Rattle.wires.specs.declared.Wires.{Wires}
 use Rattle.state.specs.Sound.{sound}
-use Rattle.state.specs.Facts.{sound-config, sound-request}
+use Rattle.state.specs.Facts.{sound-config, sound-request, sound-wires}
 use Rattle.state.specs.declared.State.{State}
 use Rattle.rules.specs.Rules.Out.{responseByte}
 use Rattle.rules.specs.Rules.Peripheral as P₀
@@ -37,41 +36,35 @@ use Rattle.rules.specs.declared.PeripheralChange.{PeripheralChange}
 
 -- ---- the reply's length
 
-packet-length : (p : Packet) → length (packetBytes p) ≤ 7
-packet-length G.Nothing = omega arith
-packet-length (G.One a) = omega arith
-packet-length (G.Two a b) = omega arith
-packet-length (G.Three a b c) = omega arith
-
-body-length : (b : Body) (reads : List ℕ) → BodyFits b → length (bodyBytes b reads) ≤ 259
-body-length B.Nothing reads f = omega arith
-body-length (B.Word v) reads f = omega arith
-body-length (B.Piece c) reads f = omega (arith, length-take (c .length) (drop (c .from) reads), f .most)
-body-length (B.Groups p) reads f = omega (arith, packet-length p)
+body-length : (b : Body) (w : Wires) (reads : List ℕ) → BodyFits b w → length (bodyBytes b w reads) ≤ 259
+body-length B.Nothing w reads f = omega arith
+body-length (B.Word v) w reads f = omega arith
+body-length (B.Piece c) w reads f = omega (arith, length-take (c .length) (drop (c .from) reads), f .most)
+body-length (B.Groups p) w reads f = omega (arith, packet-length w p, f .most)
 
 -- "reply at least 263 bytes"
-pub reply-length : (r : Reply) (reads : List ℕ) → ReplyFits r → length (replyBytes r reads) ≤ 263
+pub reply-length : (r : Reply) (w : Wires) (reads : List ℕ) → ReplyFits r w → length (replyBytes r w reads) ≤ 263
 unfolding replyBytes
-reply-length Silent reads f = omega arith
-reply-length (Said response body status) reads f = omega (arith, closed-length (responseByte response ∷ bodyBytes body reads) status, body-length body reads f)
+reply-length Silent w reads f = omega arith
+reply-length (Said response body status) w reads f = omega (arith, closed-length (responseByte response ∷ bodyBytes body w reads) status, body-length body w reads f)
 
 -- ---- an exchange's plan
 
-with-status : (say : Say) (word : ℕ) → SayFits say → ReplyFits (withStatus say word)
-with-status S.Silent word f = f
-with-status (S.Said response body) word f = f
+with-status : (say : Say) (word : ℕ) (w : Wires) → SayFits say w → ReplyFits (withStatus say word) w
+with-status S.Silent word w f = f
+with-status (S.Said response body) word w f = f
 
-lift-fits : (k : Channel) (s : State) (x : Change k) (m : ℕ) → OutFits m (outOf k x) → PlanFits m (lift k s x)
+lift-fits : (k : Channel) (s : State) (x : Change k) (m : ℕ) → OutFits m (s .wires) (outOf k x) → PlanFits m (s .wires) (lift k s x)
 unfolding lift
-lift-fits k s x m f = record { reply = with-status (outOf k x .say) _ (f .0); kept = f .1 }
+lift-fits k s x m f = record { reply = with-status (outOf k x .say) _ (s .wires) (f .0); kept = f .1 }
 
 module _ (s : State) (h : sound s ≡ true) where
   acts-fit : (b : List ℕ) (k : Channel) (o : Command k) (x : Change k) → N.Admits s b (N.commandOf k o)
-      → Did k (s .config) (part k s) (actOf k (s .config) o b) x → OutFits (length b) (outOf k x)
-  acts-fit b peripheral o x e d = P₁.acts-fit (length b) (sound-config s h) (sound-request s h) d (P₁.data-there (D.reads s b (N.commandOf peripheral o) e))
-  acts-fit b wires o x e d = W.fits (length b) d
+      → Did k (s .config) (part k s) (actOf k (s .config) o b) x → OutFits (length b) (s .wires) (outOf k x)
+  acts-fit b peripheral o x e d = P₁.acts-fit (length b) (s .wires) (sound-config s h) (sound-request s h) d (P₁.data-there (D.reads s b (N.commandOf peripheral o) e))
+  acts-fit b wires o x e d = W.fits (length b) (sound-wires s h) d
 
-  planned-fits : {b : List ℕ} {p : Plan} → Planned s b p → PlanFits (length b) p
+  planned-fits : {b : List ℕ} {p : Plan} → Planned s b p → PlanFits (length b) (s .wires) p
   planned-fits {b} (N.turned n q) = record { reply = tt; kept = tt }
   planned-fits {b} (N.shows (N.status e)) = record { reply = tt; kept = tt }
   planned-fits {b} (N.shows (N.register a e)) = record { reply = tt; kept = tt }
@@ -80,7 +73,7 @@ module _ (s : State) (h : sound s ≡ true) where
   planned-fits {b} (N.configures a v e f) = record { reply = tt; kept = tt }
   planned-fits {b} (N.clears e) = record { reply = tt; kept = tt }
 
-  pub exchange-fits : (b : List ℕ) → PlanFits (length b) (exchange s b)
+  pub exchange-fits : (b : List ℕ) → PlanFits (length b) (s .wires) (exchange s b)
   exchange-fits b = planned-fits (plans s b)
 
   -- ---- the board's answer: its data goes to the read store

@@ -5,6 +5,7 @@ use mathlib.Core.Path.{_≡_, refl, sym, ap, subst, _∙_}
 use borrow.Author.Tests.{eq-eqb, ne-eqb, eqb-true, eqb-false}
 use Rattle.registers.specs.declared.Config.{Config}
 use Rattle.state.specs.Status.{status}
+use Rattle.state.specs.Parts.{by-channel}
 use Rattle.state.specs.declared.State.{State}
 use Rattle.rules.specs.Rules.Channel.{Channel, peripheral, wires, Part, change, outOf, part, put, each, channelNumber, same}
 use Rattle.rules.specs.Rules.Lift.{lift, withStatus}
@@ -35,11 +36,6 @@ lift-stays k s out = lift-change k s (part k s) out ∙ ap (λ (t : State). plan
 pub put-config : (k : Channel) (q : Part k) (s : State) → put k q s .config ≡ s .config
 put-config peripheral q s = refl
 put-config wires q s = refl
-
--- what holds of each channel
-pub by-channel : (Q : Channel → Type 0) → Q peripheral → Q wires → (k : Channel) → Q k
-by-channel Q p w peripheral = p
-by-channel Q p w wires = w
 
 -- the one lemma in which channels meet: the parts of two states, one channel's replaced in both, stay related if the new ones are
 pub put-both : (Q : (y : Channel) → Part y → Part y → Type 0) (k : Channel) (p q : Part k) (s t : State)

@@ -37,7 +37,7 @@ Bare op code = traits op ≡ record { resets = false; code = code; body = 0; set
 
 -- a plan's reply has its shape, the read store being this
 abbrev pub ShapeOf : State → List ℕ → ℕ → Plan → Type 0
-ShapeOf s reads op p = Shape (p .number) op s (p .next) (replyBytes (p .reply) reads)
+ShapeOf s reads op p = Shape (p .number) op s (p .next) (replyBytes (p .reply) (s .wires) reads)
 
 length-closed : (code : ℕ) (body : List ℕ) (word : ℕ) → length (replyOf code body word) ≡ length body + 4
 length-closed code body word = simp length-append (omega arith)

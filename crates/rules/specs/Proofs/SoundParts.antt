@@ -1,19 +1,18 @@
 -- Sound states part by part: a clause reads the configuration or one channel's part, and passes unchanged through a change of any other.
 use mathlib.Core.Bool.{Bool, true}
 use mathlib.Core.Path.{_≡_, refl, sym, subst}
-use borrow.Author.Tests.{eq-eqb}
-use Rattle.base.specs.Pick.{and-true}
 use Rattle.registers.specs.Registers.{fresh008, fresh010, reachable}
 use Rattle.registers.specs.Laws.{Fitting, fits-fresh, fresh-008, fresh-010, reachable-fresh, reachable-all, reachable-r008, reachable-r010, reachable-r020}
 use Rattle.registers.specs.declared.Config.{Config}
-use Rattle.wires.specs.Kept.{whole-level, whole-marks}
 use Rattle.state.specs.declared.State.{State}
+use Rattle.state.specs.Channel.{soundPart, fitsPart}
 use Rattle.state.specs.Facts.{sound-parts, sound-made, fit-parts, fit-made}
 use Rattle.state.specs.Sound.{Sound}
 use Rattle.rules.specs.Rules.Reset.{Reset, start, espiReset, platformReset}
 use Rattle.rules.specs.Rules.Channel.{Channel, peripheral, wires, Part, part, put, each, on}
 use Rattle.rules.specs.Rules.Exchange.{configReset}
-use Rattle.rules.specs.Proofs.Lift.{put-config, put-each}
+use Rattle.rules.specs.Proofs.Lift.{put-config, put-each, part-each}
+use Rattle.rules.specs.Proofs.Peripheral.Sound as P
 use Rattle.rules.specs.Proofs.Peripheral.Sound.{PeripheralOk}
 use Rattle.rules.specs.Proofs.Wires.Sound.{WiresOk}
 
@@ -29,48 +28,30 @@ pub record Parts (s : State) : Type 0 where
   pub config : ConfigOk (s .config)
   pub each : (k : Channel) → PartOk k (on k (s .config)) (part k s)
 
-module _ {s : State} (h : Sound s) where
-  part-ok : (k : Channel) → PartOk k (on k (s .config)) (part k s)
-  part-ok peripheral =
-      let p = sound-parts s (h .isSound) in
-      let f = fit-parts s (h .isFit) in
-      record {
-        off = p .held;
-        request = record { right = p .request; fit = f .request };
-        write = record { right = p .write; fit = f .write };
-        serial = f .serial;
-      }
-  part-ok wires =
-      let f = fit-parts s (h .isFit) in
-      record { right = sound-parts s (h .isSound) .wires; fit = and-true (eq-eqb _ _ (f .level)) (eq-eqb _ _ (f .pending)) }
+-- the tests say it, both ways
+part-ok : (k : Channel) (on : Bool) (q : Part k) → soundPart k on q ≡ true → fitsPart k q ≡ true → PartOk k on q
+part-ok peripheral on q e f = P.peripheral-ok on q e f
+part-ok wires on q e f = record { right = e; fit = f }
 
-  pub parts : Parts s
-  parts =
-      let f = fit-parts s (h .isFit) in
-      record {
-        config = record { right = sound-parts s (h .isSound) .config; fit = record { fit008 = f .r008; fit010 = f .r010; fit020 = f .r020 } };
-        each = part-ok;
-      }
+ok-sound : (k : Channel) (on : Bool) (q : Part k) → PartOk k on q → soundPart k on q ≡ true
+ok-sound peripheral on q h = P.ok-sound on q h
+ok-sound wires on q h = h .right
+
+ok-fits : (k : Channel) (on : Bool) (q : Part k) → PartOk k on q → fitsPart k q ≡ true
+ok-fits peripheral on q h = P.ok-fits on q h
+ok-fits wires on q h = h .fit
+
+pub parts : {s : State} → Sound s → Parts s
+parts {s} h =
+    let p = sound-parts s (h .isSound) in
+    let f = fit-parts s (h .isFit) in
+    record { config = record { right = p .config; fit = f .config }; each = λ k. part-ok k (on k (s .config)) (part k s) (p .each k) (f .each k) }
 
 pub whole : {s : State} → Parts s → Sound s
 whole {s} h =
-    let k = h .config in
-    let p = h .each peripheral in
-    let v = h .each wires in
     record {
-      isSound = sound-made s (record { config = k .right; held = p .off; request = p .request .right; write = p .write .right; wires = v .right });
-      isFit =
-          fit-made s
-          (record {
-            r008 = k .fit .fit008;
-            r010 = k .fit .fit010;
-            r020 = k .fit .fit020;
-            request = p .request .fit;
-            write = p .write .fit;
-            serial = p .serial;
-            level = whole-level (s .wires) (v .fit);
-            pending = whole-marks (s .wires) (v .fit);
-          });
+      isSound = sound-made s (record { config = h .config .right; each = λ k. ok-sound k (on k (s .config)) (part k s) (h .each k) });
+      isFit = fit-made s (record { config = h .config .fit; each = λ k. ok-fits k (on k (s .config)) (part k s) (h .each k) });
     }
 
 -- one part changed
@@ -83,11 +64,7 @@ with-part k {s} q h e =
 
 -- every part changed, under a new configuration
 pub with-each : {s : State} (f : (k : Channel) → Part k → Part k) (c : Config) → ConfigOk c → ((k : Channel) → PartOk k (on k c) (f k (part k s))) → Sound (each f c s)
-with-each {s} f c h e = whole (record { config = h; each = λ k. changed k })
-  where
-    changed : (k : Channel) → PartOk k (on k c) (part k (each f c s))
-    changed peripheral = e peripheral
-    changed wires = e wires
+with-each {s} f c h e = whole (record { config = h; each = λ k. subst (PartOk k (on k c)) (sym (part-each f c s k)) (e k) })
 
 -- ---- the configuration with 008h, or 010h, as at reset
 

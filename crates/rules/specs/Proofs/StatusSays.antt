@@ -9,6 +9,8 @@ use lib.Dec.{eqb}
 use lib.ListN.{length}
 use borrow.Author.Tests.{le-ltb}
 use Rattle.base.specs.Pick.{pick, pick-ind, taken, passed}
+use Rattle.base.specs.Bytes.{bit}
+use Rattle.wires.specs.Sent.{pending-any}
 use Rattle.state.specs.Status.{status}
 use Rattle.state.specs.declared.State.{State}
 use Rattle.state.specs.Sound.{Sound}
@@ -45,7 +47,7 @@ word-is : (w : World) → status (w .state) ≡ statusBit w 0 + 2 * statusBit w 
 unfolding status
 word-is w =
     let s = w .state in
-    rw (P.free-bit s, P.idle-bit s, P.avail-bit s, W.word-bit s) (omega (arith, R.status-bits s))
+    rw (P.free-bit s, P.idle-bit s, P.avail-bit s, W.word-bit s) (omega (arith, R.status-bits s, ap bit (pending-any (s .wires))))
 
 module _ (w : World) (lent : List ℕ) (sound : Sound (w .state)) (long : LongEnough w lent) where
   abbrev s : State
@@ -76,9 +78,9 @@ shown-same op s = pick-ind (λ (n : ℕ). status s ≡ n) (eqb op 0x22) (λ _. r
 
 module _ (s : State) (b store : List ℕ) where
   abbrev Shown : Plan → Type 0
-  Shown p = replyBytes (p .reply) store ≢ [] → statusIn (replyBytes (p .reply) store) ≡ statusShown (byte b 0) s (p .next)
+  Shown p = replyBytes (p .reply) (s .wires) store ≢ [] → statusIn (replyBytes (p .reply) (s .wires) store) ≡ statusShown (byte b 0) s (p .next)
 
-  said : (say : Say) (t : State) → replyBytes (withStatus say (status t)) store ≢ [] → statusIn (replyBytes (withStatus say (status t)) store) ≡ status t
+  said : (say : Say) (t : State) → replyBytes (withStatus say (status t)) (s .wires) store ≢ [] → statusIn (replyBytes (withStatus say (status t)) (s .wires) store) ≡ status t
   unfolding replyBytes
   said Y.Silent t some = absurd (some refl)
   said (Y.Said response body) t some = status-in _ t

@@ -3,8 +3,8 @@ use mathlib.Core.Path.{refl}
 use Rattle.base.specs.Bytes.{over}
 use Rattle.crc.specs.Crc.{crc, crcFrom, crcByte, shifts, crcBit}
 use Rattle.registers.specs.Registers.{sizeOf}
-use Rattle.wires.specs.Turn.{after, turn, placeAfter}
-use Rattle.wires.specs.Groups.{putPairs, sent, packetOf, unmarked}
+use Rattle.wires.specs.Turn.{after, turn, sizes}
+use Rattle.wires.specs.Groups.{putPairs, sentFrom, afterSent, pairBytes}
 use Rattle.pieces.specs.Marks.{markOf}
 use Rattle.pieces.specs.Pieces.{nextSize, nextMark}
 use Rattle.command.specs.Needs.{allFF}
@@ -20,6 +20,6 @@ use Rattle.rules.specs.Rules.Step.{performed, served, step, run}
 use Rattle.rules.specs.Statements.Vectors.{rows, Holds}
 
 pub rows-hold : Holds rows
-unfolding rows step run performed served over crc crcFrom crcByte shifts crcBit sizeOf after turn placeAfter putPairs sent packetOf unmarked markOf nextSize nextMark allFF admit upward handed status lift P.post P.ask P.getPc P.answerTo P.taken P.settle W.putVwire W.getVwire W.setting W.settle E.setConfiguration E.decide E.exchange closed replyBytes
+unfolding rows step run performed served over crc crcFrom crcByte shifts crcBit sizeOf after turn sizes putPairs sentFrom afterSent pairBytes markOf nextSize nextMark allFF admit upward handed status lift P.post P.ask P.getPc P.answerTo P.taken P.settle W.putVwire W.getVwire W.setting W.settle E.setConfiguration E.decide E.exchange closed replyBytes
 rows-hold =
     (refl, (refl, (refl, (refl, (refl, (refl, (refl, (refl, (refl, (refl, (refl, (refl, (refl, (refl, (refl, (refl, (refl, (refl, (refl, (refl, (refl, (refl, (refl, (refl, (refl, (refl, (refl, (refl, (refl, (refl, (refl, (refl, (refl, (refl, (refl, (refl, (refl, (refl, (refl, (refl, tt))))))))))))))))))))))))))))))))))))))))

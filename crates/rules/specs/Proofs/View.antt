@@ -70,10 +70,10 @@ quiet : {n : Np} → Shown n []
 quiet = record { np = λ h. absurd (omega arith); pc = λ h. absurd (omega arith) }
 
 -- a reply, where there is one, that shows the status of a state
-shown : (s : State) (say : Say) (read : List ℕ) → Shown (s .peripheral .request) (replyBytes (withStatus say (status s)) read)
+shown : (s : State) (say : Say) (w : World) → Shown (s .peripheral .request) (replyBytes (withStatus say (status s)) (w .state .wires) (w .read))
 unfolding replyBytes
-shown s S.Silent read = quiet
-shown s (S.Said response body) read =
+shown s S.Silent w = quiet
+shown s (S.Said response body) w =
     record { np = λ _. rw (status-in _ s) (bits s .np); pc = λ _. rw (status-in _ s) (bits s .pc) }
 
 -- ---- commands that make no event of channel 0
@@ -106,7 +106,7 @@ module _ (w : World) where
     -- its reply shows the request that it leaves
     leaves : (x : PeripheralChange) → Shown (x .next .request) (performed w b (lift peripheral (w .state) x) .reply)
     unfolding performed lift
-    leaves x = shown (put peripheral (x .next) (w .state)) (x .out .say) (w .read)
+    leaves x = shown (put peripheral (x .next) (w .state)) (x .out .say) w
 
     fatal-seen : On (P₀.change (w .state .peripheral) fatal)
     unfolding performed lift
@@ -156,8 +156,8 @@ module _ (w : World) where
     acted-beside b r x p =
         seen idle (plain-event (w .state) b r _ p)
         (stays (ap (λ (q : Peripheral). q .request) (kept-part x)) (ap (λ (q : Peripheral). q .serial) (kept-part x)) refl
-        (subst (λ (q : Peripheral). Shown (q .request) (replyBytes (withStatus (outOf k x .say) (status (put k (nextOf k x) (w .state)))) (w .read))) (kept-part x)
-        (shown (put k (nextOf k x) (w .state)) (outOf k x .say) (w .read))))
+        (subst (λ (q : Peripheral). Shown (q .request) (replyBytes (withStatus (outOf k x .say) (status (put k (nextOf k x) (w .state)))) (w .state .wires) (w .read))) (kept-part x)
+        (shown (put k (nextOf k x) (w .state)) (outOf k x .say) w)))
 
     board-event : (o : Board k) (x : Outcome) → eventOf (w .state) (board k o) x ≡ idle
     board-event o x = go (accepted x) refl
@@ -180,12 +180,12 @@ module _ (w : World) where
 
   shown-seen : (b r : List ℕ) (body : Body) → Plain b → Plans b r (show body (w .state))
   unfolding performed
-  shown-seen b r body p = seen idle (plain-event (w .state) b r _ p) (stays refl refl refl (shown (w .state) (S.Said Accept body) (w .read)))
+  shown-seen b r body p = seen idle (plain-event (w .state) b r _ p) (stays refl refl refl (shown (w .state) (S.Said Accept body) w))
 
   forbidden-seen : (b r : List ℕ) → Plans b r (nonFatal (w .state))
   unfolding performed
   forbidden-seen b r =
-      seen idle (refused-event (w .state) (exchange b r) _ refl) (stays refl refl refl (shown (w .state) (S.Said NonFatal B.Nothing) (w .read)))
+      seen idle (refused-event (w .state) (exchange b r) _ refl) (stays refl refl refl (shown (w .state) (S.Said NonFatal B.Nothing) w))
 
   cleared-seen : (b r : List ℕ) → Plain b → Plans b r (quietly (reset008h (w .state)))
   unfolding performed replyBytes
@@ -197,10 +197,10 @@ module _ (w : World) where
   unfolding performed
   written-seen b r c true e =
       dropped (ap (λ (t : Bool). pick t (F.dropped (w .state .peripheral)) (w .state .peripheral)) e) refl
-      (shown (w .state) (S.Said Accept B.Nothing) (w .read))
+      (shown (w .state) (S.Said Accept B.Nothing) w)
   written-seen b r c false e =
       let kept : reconfigured (w .state) c .peripheral ≡ w .state .peripheral = ap (λ (t : Bool). pick t (F.dropped (w .state .peripheral)) (w .state .peripheral)) e in
-      stays (ap (λ (q : Peripheral). q .request) kept) (ap (λ (q : Peripheral). q .serial) kept) refl (shown (w .state) (S.Said Accept B.Nothing) (w .read))
+      stays (ap (λ (q : Peripheral). q .request) kept) (ap (λ (q : Peripheral). q .serial) kept) refl (shown (w .state) (S.Said Accept B.Nothing) w)
 
   set-seen : (b r : List ℕ) (a v : ℕ) → Writes b a v → Plans b r (acceptThen (w .state) (reconfigured (w .state) (writeAt (w .state .config) a v)))
   unfolding performed

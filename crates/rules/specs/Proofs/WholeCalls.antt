@@ -41,7 +41,7 @@ module _ (st : List ℕ) (long : ltb (length st) stateLength ≡ false) (ok : no
   unfolding exchangePlanned replyBytes closed over
   planned-refuses command reply write read zero p e h =
       subst (λ (k : ℕ). ExchangeRefusal k st reply write (exchangePlanned p st command reply write read))
-      (sym (ap (λ (k : ℕ). numberOf (word k (length (replyBytes (p .reply) read)))) e ∙ number-word 0 (length (replyBytes (p .reply) read)) refl)) tt
+      (let r = replyBytes (p .reply) (unpacked st .wires) read in sym (ap (λ (k : ℕ). numberOf (word k (length r))) e ∙ number-word 0 (length r) refl)) tt
   planned-refuses command reply write read (suc zero) p e h =
       subst (λ (x : Plan). ExchangeRefusal (numberOf (exchangePlanned x st command reply write read .word)) st reply write (exchangePlanned x st command reply write read)) (sym h)
       (rw same)

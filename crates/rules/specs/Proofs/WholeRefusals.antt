@@ -90,7 +90,7 @@ unfolding exchangeCall exchangePlanned
 exchange-bytes st command reply write read =
     let Q = ExchangePast command st reply write in
     let p = E.exchange (unpacked st) command in
-    let r = replyBytes (p .reply) read in
+    let r = replyBytes (p .reply) (unpacked st .wires) read in
     let v : word (p .number) (length r) / 256 ≡ length r = value-word (p .number) (length r) (planned-small (p .number) (unpacked st) p (exchange-turned (unpacked st) command)) in
     pick-ind Q (ltb (length st) stateLength) (λ _. as-it-was 10)
     λ _. pick-ind Q (ltb (length reply) replyLength) (λ _. as-it-was 10)

@@ -1,9 +1,9 @@
 -- P19 and P20 of `step`, from the view and the laws of the wires.
-use Prim.Native.Nat.{ℕ, zero, suc, _+_, _-_, _*_, _/_, _%_, _^_, _<_, _≤_}
+use Prim.Native.Nat.{ℕ, zero, suc, _+_, _-_, _/_, _%_, _^_, _<_, _≤_}
 use mathlib.Core.Bool.{Bool, true, false, _&&_, not, true≢false}
 use mathlib.Core.List.{List, [], _∷_, _++_, List·Memᴰ, List·Memᴰ·head, List·Memᴰ·tail, List·Memᴰ·not-nil, List·Memᴰ·cases-cons}
 use mathlib.Core.Logic.{⊎-elim}
-use mathlib.Core.Path.{_≡_, refl, sym, ap, subst, _∙_}
+use mathlib.Core.Path.{_≡_, refl, sym, ap, ap₂, subst, _∙_}
 use native.Mathlib.Omega.{arith}
 use lib.Bits.{bitAnd}
 use lib.Dec.{eqb, ltb}
@@ -11,16 +11,16 @@ use lib.ListN.{getD, length, take}
 use borrow.Author.Tests.{eqb-true, eqb-false, eq-eqb, ltb-true, lt-ltb, not-true}
 use Rattle.base.specs.Pick.{or-second, pick, and-left, and-right}
 use Rattle.registers.specs.declared.Config.{Config}
-use Rattle.wires.specs.Table.{rowAt, isGroup}
+use Rattle.wires.specs.Below.{at-every}
+use Rattle.wires.specs.Table.{rowAt, isGroup, senders, groupAt, senderOf}
 use Rattle.wires.specs.Groups as G
-use Rattle.wires.specs.Groups.{levelAt, markAt, isDown, definedBit, settable, senders, noMarks, afterSent, differs}
-use Rattle.wires.specs.Rows.{settable-bit}
-use Rattle.wires.specs.Turn.{after, placeAfter}
-use Rattle.wires.specs.Round.{AllBelow, none, more}
-use Rattle.wires.specs.Sending.{sender-place}
+use Rattle.wires.specs.Groups.{levelAt, markAt, isDown, definedBit, settable, afterSent, groupByte, pairBytes}
+use Rattle.wires.specs.Rows.{settable-bit, place-up}
+use Rattle.wires.specs.Turn.{after}
+use Rattle.wires.specs.Round.{AllBelow, none, more, after-below}
 use Rattle.wires.specs.Kept as K
 use Rattle.wires.specs.Changes.{put-read, put-undefined, put-passes, put-marks, put-place, set-read, set-level-other, set-mark-other, set-mark}
-use Rattle.wires.specs.Sent.{waiters, queue, sent-queue, sent-count, sent-levels, sent-stays, sent-gone, pairBytes}
+use Rattle.wires.specs.Sent.{waiters, queue, sent-queue, sent-count, sent-levels, sent-stays, sent-off, sent-gone}
 use Rattle.wires.specs.declared.Wires.{Wires}
 use Rattle.state.specs.Status.{status}
 use Rattle.state.specs.Sound.{Sound}
@@ -36,7 +36,7 @@ use Rattle.rules.specs.Statements.WireView.{setsWire, readsWire, WireMov
 use Rattle.rules.specs.Statements.WireSteps.{wireOf, Put, Set, nextUp, marked, pairsOf, SomeGot, Raised, byChange, byEnabling, WireSteps}
 use Rattle.rules.specs.Proofs.Cases as D
 use Rattle.rules.specs.Proofs.Cases.{board-long}
-use Rattle.rules.specs.Proofs.WireView.{command-event, wire-view, wires-sound, wires-whole, sent-body}
+use Rattle.rules.specs.Proofs.WireView.{command-event, wire-view, wires-sound, wires-whole}
 use Rattle.rules.specs.declared.WiresChange.{WiresChange}
 
 level-small : (w : World) → Sound (w .state) → (i : ℕ) → 2 ≤ i → i ≤ 7 → levelAt (wiresOf w) i < 16
@@ -122,7 +122,7 @@ read-step w i bit n = let o = W₀.readWire i bit in ap (λ (q : Outcome). q .va
 
 unfoldable up : List ℕ → List ℕ
 up [] = []
-up (k ∷ ks) = (k + 4) ∷ up ks
+up (k ∷ ks) = groupAt k ∷ up ks
 
 up-length : (ks : List ℕ) → length (up ks) ≡ length ks
 unfolding up
@@ -133,72 +133,67 @@ up-take : (n : ℕ) (ks : List ℕ) → up (take n ks) ≡ take n (up ks)
 unfolding up
 up-take zero ks = refl
 up-take (suc n) [] = refl
-up-take (suc n) (k ∷ ks) = ap (λ (l : List ℕ). (k + 4) ∷ l) (up-take n ks)
+up-take (suc n) (k ∷ ks) = ap (λ (l : List ℕ). groupAt k ∷ l) (up-take n ks)
 
 up-pairs : (v : Wires) (ks : List ℕ) → pairBytes v ks ≡ pairsOf v (up ks)
 unfolding up pairBytes pairsOf
 up-pairs v [] = refl
-up-pairs v (k ∷ ks) =
-    ap (λ (l : List ℕ). (k + 4) ∷ (rowAt (k + 2) .defined * 16 + levelAt v (k + 4)) ∷ l) (up-pairs v ks)
-    ∙ ap (λ (n : ℕ). (k + 4) ∷ (rowAt n .defined * 16 + levelAt v (k + 4)) ∷ pairsOf v (up ks)) (sym (sender-place k))
+up-pairs v (k ∷ ks) = ap (λ (l : List ℕ). groupAt k ∷ groupByte v (groupAt k) ∷ l) (up-pairs v ks)
 
-up-in : {k : ℕ} {ks : List ℕ} → List·Memᴰ k ks → List·Memᴰ (k + 4) (up ks)
+up-in : {k : ℕ} {ks : List ℕ} → List·Memᴰ k ks → List·Memᴰ (groupAt k) (up ks)
 unfolding up
-up-in (List·Memᴰ·head q) = List·Memᴰ·head (ap (λ (n : ℕ). n + 4) q)
+up-in (List·Memᴰ·head q) = List·Memᴰ·head (ap groupAt q)
 up-in (List·Memᴰ·tail m) = List·Memᴰ·tail (up-in m)
 
-up-from : (Q : ℕ → Type 0) (ks : List ℕ) → ((k : ℕ) → List·Memᴰ k ks → Q (k + 4)) → (i : ℕ) → List·Memᴰ i (up ks) → Q i
+up-from : (Q : ℕ → Type 0) (ks : List ℕ) → ((k : ℕ) → List·Memᴰ k ks → Q (groupAt k)) → (i : ℕ) → List·Memᴰ i (up ks) → Q i
 unfolding up
 up-from Q [] f i m = absurd (List·Memᴰ·not-nil m)
 up-from Q (k ∷ ks) f i m = ⊎-elim (λ e. subst Q (sym e) (f k (List·Memᴰ·head refl))) (up-from Q ks (λ n h. f n (List·Memᴰ·tail h)) i) (List·Memᴰ·cases-cons m)
 
-chosen : (a b c : Bool) (x y z : ℕ)
-    → up (pick a (x ∷ pick b (y ∷ pick c (z ∷ []) []) (pick c (z ∷ []) [])) (pick b (y ∷ pick c (z ∷ []) []) (pick c (z ∷ []) [])))
-    ≡ pick a ((x + 4) ∷ pick b ((y + 4) ∷ pick c ((z + 4) ∷ []) []) (pick c ((z + 4) ∷ []) [])) (pick b ((y + 4) ∷ pick c ((z + 4) ∷ []) []) (pick c ((z + 4) ∷ []) []))
-unfolding up
-chosen true true true x y z = refl
-chosen true true false x y z = refl
-chosen true false true x y z = refl
-chosen true false false x y z = refl
-chosen false true true x y z = refl
-chosen false true false x y z = refl
-chosen false false true x y z = refl
-chosen false false false x y z = refl
+-- ---- going round the groups is going round the senders
 
-round-from : (v : Wires) (p : ℕ) → 4 ≤ p → p ≤ 6 → up (waiters (G.waiting v) senders senders (p - 4)) ≡ marked v (p ∷ nextUp p ∷ nextUp (nextUp p) ∷ [])
-unfolding waiters after marked
-round-from v zero h l = absurd (omega arith)
-round-from v (suc zero) h l = absurd (omega arith)
-round-from v (suc (suc zero)) h l = absurd (omega arith)
-round-from v (suc (suc (suc zero))) h l = absurd (omega arith)
-round-from v (suc (suc (suc (suc zero)))) h l = chosen (markAt v 4) (markAt v 5) (markAt v 6) 0 1 2
-round-from v (suc (suc (suc (suc (suc zero))))) h l = chosen (markAt v 5) (markAt v 6) (markAt v 4) 1 2 0
-round-from v (suc (suc (suc (suc (suc (suc zero)))))) h l = chosen (markAt v 6) (markAt v 4) (markAt v 5) 2 0 1
-round-from v (suc (suc (suc (suc (suc (suc (suc p))))))) h l = absurd (omega arith)
+next-up : (k : ℕ) → k < senders → groupAt (after senders k) ≡ nextUp (groupAt k)
+unfolding after
+next-up k h = eqb-true _ _ (at-every senders (λ (j : ℕ). eqb (groupAt (after senders j)) (nextUp (groupAt j))) refl k h)
+
+marked-next : (v : Wires) (k left : ℕ) (is : List ℕ) → up (waiters (G.waiting v) senders left (after senders k)) ≡ marked v is
+    → up (waiters (G.waiting v) senders (suc left) k) ≡ marked v (groupAt k ∷ is)
+unfolding up waiters marked
+marked-next v k left is e = go (G.waiting v k)
+  where
+    go : (b : Bool) → up (pick b (k ∷ waiters (G.waiting v) senders left (after senders k)) (waiters (G.waiting v) senders left (after senders k)))
+        ≡ pick b (groupAt k ∷ marked v is) (marked v is)
+    go true = ap (λ (l : List ℕ). groupAt k ∷ l) e
+    go false = e
+
+round-from : (v : Wires) (k : ℕ) → k < senders
+    → up (waiters (G.waiting v) senders senders k) ≡ marked v (groupAt k ∷ nextUp (groupAt k) ∷ nextUp (nextUp (groupAt k)) ∷ [])
+unfolding up waiters marked
+round-from v k h =
+    let b = after-below senders k h in
+    let e = next-up k h in
+    let f = next-up (after senders k) b ∙ ap nextUp e in
+    let j = after senders k in
+    let i = after senders j in
+    marked-next v k 2 (groupAt j ∷ groupAt i ∷ []) (marked-next v j 1 (groupAt i ∷ []) (marked-next v i 0 [] refl))
+    ∙ ap₂ (λ (i j : ℕ). marked v (groupAt k ∷ i ∷ j ∷ [])) e f
 
 -- ---- the place behind the last one sent
-
-next-up : (k : ℕ) → k < 3 → after senders k + 4 ≡ nextUp (k + 4)
-unfolding after
-next-up zero h = refl
-next-up (suc zero) h = refl
-next-up (suc (suc zero)) h = refl
-next-up (suc (suc (suc k))) h = absurd (omega arith)
 
 never-nil : (xs : List ℕ) (y : ℕ) → [] ≡ xs ++ (y ∷ []) → ⊥
 never-nil [] y e = let z : _≡_ {A = ℕ} 0 1 = cc in omega arith
 never-nil (x ∷ xs) y e = let z : _≡_ {A = ℕ} 0 1 = cc in omega arith
 
-alone : {ks : List ℕ} (k last : ℕ) → k < 3 → AllBelow senders ks → (k + 4) ∷ up ks ≡ last ∷ [] → placeAfter senders (after senders k) ks + 4 ≡ nextUp last
-unfolding up placeAfter
-alone k last h none e = let q : k + 4 ≡ last = cc in next-up k h ∙ ap nextUp q
-alone k last h (more x xs) e = let z : _≡_ {A = ℕ} 0 1 = cc in absurd (omega arith)
+alone : {ks : List ℕ} (v : Wires) (k last : ℕ) → k < senders → AllBelow senders ks → groupAt k ∷ up ks ≡ last ∷ [] → afterSent (G.leftBy v k) ks .place ≡ nextUp last
+unfolding up afterSent
+alone v k last h none e = let q : groupAt k ≡ last = cc in next-up k h ∙ ap nextUp q
+alone v k last h (more x xs) e = let z : _≡_ {A = ℕ} 0 1 = cc in absurd (omega arith)
 
-place-behind : {ks : List ℕ} (p : ℕ) (xs : List ℕ) (last : ℕ) → AllBelow senders ks → up ks ≡ xs ++ (last ∷ []) → placeAfter senders p ks + 4 ≡ nextUp last
-unfolding up placeAfter
-place-behind p xs last none e = absurd (never-nil xs last e)
-place-behind p [] last (more {i = k} h hs) e = alone k last h hs e
-place-behind p (x ∷ xs) last (more {i = k} h hs) e = place-behind (after senders k) xs last hs (cc)
+place-behind : {ks : List ℕ} (v : Wires) (xs : List ℕ) (last : ℕ) → AllBelow senders ks → up ks ≡ xs ++ (last ∷ []) → afterSent v ks .place ≡ nextUp last
+unfolding up afterSent
+place-behind v xs last none e = absurd (never-nil xs last e)
+place-behind v [] last (more {i = k} h hs) e = alone v k last h hs e
+place-behind v (x ∷ xs) last (more {i = k} h hs) e = place-behind (G.leftBy v k) xs last hs (cc)
 
 got-of : (w : World) (c : Call) (o : Outcome) → Sound (w .state) → WireMove w c o gets → SomeGot w o
 got-of w c o s (sent k ks e f h) =
@@ -207,56 +202,32 @@ got-of w c o s (sent k ks e f h) =
     let u = wires-sound w s in
     let l = G.sent v n in
     let whole : 1 ≤ length l = rw e (omega arith) in
+    let p = place-up (v .place) (u .from) (u .upto) in
+    let b = K.sent-below v n (u .from) (u .upto) in
     record {
       groups = up l;
       got = record {
-        first = ap up (sent-queue v n) ∙ up-take n (queue v) ∙ ap (take n) (round-from v (v .place) (u .from) (u .upto));
+        first =
+            ap up (sent-queue v n) ∙ up-take n (queue v)
+            ∙ ap (take n) (round-from v (senderOf (v .place)) (p .below) ∙ ap (λ (i : ℕ). marked v (i ∷ nextUp i ∷ nextUp (nextUp i) ∷ [])) (p .back));
         count = up-length l ∙ sent-count v n (u .from) (u .upto);
         some = omega (arith, up-length l);
         reply =
             h ∙ ap (λ (m : List ℕ). closed (0x08 ∷ m) (status (o .next .state)))
-            (sent-body v n k ks (u .from) (u .upto) (omega arith) e
-            ∙ ap (λ (m : ℕ). (m - 1) ∷ pairBytes v l) (sym (up-length l))
-            ∙ ap (λ (m : List ℕ). (length (up l) - 1) ∷ m) (up-pairs v l));
+            (ap (λ (m : ℕ). (m - 1) ∷ pairBytes v l) (sym (up-length l)) ∙ ap (λ (m : List ℕ). (length (up l) - 1) ∷ m) (up-pairs v l));
         gone = λ i m. ap (λ (y : Wires). markAt y i) f ∙ up-from (λ (j : ℕ). markAt (afterSent v l) j ≡ false) l (sent-gone v l) i m;
-        stay = λ i t m. ap (λ (y : Wires). markAt y i) f ∙ sent-stays v l i t (λ j q z. m (subst (λ (y : ℕ). List·Memᴰ y (up l)) (sym z) (up-in q)));
+        stay = λ i t m. ap (λ (y : Wires). markAt y i) f ∙ sent-stays v i t b (λ j q z. m (subst (λ (y : ℕ). List·Memᴰ y (up l)) (sym z) (up-in q)));
         levels = ap (λ (y : Wires). y .level) f ∙ sent-levels v l;
-        place = λ before last q. ap (λ (y : Wires). y .place) f ∙ place-behind (v .place - 4) before last (K.sent-below v n (u .from) (u .upto)) q;
+        place = λ before last q. ap (λ (y : Wires). y .place) f ∙ place-behind v before last b q;
       };
     }
 
 -- ---- what raises a mark
 
-no-mark : (k : ℕ) → getD noMarks k false ≡ false
-no-mark zero = refl
-no-mark (suc zero) = refl
-no-mark (suc (suc zero)) = refl
-no-mark (suc (suc (suc zero))) = refl
-no-mark (suc (suc (suc (suc zero)))) = refl
-no-mark (suc (suc (suc (suc (suc zero))))) = refl
-no-mark (suc (suc (suc (suc (suc (suc k)))))) = refl
-
-module _ (v : Wires) (i : ℕ) (off : markAt v i ≡ false) where
-  abbrev On : Bool → Type 0
-  On b = b ≡ false
-
-  platform-off : markAt (G.platformWires v) i ≡ false
-  platform-off = K.set-cases On (G.resetGroup v 6 .pending) 5 (i - 2) false false (λ _. refl) (K.set-cases On (v .pending) 4 (i - 2) false false (λ _. refl) off)
-
-  enabled-differs : 2 ≤ i → markAt (G.enabled v) i ≡ true → differs v i ≡ true
-  enabled-differs h =
-      let Q : Bool → Type 0 = λ b. b ≡ true → differs v i ≡ true in
-      let p₄ = G.withGroup v 4 (levelAt v 4) (differs v 4) .pending in
-      let p₅ = G.withGroup (G.withGroup v 4 (levelAt v 4) (differs v 4)) 5 (levelAt v 5) (differs v 5) .pending in
-      K.set-cases Q p₅ 4 (i - 2) (differs v 6) false (λ q t. let e : i ≡ 6 = omega arith in ap (differs v) e ∙ t)
-      (K.set-cases Q p₄ 3 (i - 2) (differs v 5) false (λ q t. let e : i ≡ 5 = omega arith in ap (differs v) e ∙ t)
-      (K.set-cases Q (v .pending) 2 (i - 2) (differs v 4) false (λ q t. let e : i ≡ 4 = omega arith in ap (differs v) e ∙ t)
-      (λ t. absurd (true≢false (sym t ∙ off)))))
-
-sent-off : (v : Wires) (ks : List ℕ) (i : ℕ) → markAt v i ≡ false → markAt (G.unmarked v ks) i ≡ false
-unfolding G.unmarked
-sent-off v [] i e = e
-sent-off v (k ∷ ks) i e = sent-off _ ks i (K.set-cases (λ (b : Bool). b ≡ false) (v .pending) (k + 4 - 2) (i - 2) false false (λ _. refl) e)
+platform-off : (v : Wires) (i : ℕ) → markAt v i ≡ false → markAt (G.platformWires v) i ≡ false
+platform-off v i off =
+    let Q : Bool → Type 0 = λ b. b ≡ false in
+    K.set-cases Q (G.resetGroup v 6 .pending) 5 (i - 2) false false (λ _. refl) (K.set-cases Q (v .pending) 4 (i - 2) false false (λ _. refl) off)
 
 module _ (w : World) (s : Sound (w .state)) (i : ℕ) (from : 2 ≤ i) (upto : i ≤ 7) (off : markAt (wiresOf w) i ≡ false) where
   -- the marks after are those of these wires
@@ -285,9 +256,11 @@ module _ (w : World) (s : Sound (w .state)) (i : ℕ) (from : 2 ≤ i) (upto : i
       let is = and-right (eqb (registerAt b) 0x020) _ at in
       byEnabling b r x (eqb-true _ _ (and-left (eqb (byte b 0) 0x22) _ e)) (eqb-true _ _ (and-left (eqb (registerAt b) 0x020) _ at))
       (eqb-true _ _ (and-right (not (on wires (w .state .config))) _ is)) (not-true _ (and-left (not (on wires (w .state .config))) _ is))
-      (eqb-false _ _ (not-true _ (enabled-differs (wiresOf w) i off from (sym (ap (λ (y : Wires). markAt y i) f) ∙ t))))
-  raised-by c o (disabled e) t = absurd (same-off o _ e (no-mark (i - 2)) t)
-  raised-by c o (wiped e) t = absurd (same-off o _ e (no-mark (i - 2)) t)
+      (eqb-false _ _
+      (not-true _
+      (and-right (not (rowAt (i - 2) .down)) _ (sym (K.remarked-mark true (wiresOf w) (wiresOf w .place) i from upto) ∙ sym (ap (λ (y : Wires). markAt y i) f) ∙ t))))
+  raised-by c o (disabled e) t = absurd (same-off o _ e (K.remarked-mark false (wiresOf w) 4 i from upto) t)
+  raised-by c o (wiped e) t = absurd (same-off o _ e (K.remarked-mark false (wiresOf w) 4 i from upto) t)
   raised-by c o (platformWiped e) t = absurd (same-off o _ e (platform-off (wiresOf w) i off) t)
 
 -- ---- the statements

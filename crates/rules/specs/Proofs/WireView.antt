@@ -1,19 +1,17 @@
 -- The wires' view: one sweep over the case law, reading channel 1's law; whatever another channel does leaves the wires.
-use Prim.Native.Nat.{ℕ, _-_, _%_, _≤_}
+use Prim.Native.Nat.{ℕ, _%_, _≤_}
 use mathlib.Core.Bool.{Bool, true, false, _&&_, _||_, not, true≢false}
 use mathlib.Core.List.{List, _∷_}
 use mathlib.Core.Path.{_≡_, refl, sym, ap, ap₂, subst, _∙_}
 use native.Mathlib.Omega.{arith}
 use lib.Dec.{eqb}
-use lib.ListN.{length}
 use borrow.Author.Tests.{ne-eqb}
 use Rattle.base.specs.Pick.{pick}
 use Rattle.registers.specs.Registers.{writeAt}
 use Rattle.wires.specs.Groups as G
-use Rattle.wires.specs.Groups.{packetOf, packetBytes, afterSent, anyPending, wholeWires}
+use Rattle.wires.specs.Groups.{packetOf, packetBytes, afterSent, wholeWires}
 use Rattle.wires.specs.Kept as K
-use Rattle.wires.specs.Sent.{pairBytes, sent-bytes, sent-none}
-use Rattle.wires.specs.declared.Wires.{Wires}
+use Rattle.wires.specs.Sent.{sent-bytes}
 use Rattle.state.specs.Sound.{Sound}
 use Rattle.state.specs.Status.{status}
 use Rattle.state.specs.declared.State.{State}
@@ -32,7 +30,7 @@ use Rattle.rules.specs.Statements.Cases.{Case}
 use Rattle.rules.specs.Statements.Events.{accepted, ending, enablesAt}
 use Rattle.rules.specs.Statements.Fields.{byte, isChannel1, registerAt, registerValue}
 use Rattle.rules.specs.Statements.Reads as R
-use Rattle.rules.specs.Statements.WireEvents.{WireEvent, idle, puts, gets, enables, ends, switchesOn, commandWire, boardWire, acceptedWire, wireEventOf, wiresOf}
+use Rattle.rules.specs.Statements.WireEvents.{WireEvent, idle, puts, gets, enables, ends, switchesOn, commandWire, boardWire, acceptedWire, wireEventOf, wiresOf, countOf}
 use Rattle.rules.specs.Statements.WireView.{WireMove, still, put, sent, set, enabled, disabled, wiped, platformWiped, WireView}
 use Rattle.rules.specs.Proofs.Cases.{cases}
 use Rattle.rules.specs.Proofs.SoundParts.{parts}
@@ -181,7 +179,7 @@ module _ (w : World) where
       let v = wiresOf w in
       let t = status (N.put wires (afterSent v (k ∷ ks)) (w .state)) in
       as-is (command-event b r 0x05 gets h refl refl _ refl)
-      (sent k ks e (ap (afterSent v) (sym e)) (ap (λ (l : List ℕ). closed (0x08 ∷ packetBytes (packetOf v l)) t) (sym e)))
+      (sent k ks e (ap (afterSent v) (sym e)) (ap (λ (l : List ℕ). closed (0x08 ∷ packetBytes v (packetOf v l)) t) (sym e) ∙ ap (λ (l : List ℕ). closed (0x08 ∷ l) t) (sent-bytes v (countOf w))))
 
   settled-seen : {o : W₀.Board} {x : WiresChange} → W.Settled (w .state .config) (wiresOf w) o x
       → Seen (board wires o) (served wires w o (lift wires (w .state) x))
@@ -236,12 +234,3 @@ wires-sound w s = K.sound-view (on wires (w .state .config)) (wiresOf w) (parts 
 
 pub wires-whole : (w : World) → Sound (w .state) → wholeWires (wiresOf w) ≡ true
 wires-whole w s = parts s .each wires .fit
-
--- what is sent is not empty, so something is pending and the body is the count less one and the pairs
-pub sent-body : (v : Wires) (n k : ℕ) (ks : List ℕ) → 4 ≤ v .place → v .place ≤ 6 → 1 ≤ n → G.sent v n ≡ k ∷ ks
-    → packetBytes (packetOf v (G.sent v n)) ≡ (length (G.sent v n) - 1) ∷ pairBytes v (G.sent v n)
-sent-body v n k ks h l c e = go (anyPending v) refl
-  where
-    go : (t : Bool) → anyPending v ≡ t → packetBytes (packetOf v (G.sent v n)) ≡ (length (G.sent v n) - 1) ∷ pairBytes v (G.sent v n)
-    go true q = sent-bytes v n c h l q
-    go false q = let z : _≡_ {A = ℕ} 0 1 = cc (sent-none v n h l q) in absurd (omega arith)

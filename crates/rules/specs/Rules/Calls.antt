@@ -81,8 +81,8 @@ platformResetCall st = resetCall platformReset st
 
 unfoldable pub exchangePlanned : Plan → (st command reply write read : List ℕ) → Exchanged
 exchangePlanned p st command reply write read =
-    exchanged (word (p .number) (length (replyBytes (p .reply) read))) (kept (p .next) st) (over (replyBytes (p .reply) read) reply)
-    (over (keptBytes (p .kept) command) write)
+    let r = replyBytes (p .reply) (unpacked st .wires) read in
+    exchanged (word (p .number) (length r)) (kept (p .next) st) (over r reply) (over (keptBytes (p .kept) command) write)
 
 unfoldable pub exchangeCall : (st command reply write read : List ℕ) → Exchanged
 exchangeCall st command reply write read =

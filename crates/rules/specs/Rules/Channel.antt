@@ -1,17 +1,12 @@
--- The channels, and all that a channel is, as families over them. A further channel is one clause in each.
+-- All that a channel is beyond its part of the state (state/specs/Channel), as families over the channels. A further channel is one clause in each.
 use Prim.Native.Nat.{ℕ}
 use mathlib.Core.Bool.{Bool, true, false}
 use mathlib.Core.List.{List, []}
 use lib.Dec.{eqb}
-use Rattle.registers.specs.Registers.{on0, on1}
 use Rattle.registers.specs.declared.Config.{Config}
-use Rattle.wires.specs.declared.Wires.{Wires}
-use Rattle.wires.specs.Groups.{wiresStatus}
 use Rattle.command.specs.declared.PeripheralCommand.{PeripheralCommand}
 use Rattle.command.specs.declared.WiresCommand.{WiresCommand}
-use Rattle.peripheral.specs.Status.{peripheralStatus}
-use Rattle.peripheral.specs.declared.Peripheral.{Peripheral}
-use Rattle.state.specs.declared.State.{State}
+pub use Rattle.state.specs.Channel.{Channel, peripheral, wires, Part, part, put, each, on, bits}
 use Rattle.rules.specs.Rules.Reset.{Reset}
 use Rattle.rules.specs.Rules.Peripheral as P
 use Rattle.rules.specs.Rules.Wires as W
@@ -23,14 +18,7 @@ use Rattle.rules.specs.declared.Out.{Out}
 use Rattle.rules.specs.declared.PeripheralChange.{PeripheralChange}
 use Rattle.rules.specs.declared.WiresChange.{WiresChange}
 
-pub data Channel : Type 0 where
-  peripheral wires : Channel
-
 -- ---- what a channel has
-
-abbrev pub Part : Channel → Type 0
-Part peripheral = Peripheral
-Part wires = Wires
 
 abbrev pub Command : Channel → Type 0
 Command peripheral = PeripheralCommand
@@ -89,11 +77,6 @@ abbrev pub given : (k : Channel) → Board k → List ℕ
 given peripheral o = P.given o
 given wires o = []
 
--- its word of the status
-abbrev pub bits : (k : Channel) → Part k → ℕ
-bits peripheral p = peripheralStatus p
-bits wires p = wiresStatus p
-
 -- an enableEdge of its enable bit, and a reset
 abbrev pub enableEdge : (k : Channel) → Bool → Bool → Part k → Part k
 enableEdge peripheral = P.enableEdge
@@ -118,25 +101,6 @@ abbrev pub ownKept : Channel → Kept → Bool
 ownKept peripheral k = true
 ownKept wires K.Nothing = true
 ownKept wires (K.Data from n) = false
-
--- ---- where it stands
-
-abbrev pub part : (k : Channel) → State → Part k
-part peripheral s = s .peripheral
-part wires s = s .wires
-
-abbrev pub put : (k : Channel) → Part k → State → State
-put peripheral p s = record { config = s .config; peripheral = p; wires = s .wires }
-put wires p s = record { config = s .config; peripheral = s .peripheral; wires = p }
-
--- every part by its own function, under a new configuration
-abbrev pub each : ((k : Channel) → Part k → Part k) → Config → State → State
-each f c s = record { config = c; peripheral = f peripheral (s .peripheral); wires = f wires (s .wires) }
-
--- bit 0 of 010h and of 020h
-abbrev pub on : Channel → Config → Bool
-on peripheral c = on0 (c .r010)
-on wires c = on1 (c .r020)
 
 -- ---- which channel
 

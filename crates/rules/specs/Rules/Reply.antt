@@ -5,6 +5,7 @@ use lib.ListN.{take, drop}
 use Rattle.base.specs.Bytes.{low2, low4}
 use Rattle.crc.specs.Crc.{crc}
 use Rattle.wires.specs.Groups.{packetBytes}
+use Rattle.wires.specs.declared.Wires.{Wires}
 use Rattle.peripheral.specs.declared.Completion.{Completion}
 use Rattle.rules.specs.Rules.Out.{responseByte}
 use Rattle.rules.specs.declared.Body.{Body}
@@ -22,19 +23,20 @@ headerBytes c = c .cycle ∷ (c .tag % 16 * 16 + c .length / 256 % 16) ∷ c .le
 abbrev pub dataBytes : Completion → List ℕ → List ℕ
 dataBytes c reads = take (c .length) (drop (c .from) reads)
 
-abbrev pub bodyBytes : Body → List ℕ → List ℕ
-bodyBytes B.Nothing reads = []
-bodyBytes (B.Word v) reads = low4 v
-bodyBytes (B.Piece c) reads = headerBytes c ++ dataBytes c reads
-bodyBytes (B.Groups p) reads = packetBytes p
+-- a body over the wires as they were before the command, and the read store
+abbrev pub bodyBytes : Body → Wires → List ℕ → List ℕ
+bodyBytes B.Nothing w reads = []
+bodyBytes (B.Word v) w reads = low4 v
+bodyBytes (B.Piece c) w reads = headerBytes c ++ dataBytes c reads
+bodyBytes (B.Groups p) w reads = packetBytes w p
 
 -- a message with its status, and with the CRC of all that
 unfoldable pub closed : List ℕ → ℕ → List ℕ
 closed m status = (m ++ low2 status) ++ (crc (m ++ low2 status) ∷ [])
 
-unfoldable pub replyBytes : Reply → List ℕ → List ℕ
-replyBytes Silent reads = []
-replyBytes (Said response body status) reads = closed (responseByte response ∷ bodyBytes body reads) status
+unfoldable pub replyBytes : Reply → Wires → List ℕ → List ℕ
+replyBytes Silent w reads = []
+replyBytes (Said response body status) w reads = closed (responseByte response ∷ bodyBytes body w reads) status
 
 -- the bytes that a store keeps of the call's data
 abbrev pub keptBytes : Kept → List ℕ → List ℕ

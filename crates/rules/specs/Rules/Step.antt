@@ -68,8 +68,8 @@ unfoldable pub performed : World → List ℕ → Plan → Outcome
 performed w command p =
     record {
       number = p .number;
-      value = length (replyBytes (p .reply) (w .read));
-      reply = replyBytes (p .reply) (w .read);
+      value = length (replyBytes (p .reply) (w .state .wires) (w .read));
+      reply = replyBytes (p .reply) (w .state .wires) (w .read);
       report = [];
       next = record { state = p .next; write = over (keptBytes (p .kept) command) (w .write); read = w .read };
     }

@@ -1,13 +1,12 @@
 -- P21. "A pending group, with its value when sent, is sent by the third accepted GET_VWIRE unless a start, such a reset or a disabling
 -- comes first" (01, Wires).
-use Prim.Native.Nat.{ℕ, _+_, _-_, _*_, _<_, _≤_}
+use Prim.Native.Nat.{ℕ, _+_, _*_, _<_, _≤_}
 use mathlib.Core.Bool.{true}
 use mathlib.Core.List.{List, _∷_, _++_}
 use mathlib.Core.Path.{_≡_}
 use lib.ListN.{getD}
-use Rattle.wires.specs.Table.{rowAt}
-use Rattle.wires.specs.Groups.{levelAt, markAt}
-use Rattle.wires.specs.declared.Wires.{Wires}
+use Rattle.wires.specs.Table.{isGroup}
+use Rattle.wires.specs.Groups.{markAt, groupByte}
 use Rattle.state.specs.Sound.{Sound}
 use Rattle.rules.specs.Rules.Channel.{wires}
 use Rattle.rules.specs.Rules.Step.{World, Call, step, run, allHanded}
@@ -21,10 +20,6 @@ pub record Carries (reply : List ℕ) (index byte : ℕ) : Type 0 where
   pub indexIs : getD reply (2 + at * 2) 0 ≡ index
   pub byteIs : getD reply (3 + at * 2) 0 ≡ byte
 
--- "with all defined bits valid"
-abbrev pub groupByte : Wires → ℕ → ℕ
-groupByte w g = rowAt (g - 2) .defined * 16 + levelAt w g
-
 -- one of the first n accepted GET_VWIREs of the run carries the group, with its value of just before
 pub record SentBy (g n : ℕ) (w : World) (cs : List Call) : Type 0 where
   pub before : List Call
@@ -35,8 +30,8 @@ pub record SentBy (g n : ℕ) (w : World) (cs : List Call) : Type 0 where
   pub soon : getsIn w before < n
   pub carries : Carries (step (run w before) call .reply) g (groupByte (wiresOf (run w before)) g)
 
--- groups 4, 5 and 6 are the up groups; each call hands over bytes
+-- each call hands over bytes
 abbrev pub SentByTheThird : Type 0
 SentByTheThird =
-    (w : World) → Sound (w .state) → (g : ℕ) → 4 ≤ g → g ≤ 6 → markAt (wiresOf w) g ≡ true
+    (w : World) → Sound (w .state) → (g : ℕ) → isGroup g ≡ true → markAt (wiresOf w) g ≡ true
     → (cs : List Call) → allHanded cs ≡ true → unended wires w cs ≡ true → 3 ≤ getsIn w cs → SentBy g 3 w cs

@@ -8,7 +8,7 @@ use lib.ListN.{length, take}
 use Rattle.base.specs.Pick.{pick}
 use Rattle.wires.specs.Table.{rowAt}
 use Rattle.wires.specs.Groups as G
-use Rattle.wires.specs.Groups.{levelAt, markAt, isDown, definedBit}
+use Rattle.wires.specs.Groups.{levelAt, markAt, groupByte, isDown, definedBit}
 use Rattle.wires.specs.Changes.{lastNamed}
 use Rattle.wires.specs.Sent.{pendingCount}
 use Rattle.wires.specs.declared.Wires.{Wires}
@@ -20,7 +20,6 @@ use Rattle.rules.specs.Rules.Step.{World, Call, exchange, Outcome, step}
 use Rattle.rules.specs.Statements.Fields.{byte, pairs, registerAt, registerValue}
 use Rattle.rules.specs.Statements.WireEvents.{wiresOf, countOf}
 use Rattle.rules.specs.Statements.WireView.{setsWire, readsWire}
-use Rattle.rules.specs.Statements.Bound.{groupByte}
 
 -- a wire's level: bit `bit` of group i
 abbrev pub wireOf : World → ℕ → ℕ → ℕ

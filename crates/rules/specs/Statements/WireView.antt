@@ -1,10 +1,11 @@
 -- All that a call can do to the wires, by the call's event. The theorems about wires go by cases on it and look at no command again.
-use Prim.Native.Nat.{ℕ}
+use Prim.Native.Nat.{ℕ, _-_}
 use mathlib.Core.Bool.{true}
 use mathlib.Core.List.{List, _∷_}
 use mathlib.Core.Path.{_≡_}
+use lib.ListN.{length}
 use Rattle.wires.specs.Groups as G
-use Rattle.wires.specs.Groups.{settable, putPairs, packetOf, packetBytes, afterSent, freshWires, platformWires}
+use Rattle.wires.specs.Groups.{settable, putPairs, pairBytes, afterSent, freshWires, platformWires}
 use Rattle.state.specs.Status.{status}
 use Rattle.rules.specs.Rules.Wires as W
 use Rattle.rules.specs.Rules.Channel.{wires, on}
@@ -25,7 +26,7 @@ pub data WireMove (w : World) (c : Call) (o : Outcome) : WireEvent → Type 0 wh
   put : (b r : List ℕ) → c ≡ exchange b r → wiresOf (o .next) ≡ putPairs (wiresOf w) (pairs b) → WireMove w c o puts
   sent : (k : ℕ) (ks : List ℕ) → G.sent (wiresOf w) (countOf w) ≡ k ∷ ks
       → wiresOf (o .next) ≡ afterSent (wiresOf w) (G.sent (wiresOf w) (countOf w))
-      → o .reply ≡ closed (0x08 ∷ packetBytes (packetOf (wiresOf w) (G.sent (wiresOf w) (countOf w)))) (status (o .next .state))
+      → o .reply ≡ closed (0x08 ∷ (length (G.sent (wiresOf w) (countOf w)) - 1) ∷ pairBytes (wiresOf w) (G.sent (wiresOf w) (countOf w))) (status (o .next .state))
       → WireMove w c o gets
   set : (i bit value : ℕ) → c ≡ setsWire i bit value → settable i bit value ≡ true
       → wiresOf (o .next) ≡ G.setWire (on wires (w .state .config)) (wiresOf w) i bit value → WireMove w c o sets

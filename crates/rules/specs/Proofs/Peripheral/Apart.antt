@@ -1,22 +1,32 @@
 -- What no channel telling on another asks of channel 0: what its calls ask and leave of its stores.
 use Prim.Native.Nat.{ℕ}
-use mathlib.Core.Bool.{false, _||_}
+use mathlib.Core.Bool.{true, false, _||_, true≢false}
 use mathlib.Core.List.{List, [], _∷_}
-use mathlib.Core.Path.{_≡_, refl, ap}
+use mathlib.Core.Path.{_≡_, refl, sym, ap, _∙_}
 use lib.Dec.{ltb}
 use lib.ListN.{getD, length}
 use Rattle.base.specs.Bytes.{over}
+use Rattle.wires.specs.declared.Wires.{Wires}
 use Rattle.peripheral.specs.declared.Peripheral.{Peripheral}
 use Rattle.rules.specs.Rules.Peripheral as P₀
-use Rattle.rules.specs.Rules.Channel.{peripheral}
+use Rattle.rules.specs.Rules.Channel.{peripheral, ownBody}
 use Rattle.rules.specs.Rules.Reply.{bodyBytes, keptBytes}
 use Rattle.rules.specs.Rules.Step.{World, shortPeripheral, writeLength, readLength, takeLength}
 use Rattle.rules.specs.Statements.Peripheral as P
 use Rattle.rules.specs.Statements.Apart.{storesOf}
 use Rattle.rules.specs.Proofs.Reply.{over-long}
 use Rattle.rules.specs.Proofs.Stores.{lacks, Owns}
+use Rattle.rules.specs.declared.Body.{Body}
+use Rattle.rules.specs.declared.Body.the-variants as B
 use Rattle.rules.specs.declared.Kept.the-variants as K
 use Rattle.rules.specs.declared.PeripheralChange.{PeripheralChange}
+
+-- its bodies read no wires
+own-bytes : (body : Body) (w w′ : Wires) (read : List ℕ) → ownBody peripheral body ≡ true → bodyBytes body w read ≡ bodyBytes body w′ read
+own-bytes B.Nothing w w′ read o = refl
+own-bytes (B.Word n) w w′ read o = refl
+own-bytes (B.Piece c) w w′ read o = refl
+own-bytes (B.Groups p) w w′ read o = absurd (true≢false (sym o))
 
 -- number 10 of its calls goes by its own stores
 short-alike : (w v : World) (o : P₀.Board) → storesOf peripheral (w .write) (w .read) ≡ storesOf peripheral (v .write) (v .read)
@@ -43,7 +53,7 @@ pub owns : Owns peripheral
 owns =
     record {
       nothing = refl;
-      bytes = λ body write read write′ read′ o e. ap (λ (l : List (List ℕ)). bodyBytes body (getD l 1 [])) e;
+      bytes = λ body w v o p e. own-bytes body (w .state .wires) (v .state .wires) (w .read) o ∙ ap (λ (l : List (List ℕ)). bodyBytes body (v .state .wires) (getD l 1 [])) e;
       written = λ d write read write′ read′ e. ap (λ (l : List (List ℕ)). over d (getD l 0 []) ∷ getD l 1 [] ∷ []) e;
       answered = λ d write read write′ read′ e. ap (λ (l : List (List ℕ)). getD l 0 [] ∷ over d (getD l 1 []) ∷ []) e;
       lackWritten = λ kept b write read write′ read′ o e h reply. ap (λ (l : List (List ℕ)). lacks reply (over (keptBytes kept b) (getD l 0 [])) (getD l 1 [])) e;

@@ -9,6 +9,7 @@ use borrow.Author.Tests.{leb-true}
 use Rattle.registers.specs.Registers.{payloadSize, reachable}
 use Rattle.registers.specs.Laws.{payload-legal, reachable-r010}
 use Rattle.registers.specs.declared.Config.{Config}
+use Rattle.wires.specs.declared.Wires.{Wires}
 use Rattle.peripheral.specs.Upward.{upward, successOf}
 use Rattle.peripheral.specs.Sound.{soundRequest}
 use Rattle.peripheral.specs.Facts.{ReadyRequest, legal-payload, ready-request, waiting-request}
@@ -49,19 +50,19 @@ data-there (F.posts e l) = l
 data-there (F.asks e) = tt
 data-there (F.Peripheral.gets e) = tt
 
-pub acts-fit : {c : Config} {p : Peripheral} {a : P₀.Act} {x : PeripheralChange} (m : ℕ) → reachable c ≡ true → soundRequest (p .request) ≡ true
-    → P.Did c p a x → DataThere m a → OutFits m (x .out)
-acts-fit m r h (P.writeHeld e) d = (tt, tt)
-acts-fit m r h (P.writeLarge e f) d = (tt, tt)
-acts-fit {c} m r h (P.posted {A} {L} e f) d =
+pub acts-fit : {c : Config} {p : Peripheral} {a : P₀.Act} {x : PeripheralChange} (m : ℕ) (w : Wires) → reachable c ≡ true → soundRequest (p .request) ≡ true
+    → P.Did c p a x → DataThere m a → OutFits m w (x .out)
+acts-fit m w r h (P.writeHeld e) d = (tt, tt)
+acts-fit m w r h (P.writeLarge e f) d = (tt, tt)
+acts-fit {c} m w r h (P.posted {A} {L} e f) d =
     let N = payloadSize (c .r010) in
-    let w = leb-true (A % N + L) N f in
+    let l = leb-true (A % N + L) N f in
     (tt, record { there = d; most = omega (arith, legal-payload N (payload-legal (c .r010) (reachable-r010 c r)) .most) })
-acts-fit m r h (P.requestHeld e) d = (tt, tt)
-acts-fit m r h (P.requestLarge e f) d = (tt, tt)
-acts-fit m r h (P.asked e f) d = (tt, tt)
-acts-fit m r h (P.noneReady e) d = (tt, tt)
-acts-fit {c} {p} m r h (P.handedOver {k} {ks} e) d = (piece-fits (p .request) k ks h e, tt)
+acts-fit m w r h (P.requestHeld e) d = (tt, tt)
+acts-fit m w r h (P.requestLarge e f) d = (tt, tt)
+acts-fit m w r h (P.asked e f) d = (tt, tt)
+acts-fit m w r h (P.noneReady e) d = (tt, tt)
+acts-fit {c} {p} m w r h (P.handedOver {k} {ks} e) d = (piece-fits (p .request) k ks h e, tt)
 
 answer-most : (k : Kind) (q : Request) → q .length ≤ 4096 → P₀.answerLength k q ≤ 4096
 answer-most R.MemoryRead q l = l

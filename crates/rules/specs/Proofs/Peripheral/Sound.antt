@@ -7,8 +7,8 @@ use mathlib.Core.Path.{_≡_, refl, sym, ap, subst}
 use native.Mathlib.Nat.{mod-lt}
 use native.Mathlib.Omega.{arith}
 use lib.Dec.{lit<}
-use borrow.Author.Tests.{lt-ltb, le-leb, leb-true, eq-eqb}
-use Rattle.base.specs.Pick.{and-right, and-true}
+use borrow.Author.Tests.{ltb-true, lt-ltb, le-leb, leb-true, eq-eqb}
+use Rattle.base.specs.Pick.{and-left, and-right, and-true}
 use Rattle.registers.specs.Registers.{payloadSize, readSize, payloadLegal, readLegal, reachable}
 use Rattle.registers.specs.Laws.{payload-legal, read-legal, reachable-r010}
 use Rattle.registers.specs.declared.Config.{Config}
@@ -27,8 +27,8 @@ use Rattle.peripheral.specs.declared.Posted.{Posted}
 use Rattle.peripheral.specs.declared.Write.{Write}
 use Rattle.peripheral.specs.declared.Write.the-variants.{Empty, Held}
 use Rattle.peripheral.specs.declared.Peripheral.{Peripheral}
-use Rattle.peripheral.specs.Facts.{sent-none, MadeMemoryRead, MadeIo, MadeIoRead, MadeIoWrite, waiting-request, handed-sound, handed-fits}
-use Rattle.peripheral.specs.Sound.{within, shortSize, ioMade, madeAs, requestMade, writeMade, soundRequest, soundWrite, nothingHeld, fitsRequest, fitsWrite}
+use Rattle.peripheral.specs.Facts.{sound-of, sent-none, MadeMemoryRead, MadeIo, MadeIoRead, MadeIoWrite, waiting-request, handed-sound, handed-fits}
+use Rattle.peripheral.specs.Sound.{within, shortSize, ioMade, madeAs, requestMade, writeMade, soundRequest, soundWrite, nothingHeld, soundPeripheral, fitsRequest, fitsWrite, fitsPeripheral}
 use Rattle.rules.specs.Rules.Reset.{Reset, start, espiReset, platformReset}
 use Rattle.rules.specs.Rules.Peripheral as P₀
 use Rattle.rules.specs.Rules.Peripheral.{Act, posts, asks, gets, Board, requestOf, bytesOf, sizeFor, holding, asking, withRequest, emptied}
@@ -49,6 +49,26 @@ pub record PeripheralOk (on : Bool) (p : Peripheral) : Type 0 where
   pub request : RequestOk (p .request)
   pub write : WriteOk (p .write)
   pub serial : p .serial < 2 ^ 32
+
+-- ---- the tests say it, both ways
+
+pub peripheral-ok : (on : Bool) (p : Peripheral) → soundPeripheral on p ≡ true → fitsPeripheral p ≡ true → PeripheralOk on p
+peripheral-ok on p e f =
+    let s = sound-of on p e in
+    let g = and-right (fitsRequest (p .request)) _ f in
+    record {
+      off = s .held;
+      request = record { right = s .request; fit = and-left (fitsRequest (p .request)) _ f };
+      write = record { right = s .write; fit = and-left (fitsWrite (p .write)) _ g };
+      serial = ltb-true _ _ (and-right (fitsWrite (p .write)) _ g);
+    }
+
+module _ (on : Bool) (p : Peripheral) (h : PeripheralOk on p) where
+  pub ok-sound : soundPeripheral on p ≡ true
+  ok-sound = and-true (h .off) (and-true (h .request .right) (h .write .right))
+
+  pub ok-fits : fitsPeripheral p ≡ true
+  ok-fits = and-true (h .request .fit) (and-true (h .write .fit) (lt-ltb _ _ (h .serial)))
 
 -- ---- nothing held, and a channel that is on
 

@@ -21,10 +21,10 @@ use Rattle.peripheral.specs.declared.Np.the-variants.{Free, Waiting, Ready, Fai
 use Rattle.peripheral.specs.declared.Write.{Write}
 use Rattle.peripheral.specs.declared.Write.the-variants.{Empty, Held}
 use Rattle.peripheral.specs.declared.Peripheral.{Peripheral}
-use Rattle.peripheral.specs.Facts.{ReadyRequest, legal-payload, ready-request, held-write, made-memory-read, made-io-read, made-io-write, sent-write}
-use Rattle.peripheral.specs.Sound.{madeAs, requestMade, sentRight, soundRequest, soundWrite, nothingHeld, fitsRequest, fitsWrite}
+use Rattle.peripheral.specs.Facts.{off-of, ReadyRequest, legal-payload, ready-request, held-write, made-memory-read, made-io-read, made-io-write, sent-write}
+use Rattle.peripheral.specs.Sound.{madeAs, requestMade, sentRight, soundRequest, soundWrite, nothingHeld, soundPeripheral, fitsRequest, fitsWrite, fitsPeripheral}
 use Rattle.rules.specs.Statements.Peripheral.SoundMeans.{Coded, MadeAs, Made, RequestMade, WriteMade, ReadSent, SentAs, BytesSent, Clauses}
-use Rattle.rules.specs.Proofs.Peripheral.Sound.{memory-read-test, io-read-test, io-write-test}
+use Rattle.rules.specs.Proofs.Peripheral.Sound.{peripheral-ok, memory-read-test, io-read-test, io-write-test}
 
 or-right : (a : Bool) {b : Bool} → b ≡ true → a || b ≡ true
 or-right true e = refl
@@ -150,16 +150,17 @@ held-test : (on : Bool) (p : Peripheral) → (on ≡ false → p .request ≡ Fr
 held-test true p r w = refl
 held-test false p r w = and-true (ap pcFree (w refl)) (ap npFree (r refl))
 
-pub clauses : (on : Bool) (p : Peripheral) → (on ≡ false → p .request ≡ Free) → (on ≡ false → p .write ≡ Empty)
-    → soundRequest (p .request) ≡ true → soundWrite (p .write) ≡ true → fitsRequest (p .request) ≡ true → fitsWrite (p .write) ≡ true → Clauses on p
-clauses on p nr nw r w fr fw =
-    record { request = request-made (p .request) r fr; write = write-made (p .write) w fw; sent = bytes-sent (p .request) r; noRequest = nr; noWrite = nw }
+pub clauses : (on : Bool) (p : Peripheral) → soundPeripheral on p ≡ true → fitsPeripheral p ≡ true → Clauses on p
+clauses on p e f =
+    let k = peripheral-ok on p e f in
+    record {
+      request = request-made (p .request) (k .request .right) (k .request .fit);
+      write = write-made (p .write) (k .write .right) (k .write .fit);
+      sent = bytes-sent (p .request) (k .request .right);
+      noRequest = λ off. off-of on p e off .request;
+      noWrite = λ off. off-of on p e off .write;
+    }
 
-pub held-clause : (on : Bool) (p : Peripheral) → Clauses on p → on || nothingHeld p ≡ true
-held-clause on p c = held-test on p (c .noRequest) (c .noWrite)
-
-pub request-clause : (on : Bool) (p : Peripheral) → Clauses on p → soundRequest (p .request) ≡ true
-request-clause on p c = request-test (p .request) (c .request) (c .sent)
-
-pub write-clause : (on : Bool) (p : Peripheral) → Clauses on p → soundWrite (p .write) ≡ true
-write-clause on p c = write-test (p .write) (c .write)
+pub peripheral-clause : (on : Bool) (p : Peripheral) → Clauses on p → soundPeripheral on p ≡ true
+peripheral-clause on p c =
+    and-true (held-test on p (c .noRequest) (c .noWrite)) (and-true (request-test (p .request) (c .request) (c .sent)) (write-test (p .write) (c .write)))

@@ -4,17 +4,17 @@ use mathlib.Core.Bool.{Bool, true, false, true≢false}
 use mathlib.Core.List.{List, []}
 use mathlib.Core.Path.{_≡_, refl, sym, ap}
 use native.Mathlib.Omega.{arith}
-use lib.Seq.{set-getD}
 use Rattle.base.specs.Bytes.{over-none}
 use Rattle.registers.specs.Laws.{bit-zero}
 use Rattle.registers.specs.declared.Config.{Config}
+use Rattle.wires.specs.Groups.{afterSent}
 use Rattle.wires.specs.declared.Wires.{Wires}
 use Rattle.rules.specs.Rules.Wires as W
 use Rattle.rules.specs.Rules.Channel.{wires}
 use Rattle.rules.specs.Statements.Fields.{byte, isChannel1}
 use Rattle.rules.specs.Statements.Reads as S
 use Rattle.rules.specs.Statements.Wires as L
-use Rattle.rules.specs.Statements.Wires.Effects.{afterGet, commandPart, boardPart, switched}
+use Rattle.rules.specs.Statements.Wires.Effects.{commandPart, boardPart, switched}
 use Rattle.rules.specs.Statements.ConfigWrites.{turns}
 use Rattle.rules.specs.Proofs.Becomes.{Becomes}
 use Rattle.rules.specs.declared.WiresChange.{WiresChange}
@@ -26,7 +26,7 @@ pub command-row : {c : Config} {v : Wires} {b : List ℕ} {a : W.Act} {x : Wires
 command-row (L.overCount e) r z = absurd (omega arith)
 command-row (L.put e) (S.Wires.puts h) z = (rw h, over-none)
 command-row (L.nonePending e) r z = absurd (omega arith)
-command-row {v = v} (L.sentOff e) (S.Wires.gets h) z = (rw h (ap (afterGet v) (sym e)), over-none)
+command-row {v = v} (L.sentOff e) (S.Wires.gets h) z = (rw h (ap (afterSent v) (sym e)), over-none)
 
 pub command-own : {b : List ℕ} {a : W.Act} → S.Wires b a → isChannel1 (byte b 0) ≡ true
 command-own (S.Wires.puts h) = rw h
@@ -45,7 +45,7 @@ board-row (L.read e) z = (refl, over-none)
 pub edge-row : (was is : Bool) (v : Wires) → W.enableEdge was is v ≡ switched was is v
 edge-row true true v = refl
 edge-row true false v = refl
-edge-row false true v = rw (set-getD (v .level) 2 0, set-getD (v .level) 3 0, set-getD (v .level) 4 0)
+edge-row false true v = refl
 edge-row false false v = refl
 
 pub no-turn : (was is : Bool) (v : Wires) → turns wires was is ≡ false → switched was is v ≡ v

@@ -12,7 +12,7 @@ use Rattle.registers.specs.Registers.{on1, operatingCount}
 use Rattle.registers.specs.declared.Config.{Config}
 use Rattle.wires.specs.Groups.{sent, anyPending, soundWires, definedBit, settable}
 use Rattle.wires.specs.Kept.{sound-view}
-use Rattle.wires.specs.Sent.{sent-none, sent-some}
+use Rattle.wires.specs.Sent.{sent-none, sent-some, pending-any}
 use Rattle.wires.specs.declared.Wires.{Wires}
 use Rattle.state.specs.declared.State.{State}
 use Rattle.rules.specs.Rules.Wires.{Act, puts, gets, Board}
@@ -35,18 +35,18 @@ module _ (c : Config) (w : Wires) (sound : soundWires (on1 (c .r020)) w ≡ true
   abbrev count : ℕ
   count = operatingCount (c .r020)
 
-  none-pending : sent w count ≡ [] → not (anyPending w) ≡ true
+  none-pending : sent w count ≡ [] → not (groupPending w) ≡ true
   none-pending e = go (anyPending w) refl
     where
-      go : (t : Bool) → anyPending w ≡ t → not t ≡ true
+      go : (t : Bool) → anyPending w ≡ t → not (groupPending w) ≡ true
       go true h = let v = sound-view (on1 (c .r020)) w sound in absurd (omega (arith, sent-some w count (omega arith) (v .from) (v .upto) h, ap length e))
-      go false h = refl
+      go false h = ap not (sym (pending-any w) ∙ h)
 
-  some-pending : {k : ℕ} {ks : List ℕ} → sent w count ≡ k ∷ ks → not (anyPending w) ≡ false
+  some-pending : {k : ℕ} {ks : List ℕ} → sent w count ≡ k ∷ ks → not (groupPending w) ≡ false
   some-pending {k} {ks} e = go (anyPending w) refl
     where
-      go : (t : Bool) → anyPending w ≡ t → not t ≡ false
-      go true h = refl
+      go : (t : Bool) → anyPending w ≡ t → not (groupPending w) ≡ false
+      go true h = ap not (sym (pending-any w) ∙ h)
       go false h = let v = sound-view (on1 (c .r020)) w sound in absurd (omega (arith, ap length (sym e ∙ sent-none w count (v .from) (v .upto) h)))
 
   did-number : {a : Act} {x : WiresChange} → W.Did c w a x → x .out .number ≡ numberFor c w a

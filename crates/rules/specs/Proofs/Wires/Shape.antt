@@ -1,10 +1,11 @@
 -- Replies of channel 1: a packet is its count and as many pairs.
-use Prim.Native.Nat.{ℕ}
-use mathlib.Core.Bool.{false, true≢false}
-use mathlib.Core.List.{List, [], _∷_}
-use mathlib.Core.Path.{_≡_, refl}
+use Prim.Native.Nat.{ℕ, _-_, _≤_}
+use mathlib.Core.List.{List, _∷_}
+use mathlib.Core.Path.{_≡_, refl, sym, ap, subst}
 use native.Mathlib.Omega.{arith}
-use Rattle.wires.specs.Groups.{packetOf, packetBytes}
+use lib.ListN.{length}
+use Rattle.wires.specs.Groups.{sent, packetOf, pairBytes, packetBytes}
+use Rattle.wires.specs.Sent.{sent-bytes, sent-most, pairs-length}
 use Rattle.state.specs.Status.{status}
 use Rattle.state.specs.declared.State.{State}
 use Rattle.rules.specs.Rules.Wires as W₀
@@ -15,7 +16,7 @@ use Rattle.rules.specs.Statements.Fields.{byte}
 use Rattle.rules.specs.Statements.Wires as W
 use Rattle.rules.specs.Statements.Reads as F
 use Rattle.rules.specs.Statements.Shape.{replyOf, AcceptedReply}
-use Rattle.rules.specs.Proofs.Replies.{isNone, ShapeOf, with-body, bare, at}
+use Rattle.rules.specs.Proofs.Replies.{ShapeOf, with-body, bare, at}
 use Rattle.rules.specs.declared.WiresChange.{WiresChange}
 
 module _ (s : State) (reads : List ℕ) where
@@ -27,17 +28,20 @@ module _ (s : State) (reads : List ℕ) where
   wire-opcode (F.puts e) = e
   wire-opcode (F.Wires.gets e) = e
 
-  packet-shape : (after : State) (ks : List ℕ) → isNone ks ≡ false
-      → AcceptedReply 0x05 s after (replyOf 0x08 (packetBytes (packetOf (s .wires) ks)) (status after))
-  unfolding packetOf
-  packet-shape after [] e = absurd (true≢false e)
-  packet-shape after (a ∷ []) e = with-body s 0x05 after (packetBytes (packetOf (s .wires) (a ∷ []))) refl refl (omega arith)
-  packet-shape after (a ∷ b ∷ []) e = with-body s 0x05 after (packetBytes (packetOf (s .wires) (a ∷ b ∷ []))) refl refl (omega arith)
-  packet-shape after (a ∷ b ∷ c ∷ ks) e = with-body s 0x05 after (packetBytes (packetOf (s .wires) (a ∷ b ∷ c ∷ ks))) refl refl (omega arith)
+  packet-shape : (after : State) (count k : ℕ) (ks : List ℕ) → count ≤ 64 → sent (s .wires) count ≡ k ∷ ks
+      → AcceptedReply 0x05 s after (replyOf 0x08 (packetBytes (s .wires) (packetOf (s .wires) (k ∷ ks))) (status after))
+  packet-shape after count k ks c e =
+      let w = s .wires in
+      let n = ap length e in
+      let l = sent-most w count in
+      let p = pairs-length w (sent w count) in
+      subst (λ (xs : List ℕ). AcceptedReply 0x05 s after (replyOf 0x08 (packetBytes w (packetOf w xs)) (status after))) e
+      (subst (λ (xs : List ℕ). AcceptedReply 0x05 s after (replyOf 0x08 xs (status after))) (sym (sent-bytes w count))
+      (with-body s 0x05 after ((length (sent w count) - 1) ∷ pairBytes w (sent w count)) refl (omega (arith, n, l, p)) (omega (arith, l, p))))
 
   pub acts-shape : (op : ℕ) {a : W₀.Act} {x : WiresChange} → W.Did (s .config) (s .wires) a x → WireOpcode a op → ShapeOf s reads op (lift wires s x)
   unfolding lift replyBytes closed
   acts-shape op (W.overCount e) h = refl
   acts-shape op (W.put e) h = at s op 0x04 h (bare s 0x04 0x08 _ refl)
   acts-shape op (W.nonePending e) h = refl
-  acts-shape op (W.sentOff {k} {ks} e) h = at s op 0x05 h (packet-shape _ (k ∷ ks) refl)
+  acts-shape op (W.sentOff {k} {ks} e) h = at s op 0x05 h (packet-shape _ _ k ks (omega arith) e)

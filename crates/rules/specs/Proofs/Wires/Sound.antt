@@ -6,7 +6,7 @@ use mathlib.Core.Path.{_≡_, subst, _∙_}
 use Rattle.registers.specs.Registers.{on1}
 use Rattle.registers.specs.declared.Config.{Config}
 use Rattle.wires.specs.Groups.{freshWires, putPairs, sent, afterSent, settable, setWire, platformWires, soundWires, wholeWires}
-use Rattle.wires.specs.Kept.{sound-fresh, sound-put, sound-set, sound-sent, sound-enabled, sound-disabled, sound-platform, whole-fresh, whole-put, whole-set, whole-sent, whole-enabled, whole-disabled, whole-platform}
+use Rattle.wires.specs.Kept.{sound-fresh, sound-put, sound-set, sound-sent, sound-enabled, sound-disabled, sound-platform, whole-fresh, whole-put, whole-set, whole-sent, whole-remarked, whole-platform}
 use Rattle.wires.specs.declared.Wires.{Wires}
 use Rattle.rules.specs.Rules.Reset.{Reset, start, espiReset, platformReset}
 use Rattle.rules.specs.Rules.Wires as W₀
@@ -37,8 +37,8 @@ module _ {on : Bool} {w : Wires} (h : WiresOk on w) where
 
 pub edge-ok : (was is : Bool) (w : Wires) → WiresOk was w → WiresOk is (W₀.enableEdge was is w)
 edge-ok true true w h = h
-edge-ok true false w h = record { right = sound-disabled true w (h .right); fit = whole-disabled w (h .fit) }
-edge-ok false true w h = record { right = sound-enabled w (h .right); fit = whole-enabled w ∙ h .fit }
+edge-ok true false w h = record { right = sound-disabled true w (h .right); fit = whole-remarked false w 4 (h .fit) }
+edge-ok false true w h = record { right = sound-enabled w (h .right); fit = whole-remarked true w (w .place) (h .fit) }
 edge-ok false false w h = h
 
 pub acts-ok : {on : Bool} {c : Config} {w : Wires} {a : Act} {x : WiresChange} → WiresOk on w → Did c w a x → WiresOk on (x .next)

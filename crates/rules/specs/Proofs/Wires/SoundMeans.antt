@@ -4,10 +4,10 @@ use mathlib.Core.Bool.{Bool, true, false, _&&_, not, true≢false}
 use mathlib.Core.Path.{_≡_, refl, sym, ap, _∙_}
 use native.Mathlib.Omega.{arith}
 use lib.Dec.{ltb}
-use borrow.Author.Tests.{eq-eqb, ne-eqb, lt-ltb, le-leb, not-false}
-use Rattle.base.specs.Pick.{and-true}
+use borrow.Author.Tests.{eq-eqb, ne-eqb, lt-ltb, le-leb, not-true}
+use Rattle.base.specs.Pick.{and-right, and-true}
 use Rattle.wires.specs.Table.{isGroup, rowAt}
-use Rattle.wires.specs.Rows.{isUp, row-right, in-table}
+use Rattle.wires.specs.Rows.{row-right, in-table}
 use Rattle.wires.specs.Nibbles.{bitOf, clean-view, clean-test}
 use Rattle.wires.specs.Groups.{levelAt, definedBit, onlyDefined, soundWires}
 use Rattle.wires.specs.Kept.{sound-view, sound-test}
@@ -49,14 +49,6 @@ module _ (w : Wires) (i : ℕ) (g : isGroup i ≡ true) where
   group-test : GroupRight w i → onlyDefined w i ≡ true
   group-test r = clean-test defined (levelAt w i) defined-small (record { small = r .four; undefined-off = λ bit h z. r .undefined bit h (bit-undefined bit z) })
 
-  -- the table's direction, by the index
-  row-direction : rowAt (i - 2) .down ≡ not (isUp i)
-  row-direction =
-      let r = row-right (i - 2) in-rows in
-      let t = in-table i g in
-      let q : i - 2 + 2 ≡ i = omega arith in
-      r .down-is ∙ ap (λ (x : ℕ). not (isUp x)) (r .index-is ∙ q)
-
 is-group : (i : ℕ) → 2 ≤ i → i ≤ 7 → isGroup i ≡ true
 is-group i l u = and-true (le-leb 2 i l) (le-leb i 7 u)
 
@@ -67,7 +59,7 @@ clauses on w e =
     let v = sound-view on w e in
     record {
       groups = λ i g. let r = in-table i g in group-right w i g (v .clean i (r .from) (r .upto));
-      pendingUp = λ i g m. let r = in-table i g in row-direction w i g ∙ ap not (v .marks i (r .from) (r .upto) m .0);
+      pendingUp = λ i g m. let r = in-table i g in not-true _ (and-right (isGroup i) _ (v .marks i (r .from) (r .upto) m .0));
       pendingOn = λ i g m. let r = in-table i g in v .marks i (r .from) (r .upto) m .1;
       placeLeast = v .from;
       placeMost = v .upto;
@@ -78,7 +70,7 @@ wires-clause on w c =
     sound-test on w
     (record {
       clean = λ i l u. let g = is-group i l u in group-test w i g (c .groups i g);
-      marks = λ i l u m. let g = is-group i l u in (not-false (isUp i) (sym (row-direction w i g) ∙ c .pendingUp i g m), c .pendingOn i g m);
+      marks = λ i l u m. let g = is-group i l u in (and-true g (ap not (c .pendingUp i g m)), c .pendingOn i g m);
       from = c .placeLeast;
       upto = c .placeMost;
     })

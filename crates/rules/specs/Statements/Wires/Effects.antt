@@ -1,6 +1,6 @@
 -- P11, channel 1's rows: for every accepted command of it and call of the board the wires after, in full, from those before; and what resets and
 -- an edge of its enable bit make of them (01, Wires).
-use Prim.Native.Nat.{ℕ, _+_, _-_}
+use Prim.Native.Nat.{ℕ, _+_}
 use mathlib.Core.Bool.{Bool, true, false, not}
 use mathlib.Core.List.{List, [], _∷_}
 use lib.Dec.{eqb}
@@ -8,8 +8,7 @@ use lib.ListN.{getD, set}
 use Rattle.base.specs.Pick.{pick}
 use Rattle.registers.specs.Registers.{bits}
 use Rattle.registers.specs.declared.Config.{Config}
-use Rattle.wires.specs.Groups.{putPairs, sent, unmarked, setWire as withWire}
-use Rattle.wires.specs.Turn.{placeAfter}
+use Rattle.wires.specs.Groups.{putPairs, sent, afterSent, setWire as withWire}
 use Rattle.wires.specs.declared.Wires.{Wires}
 use Rattle.rules.specs.Rules.Reset.{Reset, start, espiReset, platformReset}
 use Rattle.rules.specs.Rules.Wires.{Board, setWire, readWire}
@@ -19,19 +18,15 @@ use Rattle.rules.specs.Statements.Sizes.{isEnabled}
 
 -- ---- commands
 
--- the groups that go, counted from group 4
+-- the senders that go
 abbrev pub groupsSent : Config → Wires → List ℕ
 groupsSent c v = sent v (bits 21 16 (c .r020 .value) + 1)
 
--- "their pending marks go"; the place follows the last one sent
-abbrev pub afterGet : Wires → List ℕ → Wires
-afterGet v ks = record { level = unmarked v ks .level; pending = unmarked v ks .pending; place = placeAfter 3 (v .place - 4) ks + 4 }
-
--- "PUT_VWIRE applies pairs in order"
+-- "PUT_VWIRE applies pairs in order"; GET_VWIRE: "their pending marks go", and the place follows the last one sent
 abbrev pub commandPart : Config → Wires → List ℕ → Wires
 commandPart c v b =
     pick (eqb (byte b 0) 0x04) (putPairs v (pairs b))
-    (pick (eqb (byte b 0) 0x05) (afterGet v (groupsSent c v))
+    (pick (eqb (byte b 0) 0x05) (afterSent v (groupsSent c v))
     v)
 
 -- ---- the board's calls
@@ -59,9 +54,9 @@ resetPart platformReset v = record { level = set (set (v .level) 4 0x7) 5 0x6; p
 -- "makes each up group pending that differs from its reset value"
 abbrev pub differing : Wires → List Bool
 differing v =
-    set
-    (set (set (v .pending) 2 (not (eqb (getD (v .level) 2 0) 0xC))) 3 (not (eqb (getD (v .level) 3 0) 0x0)))
-    4 (not (eqb (getD (v .level) 4 0) 0x7))
+    false ∷ false
+    ∷ not (eqb (getD (v .level) 2 0) 0xC) ∷ not (eqb (getD (v .level) 3 0) 0x0) ∷ not (eqb (getD (v .level) 4 0) 0x7)
+    ∷ false ∷ []
 
 -- from enabled or not to enabled or not: "Disabling channel 1 drops pending marks and keeps values", and the place is 4; "Enabling it from disabled
 -- makes .. pending"; 0 to 0 and 1 to 1 leave all

@@ -1,45 +1,98 @@
-use Prim.Native.Nat.{_-_, _<_}
-use mathlib.Core.Path.{ap, _∙_}
+use Prim.Native.Nat.{ℕ, _-_}
+use mathlib.Core.Bool.{false}
+use mathlib.Core.Path.{_≡_, sym, ap, ap₂, _∙_}
 use native.Mathlib.Omega.{arith}
+use lib.ListN.{getD}
+use Rattle.wires.specs.Turn.{sizes}
+use Rattle.wires.specs.Rows.{place-group}
+use Rattle.wires.specs.Groups.{senderSize, sent, afterSent, withGroup}
+use Rattle.wires.specs.Sending.{Gone, gone-first, gone-on, gone-less, turnOf, past, past-at, takes-at, left-taken, left-passed, left-over, sizes-over}
+use Rattle.wires.specs.declared.Wires.{Wires}
+use Rattle.wires.specs.declared.Going.{Going}
 use borrow.Author.Needs.{needs}
-use Rattle.wires.specs.Sending.{asked, asked-all}
-use Rattle.wires.specs.Groups.{senders}
-use Rattle.wires.specs.Turn.{after}
 use Rattle.wires.proofs.Wires.send.Statement.{statement}
 use Rattle.wires.proofs.Wires.send.Tie as tie
 
-asked-requires : tie.Need-asked-requires
-asked-requires c κs =
-    let s = c .before .before .before .pre in
-    let h : c .before .before .before .args .self .place - 4 < 3 = omega (arith, s .from, s .upto) in
-    (h, s .small _ h)
+abbrev Inv-loop : tie.InvT-loop
+Inv-loop capacity self place next₀ g₀ next g = Gone self capacity next g
 
-asked-requires-2 : tie.Need-asked-requires-2
-asked-requires-2 c κs = let h = c .before .before .after-sender .ensures .1 in (h, c .before .before .before .before .pre .small _ h)
+abbrev μ-loop : tie.MeasureT-loop
+μ-loop capacity self place next₀ g₀ next g = g .left
 
-asked-requires-3 : tie.Need-asked-requires-3
-asked-requires-3 c κs = let h = c .before .before .after-sender2 .ensures .1 in (h, c .before .before .before .before .before .pre .small _ h)
+loop-holds : tie.Need-loop-holds Inv-loop μ-loop
+loop-holds c = let w = c .before .args .t1 in gone-first w (c .before .args .capacity) _ (place-group (w .place) (c .before .pre .0) (c .before .pre .1)) (c .go-round .ensures)
 
-returns : tie.Need-returns
-returns c =
-    let s = c .before .before .before .before .before .before .before in
-    let b = c .before .before .before .before .before .after-sender .ensures .0 in
-    let d = c .before .before .before .before .after-sender2 .ensures .0 ∙ ap (after senders) b in
-    let one = c .before .before .before .asked in
-    let two = c .before .before .asked2 in
-    asked-all (s .args .self) (s .args .capacity) (one .result) (two .result) (c .before .asked3 .result) (s .pre .from)
-    (one .ensures)
-    (two .ensures ∙ ap (asked (s .args .self) (one .result)) b)
-    (c .before .asked3 .ensures ∙ ap (asked (s .args .self) (two .result)) d)
+row-of-requires : tie.Need-row-of-requires Inv-loop μ-loop
+row-of-requires c κs = c .before .before .loop .inv .up
+
+past-requires : tie.Need-past-requires Inv-loop μ-loop
+past-requires c κs = (c .before .before .before .before .loop .inv .up, c .before .before .if1 .taken)
+
+with-requires : tie.Need-with-requires Inv-loop μ-loop
+with-requires c κs = let r = c .before .before .before .before .before .before .row-of .ensures in (r .1, omega (arith, r .0, r .2))
+
+loop-less : tie.Need-loop-less Inv-loop μ-loop
+loop-less c = let s = c .before .before .before .before .before .before .before in
+    let l = s .before .before .before .loop in
+    let w = s .before .before .before .before .before .args .t1 in
+    gone-less w (l .g) _ (l .inv .up) (s .before .if1 .taken) (past-at w (l .g) _ (s .row-of .ensures .0) (c .before .before .before .before .before .past .ensures))
+
+loop-again : tie.Need-loop-again Inv-loop μ-loop
+loop-again c = let s = c .before .before .before .before .before .before .before in
+    let l = s .before .before .before .loop in
+    let w = s .before .before .before .before .before .args .t1 in
+    let r = s .row-of .ensures .0 in
+    let e = past-at w (l .g) _ r (c .before .before .before .before .before .past .ensures) in
+    gone-on _ _ (l .inv) (s .before .if1 .taken) e
+    (ap (λ (v : Wires). afterSent v (turnOf w (past w (l .g))))
+    (c .with .ensures ∙ ap₂ (λ (i : ℕ) (h : Going). withGroup (l .next) (l .g .group) (getD (l .next .level) i 0) false (h .group)) r e)
+    ∙ left-taken w (l .g) (l .inv .up) (s .before .if1 .taken) (l .next) (takes-at w (l .g) r (c .before .before .before .before .takes .ensures) (c .before .before .before .if2 .taken)))
+
+loop-less-2 : tie.Need-loop-less-2 Inv-loop μ-loop
+loop-less-2 c = let s = c .before .before .before .before in
+    let l = s .before .before .before .loop in
+    let w = s .before .before .before .before .before .args .t1 in
+    gone-less w (l .g) _ (l .inv .up) (s .before .if1 .taken) (past-at w (l .g) _ (s .row-of .ensures .0) (c .before .before .past .ensures))
+
+loop-again-2 : tie.Need-loop-again-2 Inv-loop μ-loop
+loop-again-2 c = let s = c .before .before .before .before in
+    let l = s .before .before .before .loop in
+    let w = s .before .before .before .before .before .args .t1 in
+    let r = s .row-of .ensures .0 in
+    gone-on _ _ (l .inv) (s .before .if1 .taken) (past-at w (l .g) _ r (c .before .before .past .ensures))
+    (left-passed w (l .g) (l .inv .up) (s .before .if1 .taken) (l .next) (takes-at w (l .g) r (c .before .takes .ensures) (c .if2 .left)))
+
+sub-count : tie.Need-sub-count Inv-loop μ-loop
+sub-count c = let l = c .before .before .before .loop in
+    omega (arith, l .inv .room, sizes-over (c .before .before .before .before .before .args .t1) (l .g) (omega (arith, c .before .if1 .left)))
+
+returns : tie.Need-returns Inv-loop μ-loop
+returns c = let w = c .before .before .before .before .before .args .t1 in
+    let n = c .before .before .before .before .before .args .capacity in
+    let l = c .before .before .before .loop in
+    let z : l .g .left ≡ 0 = omega (arith, c .before .if1 .left) in
+    let count : n - l .g .room ≡ sizes senderSize (sent w n) = omega (arith, l .inv .room, sizes-over w (l .g) z) in
+    ap₂ (λ (k : ℕ) (v : Wires). record { packet = record { place = w .place; count = k }; next = v }) count (sym (left-over w (l .g) (l .next) z) ∙ l .inv .rest)
 
 pub send-spec : {M : Type 1} → statement M
 send-spec =
     tie.close
     (tie.spec
+    Inv-loop
+    μ-loop
+    (λ c κs. search needs)
+    loop-holds
+    row-of-requires
     (λ c. search needs)
+    past-requires
     (λ c κs. search needs)
-    (λ c κs. search needs)
-    asked-requires
-    asked-requires-2
-    asked-requires-3
+    (λ c. search needs)
+    (λ c. search needs)
+    with-requires
+    loop-less
+    loop-again
+    loop-less-2
+    loop-again-2
+    sub-count
+    (λ c. search needs)
     returns)

@@ -1,0 +1,135 @@
+-- The bytes of a sound state: what the channels find in them, and a change of channel 0 carried out on them.
+use Prim.Native.Nat.{ℕ, _≤_}
+use mathlib.Core.Bool.{Bool, true, false}
+use mathlib.Core.List.{List, _++_}
+use mathlib.Core.Path.{_≡_, refl, sym, ap, subst, _∙_}
+use native.Mathlib.Omega.{arith}
+use lib.Dec.{eqb}
+use lib.ListN.{length, drop, take-append-drop}
+use Rattle.base.specs.Pick.{pick}
+use Rattle.base.specs.Bytes.{put}
+use Rattle.registers.specs.Registers.{reachable, on1}
+use Rattle.registers.specs.Layout.{configIn}
+use Rattle.registers.specs.declared.Config.{Config}
+use Rattle.wires.specs.Groups.{soundWires}
+use Rattle.wires.specs.Layout.{wiresIn}
+use Rattle.wires.specs.declared.Wires.{Wires}
+use Rattle.peripheral.specs.Sound.{soundRequest}
+use Rattle.peripheral.specs.Status.{peripheralStatus}
+use Rattle.peripheral.specs.Layout.{peripheralBytes, npIn, peripheralIn}
+use Rattle.peripheral.specs.Stored.{Stands, status-stored}
+use Rattle.state.specs.Status.{status}
+use Rattle.state.specs.Layout.{stateLength, unpacked}
+use Rattle.state.specs.Parts.{front, behind, front-length, packed-at}
+use Rattle.state.specs.Facts.{sound-config, sound-request, sound-wires}
+use Rattle.state.specs.declared.State.{State}
+use Rattle.command.specs.declared.PeripheralCommand.{PeripheralCommand}
+use Rattle.command.specs.declared.WiresCommand.{WiresCommand}
+use Rattle.rules.specs.Rules.Calls.{kept}
+use Rattle.rules.specs.Rules.Exchange.{setConfiguration, reset008h}
+use Rattle.rules.specs.Rules.Peripheral as P
+use Rattle.rules.specs.Rules.Wires as W
+use Rattle.rules.specs.Rules.Channel as C
+use Rattle.rules.specs.Rules.Channel.{peripheral, wires}
+use Rattle.rules.specs.Rules.Lift.{lift, show, withStatus}
+use Rattle.rules.specs.declared.Body.{Body}
+use Rattle.rules.specs.declared.Out.{Out}
+use Rattle.rules.specs.declared.Reply.{Reply}
+use Rattle.rules.specs.declared.PeripheralChange.{PeripheralChange}
+use Rattle.engine.specs.Carried.{Loadable, Stays, Changed, changedTo, changedBy, Carried, carried, carriedBy, outgoing, showing}
+use Rattle.engine.specs.Laws.Stored.{lift-carried}
+use Rattle.engine.specs.declared.Outgoing.{Outgoing}
+
+-- ---- the parts where they stand
+
+pub config-in : (l : List ℕ) → configIn l ≡ unpacked l .config
+unfolding unpacked
+config-in l = refl
+
+pub peripheral-in : (l : List ℕ) → peripheralIn l ≡ unpacked l .peripheral
+unfolding unpacked
+peripheral-in l = refl
+
+module _ (l : List ℕ) (h : Loadable l) where
+  stands : Stands (peripheralIn l) l
+  unfolding unpacked
+  stands =
+      let r = drop stateLength l in
+      record {
+        front = front peripheral (unpacked l);
+        behind = behind peripheral (unpacked l) r;
+        at = front-length peripheral (unpacked l);
+        is = sym (take-append-drop stateLength l) ∙ ap (λ (m : List ℕ). m ++ r) (h .bytes) ∙ packed-at peripheral (unpacked l) r;
+      }
+
+  -- what channel 0's commands ask for
+  pub peripheral-there : (c : Config) → c ≡ unpacked l .config
+      → (64 ≤ length l) × Stands (peripheralIn l) l × (reachable c ≡ true) × (soundRequest (npIn l) ≡ true)
+  unfolding unpacked
+  peripheral-there c e =
+      (omega (arith, h .long), stands, ap reachable e ∙ sound-config (unpacked l) (h .good), sound-request (unpacked l) (h .good))
+
+  -- and channel 1's
+  pub wires-there : (c : Config) (w : Wires) → c ≡ unpacked l .config → w ≡ wiresIn l → (reachable c ≡ true) × (soundWires (on1 (c .r020)) w ≡ true)
+  unfolding unpacked
+  wires-there c w e f = (
+    ap reachable e ∙ sound-config (unpacked l) (h .good),
+    ap (λ (z : Config). soundWires (on1 (z .r020)) w) e ∙ ap (soundWires (on1 (configIn l .r020))) f ∙ sound-wires (unpacked l) (h .good),
+  )
+
+-- channel 0's decision over its bytes is that over the state that they hold
+pub decided-there : (l : List ℕ) (c : Config) (o : PeripheralCommand) (b : List ℕ) → c ≡ unpacked l .config
+    → changedBy peripheral (P.decide c (peripheralIn l) o b) l
+    ≡ changedBy peripheral (P.acting (unpacked l .config) (unpacked l .peripheral) (P.actOf (unpacked l .config) o b)) l
+unfolding P.decide unpacked
+decided-there l c o b e = ap (λ (z : Config). changedBy peripheral (P.acting z (peripheralIn l) (P.actOf z o b)) l) e
+
+-- channel 1's likewise
+pub wires-decided : (l : List ℕ) (c : Config) (w : Wires) (o : WiresCommand) (b : List ℕ) → c ≡ unpacked l .config → w ≡ wiresIn l
+    → W.decide c w o b ≡ W.acting (unpacked l .config) (unpacked l .wires) (W.actOf o b)
+unfolding W.decide unpacked
+wires-decided l c w o b e f = ap (λ (z : Config). W.acting z w (W.actOf o b)) e ∙ ap (λ (z : Wires). W.acting (configIn l) z (W.actOf o b)) f
+
+pub set-there : (l : List ℕ) (c : Config) (w : Wires) (index bit value : ℕ) → c ≡ configIn l → w ≡ wiresIn l
+    → W.setting c w index bit value ≡ W.setting (unpacked l .config) (unpacked l .wires) index bit value
+unfolding unpacked
+set-there l c w index bit value e f = ap (λ (z : Config). W.setting z w index bit value) e ∙ ap (λ (z : Wires). W.setting (configIn l) z index bit value) f
+
+-- a change that is another, lifted; a state that is the bytes', configured or cleared
+pub lifted-by : (k : C.Channel) (l : List ℕ) {x y : C.Change k} {z : Carried} → z ≡ carriedBy (lift k (unpacked l) x) l → x ≡ y → z ≡ carriedBy (lift k (unpacked l) y) l
+lifted-by k l e f = e ∙ ap (λ (c : C.Change k). carriedBy (lift k (unpacked l) c) l) f
+
+pub set-unpacked : (l : List ℕ) (a v : ℕ) {s : State} {z : Carried} → z ≡ carriedBy (setConfiguration s a v) l → s ≡ unpacked l → z ≡ carriedBy (setConfiguration (unpacked l) a v) l
+set-unpacked l a v e f = e ∙ ap (λ (t : State). carriedBy (setConfiguration t a v) l) f
+
+pub reset-unpacked : (l : List ℕ) {s : State} {l′ : List ℕ} → l′ ≡ kept (reset008h s) l → s ≡ unpacked l → l′ ≡ kept (reset008h (unpacked l)) l
+reset-unpacked l e f = e ∙ ap (λ (t : State). kept (reset008h t) l) f
+
+-- ---- a plan that shows
+
+pub shown-is : (s : State) (body : Body) (word : ℕ) (r : Outgoing) → r ≡ showing body word → word ≡ status s → r ≡ outgoing (show body s)
+shown-is s body word r k e = k ∙ ap (showing body) e
+
+-- ---- a change of channel 0 that stores its queue itself
+
+module _ (l : List ℕ) (x : PeripheralChange) (h : Loadable l) (f : Stays (unpacked l) (lift peripheral (unpacked l) x)) where
+  -- the bytes after it say the status of its next part
+  said : (l′ : List ℕ) → l′ ≡ changedBy peripheral x l .state → peripheralStatus (peripheralIn l′) ≡ peripheralStatus (x .next)
+  unfolding lift unpacked
+  said l′ e = ap (λ (z : List ℕ). peripheralStatus (peripheralIn z)) e ∙ go (eqb (x .out .number) 0) refl
+    where
+      go : (t : Bool) → eqb (x .out .number) 0 ≡ t → peripheralStatus (peripheralIn (pick t (put 12 (peripheralBytes (x .next)) l) l)) ≡ peripheralStatus (x .next)
+      go true k = status-stored (x .next) l (omega (arith, h .long))
+      go false k = ap (λ (s : State). peripheralStatus (s .peripheral)) (sym (f k))
+
+  pub acted-carried : (l′ : List ℕ) (o : Out) (word : ℕ) (r : Reply)
+      → changedTo o l′ ≡ changedBy peripheral x l
+      → (peripheralStatus (peripheralIn l′) ≡ peripheralStatus (x .next) → word ≡ status (C.put peripheral (x .next) (unpacked l)))
+      → r ≡ withStatus (o .say) word
+      → carried (record { number = o .number; reply = r; kept = o .kept }) l′ ≡ carriedBy (lift peripheral (unpacked l) x) l
+  acted-carried l′ o word r e ew er =
+      let eo : o ≡ x .out = ap (λ (z : Changed). z .goes) e in
+      let el : l′ ≡ changedBy peripheral x l .state = ap (λ (z : Changed). z .state) e in
+      let k = er ∙ ap (λ (z : Out). withStatus (z .say) word) eo ∙ ap (withStatus (x .out .say)) (ew (said l′ el)) in
+      ap (λ (z : Out). carried (record { number = z .number; reply = r; kept = z .kept }) l′) eo
+      ∙ lift-carried peripheral (unpacked l) x l h f l′ r el k
