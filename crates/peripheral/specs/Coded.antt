@@ -18,8 +18,8 @@ use Rattle.pieces.specs.Laws.{next-mark}
 use Rattle.pieces.specs.declared.Mark.{Mark}
 use Rattle.peripheral.specs.Upward.{nextOf, pieceOf, bare, successOf, upward, firstOf, leftOf, afterPiece, afterSuccess, handed}
 use Rattle.peripheral.specs.Status.{pcFree, npFree, pcAvail, peripheralStatus}
-use Rattle.peripheral.specs.Sound.{Block, shortSize, ioMade, soundRequest, soundWrite, nothingHeld}
-use Rattle.peripheral.specs.Facts.{ready-request}
+use Rattle.peripheral.specs.Sound.{shortSize, ioMade, soundRequest, soundWrite, nothingHeld}
+use Rattle.peripheral.specs.Facts.{Block, ready-request}
 use Rattle.peripheral.specs.Layout.{writeBytes, requestBytes, npBytes, handedBytes, peripheralBytes, writeOf, kindOf, npOf, postedIn, requestIn, writeIn, npIn, peripheralIn, tidyWrite, tidyRequest, blankIn, holdsWrite, holdsRequest, holdsPeripheral}
 use Rattle.peripheral.specs.Packing.{write-length, np-length}
 use Rattle.peripheral.specs.declared.Kind.{Kind}

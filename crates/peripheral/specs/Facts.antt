@@ -22,7 +22,7 @@ use Rattle.peripheral.specs.declared.Posted.{Posted}
 use Rattle.peripheral.specs.declared.Write.{Write}
 use Rattle.peripheral.specs.declared.Write.the-variants.{Empty, Held}
 use Rattle.peripheral.specs.declared.Peripheral.{Peripheral}
-use Rattle.peripheral.specs.Sound.{Block, within, shortSize, ioMade, madeAs, requestMade, sentRight, soundRequest, soundWrite, nothingHeld, soundPeripheral, fitsRequest}
+use Rattle.peripheral.specs.Sound.{within, shortSize, ioMade, madeAs, requestMade, sentRight, soundRequest, soundWrite, nothingHeld, soundPeripheral, fitsRequest}
 
 -- ---- sizes
 
@@ -50,6 +50,11 @@ legal-read =
   where
     is : {p : ℕ} → 64 ≤ p → p ≤ 4096 → 4096 % p ≡ 0 → LegalRead p
     is l m d = record { least = l; most = m; divides = d }
+
+-- a size of blocks that 4,096 bytes are made of, as every legal size is
+pub record Block (b : ℕ) : Type 0 where
+  pub least : 1 ≤ b
+  pub divides : 4096 % b ≡ 0
 
 pub payload-block : (p : ℕ) → payloadLegal p ≡ true → Block p
 payload-block p e = let l = legal-payload p e in record { least = omega (arith, l .least); divides = l .divides }

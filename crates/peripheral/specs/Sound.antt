@@ -1,8 +1,7 @@
 -- The channel's part of a sound state (01, Wires, last paragraph): one conjunct for each clause. "the request's serial the last given" holds by
 -- the channel's shape: its one serial is the held request's.
-use Prim.Native.Nat.{ℕ, _+_, _*_, _%_, _^_, _≤_}
+use Prim.Native.Nat.{ℕ, _+_, _*_, _%_, _^_}
 use mathlib.Core.Bool.{Bool, true, _&&_, _||_}
-use mathlib.Core.Path.{_≡_}
 use lib.Dec.{eqb, ltb, leb}
 use Rattle.registers.specs.Registers.{payloadLegal, readLegal}
 use Rattle.peripheral.specs.Status.{pcFree, npFree}
@@ -17,11 +16,6 @@ use Rattle.peripheral.specs.declared.Write.the-variants.{Empty, Held}
 use Rattle.peripheral.specs.declared.Peripheral.{Peripheral}
 
 -- ---- "a held request or write is one that a command makes under the sizes recorded with it"
-
--- a size of blocks that 4,096 bytes are made of, as every legal size is
-pub record Block (b : ℕ) : Type 0 where
-  pub least : 1 ≤ b
-  pub divides : 4096 % b ≡ 0
 
 -- "at most the .. size and does not cross a block of that size"
 abbrev pub within : ℕ → ℕ → ℕ → Bool

@@ -13,7 +13,8 @@ ghost use Rattle.peripheral.specs.declared.Write.the-variants.{Held};
 ghost use Rattle.peripheral.specs.Queues.{idle, dropped};
 ghost use Rattle.peripheral.specs.Status.{pcFree, npFree, pcAvail, peripheralStatus};
 ghost use Rattle.peripheral.specs.Upward.{bare, pieceOf, successOf, upward, firstOf, leftOf, afterPiece, afterSuccess};
-ghost use Rattle.peripheral.specs.Sound.{Block, within, shortSize, ioMade, madeAs, requestMade, writeMade, sentRight, soundRequest};
+ghost use Rattle.peripheral.specs.Facts.{Block};
+ghost use Rattle.peripheral.specs.Sound.{within, shortSize, ioMade, madeAs, requestMade, writeMade, sentRight, soundRequest};
 ghost use Rattle.peripheral.specs.Layout.{handedBytes, writeBytes, kindNumber, numberBytes, requestBytes, npBytes, peripheralBytes, postedIn, writeIn, kindOf, requestIn, npIn, peripheralIn, holdsWrite, blankIn, holdsRequest, holdsPeripheral};
 
 pub enum Kind {

@@ -3,7 +3,7 @@ use Prim.Native.Nat.{ℕ, _+_}
 use mathlib.Core.List.{List, [], _++_, append-assoc}
 use mathlib.Core.Path.{_≡_, refl, sym, ap, subst, _∙_}
 use lib.ListN.{length, take, drop, take-append-drop, length-append}
-use lib.Seq.{take-at, drop-append-add, drop-at}
+use lib.Seq.{drop-append-add, drop-at}
 use Rattle.base.specs.Bytes as B
 use Rattle.base.specs.Bytes.{over}
 use Rattle.registers.specs.Layout.{configBytes}
@@ -15,16 +15,14 @@ use Rattle.state.specs.declared.State.{State}
 
 -- x, y, z and r stand one behind the other; y goes, v of the same length comes
 put-part : (x y v z r : List ℕ) (at : ℕ) → length x ≡ at → length v ≡ length y → B.put at v (x ++ (y ++ (z ++ r))) ≡ over (x ++ (v ++ z)) (x ++ (y ++ (z ++ r)))
-unfolding B.put over
+unfolding over
 put-part x y v z r at h g =
     let l = x ++ (y ++ (z ++ r)) in
-    let front : take at l ≡ x = take-at x (y ++ (z ++ r)) at h in
-    let past : drop (at + length v) l ≡ z ++ r =
-    ap (λ (n : ℕ). drop n l) (ap (λ (n : ℕ). n + length v) (sym h)) ∙ drop-append-add x (y ++ (z ++ r)) (length v) ∙ drop-at y (z ++ r) (length v) (sym g) in
     let n : length (x ++ (v ++ z)) ≡ length x + (length y + length z) = simp (length-append, g) in
     let end : drop (length (x ++ (v ++ z))) l ≡ r =
     ap (λ (k : ℕ). drop k l) n ∙ drop-append-add x (y ++ (z ++ r)) (length y + length z) ∙ drop-append-add y (z ++ r) (length z) ∙ drop-at z r (length z) refl in
-    rw (front, past, end) (append-assoc x v (z ++ r) ∙ sym (append-assoc x (v ++ z) r ∙ ap (λ (q : List ℕ). x ++ q) (append-assoc v z r)))
+    B.put-into x y v (z ++ r) at h g
+    ∙ sym (ap (λ (q : List ℕ). (x ++ (v ++ z)) ++ q) end ∙ append-assoc x (v ++ z) r ∙ ap (λ (q : List ℕ). x ++ q) (append-assoc v z r))
 
 module _ (s : State) (l : List ℕ) (e : take stateLength l ≡ packed s) where
   stored : (x y v z : List ℕ) (at : ℕ) → packed s ≡ x ++ (y ++ z) → length x ≡ at → length v ≡ length y → B.put at v l ≡ over (x ++ (v ++ z)) l
