@@ -22,8 +22,15 @@
 #ifndef ESPI_H
 #define ESPI_H
 
-#include <stddef.h>
 #include <stdint.h>
+
+/* Lengths are 64-bit numbers on every machine, on 32-bit ones too: a size_t there would put what follows it in the wrong place. */
+typedef uint64_t espi_len;
+#ifdef __cplusplus
+static_assert(sizeof(espi_len) == 8 && sizeof(uint8_t) == 1, "espi.h: a length must be 64 bits");
+#else
+_Static_assert(sizeof(espi_len) == 8 && sizeof(uint8_t) == 1, "espi.h: a length must be 64 bits");
+#endif
 
 #ifdef __cplusplus
 extern "C" {
@@ -62,41 +69,41 @@ static inline uint32_t espi_number(uint32_t word) { return word & 0xFFu; }
 static inline uint32_t espi_value(uint32_t word) { return word >> 8; }
 
 /* The fresh state, whatever the bytes held. Numbers: 0, 10. */
-uint32_t espi_start(uint8_t *state, size_t state_len);
+uint32_t espi_start(uint8_t *state, espi_len state_len);
 
 /* eSPI reset (the pin): all registers and wire groups, all queues. The last serial given stays. Numbers: 0, 10, 11. */
-uint32_t espi_reset(uint8_t *state, size_t state_len);
+uint32_t espi_reset(uint8_t *state, espi_len state_len);
 
 /* Platform reset: register 010h, wire groups 6 and 7, channel 0's queues. Numbers: 0, 10, 11. */
-uint32_t espi_platform_reset(uint8_t *state, size_t state_len);
+uint32_t espi_platform_reset(uint8_t *state, espi_len state_len);
 
 /* One exchange: `command` is the whole command phase of one Chip Select# assertion, its CRC byte included. The value is the reply's length; 0: do not
  * drive the bus (silent, or a RESET). A posted write's data goes to the start of the write store; a completion's data comes from the read store, which is
  * never written. Numbers: 0, 1, 2 (value 4), 10 to 16 (value 0). */
-uint32_t espi_exchange(uint8_t *state, size_t state_len, const uint8_t *command, size_t command_len,
-                       uint8_t *reply, size_t reply_len,
-                       uint8_t *write_store, size_t write_store_len,
-                       const uint8_t *read_store, size_t read_store_len);
+uint32_t espi_exchange(uint8_t *state, espi_len state_len, const uint8_t *command, espi_len command_len,
+                       uint8_t *reply, espi_len reply_len,
+                       uint8_t *write_store, espi_len write_store_len,
+                       const uint8_t *read_store, espi_len read_store_len);
 
 /* The unanswered request, if there is one. Report, low byte first: kind 1, address 8, length 2, serial 4, an I/O write's bytes 4 (unused ones 0).
  * Changes nothing. Numbers: 0, 10, 11, 23. */
-uint32_t espi_look(const uint8_t *state, size_t state_len, uint8_t *report, size_t report_len);
+uint32_t espi_look(const uint8_t *state, espi_len state_len, uint8_t *report, espi_len report_len);
 
 /* The answer to the request with this serial. success 0: failure, with no data; any other value: success, with exactly the request's length of data
  * (none for an I/O write), which is copied to the start of the read store. Numbers: 0, 10, 11, 20, 21. */
-uint32_t espi_answer(uint8_t *state, size_t state_len, uint8_t *read_store, size_t read_store_len,
-                     uint32_t serial, uint32_t success, const uint8_t *data, size_t data_len);
+uint32_t espi_answer(uint8_t *state, espi_len state_len, uint8_t *read_store, espi_len read_store_len,
+                     uint32_t serial, uint32_t success, const uint8_t *data, espi_len data_len);
 
 /* Takes the held posted write: its place is free again, its data stays in the write store. Report, low byte first: address 8, length 2.
  * Numbers: 0, 10, 11, 23. */
-uint32_t espi_take_write(uint8_t *state, size_t state_len, const uint8_t *write_store, size_t write_store_len,
-                         uint8_t *report, size_t report_len);
+uint32_t espi_take_write(uint8_t *state, espi_len state_len, const uint8_t *write_store, espi_len write_store_len,
+                         uint8_t *report, espi_len report_len);
 
 /* Sets one defined bit of an up group (index 4 to 6). A real change while channel 1 is on is sent by a later GET_VWIRE. Numbers: 0, 10, 11, 22. */
-uint32_t espi_set_wire(uint8_t *state, size_t state_len, uint32_t index, uint32_t bit, uint32_t value);
+uint32_t espi_set_wire(uint8_t *state, espi_len state_len, uint32_t index, uint32_t bit, uint32_t value);
 
 /* One defined bit of any group (index 2 to 7); the value is the wire's. Numbers: 0, 10, 11, 22. */
-uint32_t espi_read_wire(const uint8_t *state, size_t state_len, uint32_t index, uint32_t bit);
+uint32_t espi_read_wire(const uint8_t *state, espi_len state_len, uint32_t index, uint32_t bit);
 
 #ifdef __cplusplus
 }

@@ -137,7 +137,7 @@ static uint32_t read_wire(uint32_t index, uint32_t bit)
     return word;
 }
 
-static uint32_t reset_by(uint32_t (*call)(uint8_t *, size_t))
+static uint32_t reset_by(uint32_t (*call)(uint8_t *, espi_len))
 {
     lend(&state, state.length);
     uint32_t word = call(bytes(&state), state.length);
