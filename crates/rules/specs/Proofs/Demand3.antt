@@ -88,7 +88,8 @@ module _ (q : Request) (r : reading (q .kind) ≡ true) (l : 0 < q .length) (p :
   pub owes-read : (n k : ℕ) → k + suc n ≡ piecesOf q → Owes (pieceOfRead q) k (suc n) (Ready q (edgeOf q k))
   owes-read zero k h = (piece-ready k (omega arith), rw (piece-handed k (omega arith), eq-eqb (suc k) (piecesOf q) (omega arith)))
   owes-read (suc n) k h =
-      let more : handed (Ready q (edgeOf q k)) ≡ Ready q (edgeOf q (suc k)) = piece-handed k (omega arith) ∙ rw (ne-eqb (suc k) (piecesOf q) (λ e. omega arith)) in
+      let more : handed (Ready q (edgeOf q k)) ≡ Ready q (edgeOf q (suc k)) =
+      piece-handed k (omega arith) ∙ rw (ne-eqb (suc k) (piecesOf q) (λ e. omega arith)) in
       (piece-ready k (omega arith), subst (Owes (pieceOfRead q) (suc k) (suc n)) (sym more) (owes-read n (suc k) (omega arith)))
 
 read-owes : (q : Request) → reading (q .kind) ≡ true → 0 < q .length → 0 < q .payload
@@ -242,7 +243,7 @@ read-delivers q d rd w few m size safe owes i ys u s t =
       few = few;
       pieces =
           deliver (pieceOfRead q) N (pieceBody (q .address) (q .length) (q .payload) (q .tag) d) w safe owes
-          (λ j l. rw i (piece-body q (over d rd) m j l ∙ ap (λ (x : List ℕ). headerAt j ++ x) (part-over (q .address) (q .length) (q .payload) j d rd size))) ys u s t;
+          (λ j l. rw i (body j l)) ys u s t;
       whole = λ e.
           joined-owed (pieceOfRead q) N w owes ys u s e
           ∙ rw i (datas-are (q .address) (q .length) (q .payload) (q .tag) d rd size N 0)
@@ -252,8 +253,11 @@ read-delivers q d rd w few m size safe owes i ys u s t =
     N : ℕ
     N = blocks (q .address) (q .length) (q .payload)
 
-    headerAt : ℕ → List ℕ
-    headerAt j = let p = piece (q .address) (q .length) (q .payload) j in header (markType (p .mark)) (q .tag) (p .size)
+    body : (j : ℕ) → j < N → bodyOf (pieceOfRead q j) (over d rd) ≡ pieceBody (q .address) (q .length) (q .payload) (q .tag) d j
+    body j l =
+        let p = piece (q .address) (q .length) (q .payload) j in
+        piece-body q (over d rd) m j l
+        ∙ ap (λ (x : List ℕ). header (markType (p .mark)) (q .tag) (p .size) ++ x) (part-over (q .address) (q .length) (q .payload) j d rd size)
 
     pay : 0 < q .payload
     pay = omega (arith, m .payload .least)

@@ -43,7 +43,8 @@ use Rattle.rules.specs.Proofs.Demand3.{reading, pieceOfRead, piece-ready
 -- ---- GET_PC
 
 -- an outcome that hands over the first of these completions
-module _ (w : World) (o : Outcome) (k : Completion) (ks : List Completion) (said : o .reply ≡ closed (0x08 ∷ bodyOf k (w .read)) (status (o .next .state))) where
+module _ (w : World) (o : Outcome) (k : Completion) (ks : List Completion)
+    (said : o .reply ≡ closed (0x08 ∷ bodyOf k (w .read)) (status (o .next .state))) where
   replies : (c : Completion) (body : List ℕ) → k ∷ ks ≡ c ∷ [] → bodyOf c (w .read) ≡ body → o .reply ≡ closed (0x08 ∷ body) (status (o .next .state))
   replies c body e h =
       let same : k ≡ c = cc in
@@ -110,7 +111,9 @@ took w report (C.settles _ _ x h (P.took {x = p} f)) z =
 pub peripheral-steps : PeripheralSteps
 peripheral-steps =
     record {
-      get = λ w b r s e n. got-of w (exchange b r) (step w (exchange b r)) s (view-as w (exchange b r) (got-event (w .state) b r (step w (exchange b r)) (eq-eqb _ 0 n) e));
+      get = λ w b r s e n.
+          let c = exchange b r in
+          got-of w c (step w c) s (view-as w c (got-event (w .state) b r (step w c) (eq-eqb _ 0 n) e));
       look = λ w report n. looked w report (cases w (board peripheral (look report))) n (effects w (board peripheral (look report)) n);
       take = λ w report n. took w report (cases w (takesWith report)) n;
     }
