@@ -10,6 +10,7 @@ pub mod Shape
 pub mod Sound
 pub mod Rows
 pub mod Status
+pub mod Steps
 use Prim.Native.Nat.{ℕ}
 use mathlib.Core.Bool.{Bool, true, false, _&&_, not}
 use mathlib.Core.List.{List, [], _∷_}

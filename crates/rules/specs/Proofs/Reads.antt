@@ -2,6 +2,7 @@
 use Prim.Native.Nat.{ℕ, _+_, _-_, _/_, _≤_}
 use mathlib.Core.Bool.{Bool, true, false, _||_, true≢false}
 use mathlib.Core.List.{List, [], _∷_}
+use mathlib.Core.Logic.{_↔_}
 use mathlib.Core.Path.{_≡_, refl, sym, ap, subst, _∙_}
 use native.Mathlib.Nat.{mul-comm}
 use native.Mathlib.Omega.{arith}
@@ -18,6 +19,7 @@ use Rattle.command.specs.Needs.{cycleListed}
 use Rattle.command.specs.Decode as D
 use Rattle.command.specs.Decode.{commandOf, registerData}
 use Rattle.command.specs.Facts.{CommandLength, Decodes, admit-decodes, admit-length}
+use Rattle.command.specs.declared.Row.{Row}
 use Rattle.command.specs.declared.Command.{Command}
 use Rattle.command.specs.declared.Listed.{Listed}
 use Rattle.command.specs.declared.Listed.the-variants.{As, Unlisted}
@@ -27,10 +29,33 @@ use Rattle.rules.specs.Rules.Peripheral as P
 use Rattle.rules.specs.Rules.Peripheral.{requestOf, bytesOf}
 use Rattle.rules.specs.Rules.Wires as W
 use Rattle.rules.specs.Rules.Exchange.{channelsOf}
+use Rattle.rules.specs.Statements.Fields.{isListed}
 use Rattle.rules.specs.Statements.Fields.{byte, isPosted, isNonPosted, highFirst, lowFirst, cycleWidth, accessAddress, accessLength, accessTag, dataFrom, requestKind, ioBytes, groups}
-use Rattle.rules.specs.Statements.Reads.{Peripheral, posts, asks, Wires, puts, ReadAs, Reads}
+use Rattle.rules.specs.Statements.Reads.{OpcodesListed, Peripheral, posts, asks, Wires, puts, ReadAs, Reads}
 use Rattle.rules.specs.Statements.Reads as S
 use Rattle.rules.specs.Proofs.Fields.{by-opcode, one}
+
+-- ---- opcodes
+
+abbrev isRow : Listed → Bool
+isRow Unlisted = false
+isRow (As q) = true
+
+listed-row : (op : ℕ) → isListed op ≡ isRow (rowOf op)
+listed-row =
+    by-opcode (λ (op : ℕ). isListed op ≡ isRow (rowOf op))
+    refl refl refl refl refl refl refl refl refl
+    refl refl refl refl refl refl refl refl refl refl refl refl
+    (λ op l u. l ∙ sym (ap isRow u))
+
+row-there : (t : Bool) (l : Listed) → t ≡ isRow l → (t ≡ true) ↔ ((q : Row) × (l ≡ As q))
+row-there t Unlisted e = (λ h. absurd (true≢false (sym h ∙ e)), λ p. absurd (true≢false (sym (ap isRow (p .1)))))
+row-there t (As q) e = (λ h. (q, refl), λ p. e)
+
+pub opcodes-listed : OpcodesListed
+opcodes-listed op = row-there (isListed op) (rowOf op) (listed-row op)
+
+-- ---- numbers
 
 data-as : (b : List ℕ) → registerData b ≡ lowFirst 4 3 b
 data-as b = omega arith
