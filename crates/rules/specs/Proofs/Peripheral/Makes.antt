@@ -1,20 +1,20 @@
 -- A command for every request and every write that the clauses allow: PUT_NP of type 02h, a short I/O access, PUT_PC of type 03h, on a state whose
 -- 010h has the recorded sizes. Back by soundness, which every call keeps.
 use Prim.Native.Nat.{ℕ, zero, suc, _+_, _-_, _*_, _/_, _%_, _^_, _≤_, _<_}
-use mathlib.Core.Bool.{Bool, true, false, _&&_, _||_, not}
+use mathlib.Core.Bool.{Bool, true, false, _||_, not}
 use mathlib.Core.List.{List, [], _∷_, _++_}
 use mathlib.Core.Logic.{_⊎_, inl, inr}
 use mathlib.Core.Path.{_≡_, refl, sym, ap, subst, _∙_}
 use native.Mathlib.Nat.{mod-lt}
 use native.Mathlib.Omega.{arith}
-use lib.Dec.{eqb, ltb, leb}
+use lib.Dec.{eqb, ltb}
 use lib.ListN.{length, replicate, length-replicate}
 use borrow.Author.Tests.{lt-ltb, le-ltb, ne-eqb, eq-eqb, eqb-true, eqb-false, le-leb}
 use Rattle.base.specs.Pick.{pick, pick-ind, and-true}
-use Rattle.base.specs.Bytes.{low4, number8}
+use Rattle.base.specs.Bytes.{low2, low4, number8}
 use Rattle.base.specs.Numbers.{back4, back8}
 use Rattle.base.specs.AllBytes.{AllBytes, all-none, all-cons, then4}
-use Rattle.registers.specs.Registers.{bits, sizeOf, fresh010, freshConfig, write010, writeAt, forbidden010}
+use Rattle.registers.specs.Registers.{bits, sizeOf, fresh010, freshConfig, writeAt, forbidden010}
 use Rattle.registers.specs.Laws.{fits-fresh, reachable-fresh, reachable-write, fits-write, on0-written, payload-written, read-written}
 use Rattle.registers.specs.declared.Config.{Config}
 use Rattle.wires.specs.Groups.{freshWires}
@@ -34,7 +34,7 @@ use Rattle.rules.specs.Rules.Peripheral.{requestOf}
 use Rattle.rules.specs.Rules.Channel.{Channel, peripheral, wires, part, on}
 use Rattle.rules.specs.Rules.Step.{World, exchange, Outcome, step, run, performed, shortStores, areBytes}
 use Rattle.rules.specs.Statements.Sizes.{payloadOf, readSizeOf, isEnabled}
-use Rattle.rules.specs.Statements.Fields.{byte, isPosted, isNonPosted, highFirst, lowFirst, putLength, accessAddress, accessLength, accessTag, ioBytes}
+use Rattle.rules.specs.Statements.Fields.{byte, isPosted, isNonPosted, highFirst, lowFirst, putLength, accessAddress, accessLength, accessTag}
 use Rattle.rules.specs.Statements.Reads.{requestIn}
 use Rattle.rules.specs.Statements.Requests as R
 use Rattle.rules.specs.Statements.Requests.{Event, event, isAsk, without, held, serialOf}
@@ -235,8 +235,9 @@ are-bytes (x ∷ xs) h = and-true (lt-ltb x 256 (h .byte 0)) (are-bytes xs (reco
 
 -- ---- requests
 
-same-request : (q : Request) (k : Kind) (A L tag P R bytes : ℕ) → k ≡ q .kind → A ≡ q .address → L ≡ q .length → tag ≡ q .tag → P ≡ q .payload → R ≡ q .readsize
-    → bytes ≡ q .bytes → record { kind = k; address = A; length = L; tag = tag; payload = P; readsize = R; bytes = bytes } ≡ q
+same-request : (q : Request) (k : Kind) (A L tag P R bytes : ℕ)
+    → k ≡ q .kind → A ≡ q .address → L ≡ q .length → tag ≡ q .tag → P ≡ q .payload → R ≡ q .readsize → bytes ≡ q .bytes
+    → record { kind = k; address = A; length = L; tag = tag; payload = P; readsize = R; bytes = bytes } ≡ q
 same-request q k A L tag P R bytes a b c d e f g = rw (a, b, c, d, e, f, g)
 
 module _ (q : Request) (made : Made q) (n : ℕ) (small : n < 2 ^ 32) where
@@ -271,10 +272,13 @@ module _ (q : Request) (made : Made q) (n : ℕ) (small : n < 2 ^ 32) where
   askFacts : MadeRequest q
   askFacts = request-made q (made-test q made)
 
+  -- the rows that are left of a command
+  abbrev Rows : (b : List ℕ) (A L size : ℕ) → Type 0
+  Rows b A L size = firstOf (commandRows askState b) ≡ pick (not (isEnabled peripheral askConfig)) 14 (pick (not (fitsSize A L size)) 1 0)
+
   -- a command that asks for it, of a size that fits: rows and request are what its bytes compute to
   made-by : (b : List ℕ) (k : Kind) (A L tag bytes size : ℕ) {B : ℕ} → AllBytes b → isNonPosted (byte b 0) ≡ true
-      → firstOf (commandRows askState b) ≡ pick (not (isEnabled peripheral askConfig)) 14 (pick (not (fitsSize A L size)) 1 0)
-      → requestIn askConfig b ≡ requestOf askConfig k A L tag bytes
+      → Rows b A L size → requestIn askConfig b ≡ requestOf askConfig k A L tag bytes
       → k ≡ q .kind → A ≡ q .address → L ≡ q .length → tag ≡ q .tag → bytes ≡ q .bytes → size ≡ B → 0 < B → q .address % B + q .length ≤ B
       → MakesRequest q n
   unfolding sizeOf
@@ -294,61 +298,61 @@ module _ (q : Request) (made : Made q) (n : ℕ) (small : n < 2 ^ 32) where
       (all-cons (omega arith) (all-cons (omega arith) (all-cons (omega (arith, r .tag)) (low-then (q .length) (high8-then (q .address) (zero-bytes 1))))))
       refl refl refl k
       (high8-back (q .address) 2 2 (tagByte (q .tag) (q .length)) (q .length % 256) (0 ∷ []) (made .address))
-      (length-back (q .length) (q .tag) (r .least) (askFacts .most)) (omega (arith, r .tag)) (sym (r .bytes)) ask-read (omega (arith, askFacts .readsize .least)) (r .inBlock)
+      (length-back (q .length) (q .tag) (r .least) (askFacts .most)) (omega (arith, r .tag)) (sym (r .bytes))
+      ask-read (omega (arith, askFacts .readsize .least)) (r .inBlock)
 
   -- a short access: 2 address bytes, then what follows
   abbrev short : ℕ → List ℕ → List ℕ
   short op rest = op ∷ q .address / 256 % 256 ∷ q .address % 256 ∷ rest
 
-  module _ (io : MadeIo q) (k : Kind) (same : k ≡ q .kind) (size : ℕ) {B : ℕ} (e : size ≡ B) (some : 0 < B) (fits : q .address % B + q .length ≤ B) where
-    short-made : (op L bytes : ℕ) (rest : List ℕ) → op < 256 → AllBytes rest → isNonPosted op ≡ true
-        → firstOf (commandRows askState (short op rest)) ≡ pick (not (isEnabled peripheral askConfig)) 14 (pick (not (fitsSize (highFirst 2 1 (short op rest)) L size)) 1 0)
-        → requestIn askConfig (short op rest) ≡ requestOf askConfig k (highFirst 2 1 (short op rest)) L 0 bytes
-        → q .length ≡ L → bytes ≡ q .bytes → MakesRequest q n
-    short-made op L bytes rest h are asks rows is f g =
-        made-by (short op rest) k (highFirst 2 1 (short op rest)) L 0 bytes size
-        (all-cons h (low-then (q .address / 256) (low-then (q .address) are))) asks rows is same (omega (arith, io .address)) (sym f) (sym (io .tag)) g e some fits
+  abbrev ShortMade : (k : Kind) (size : ℕ) → Type 0
+  ShortMade k size = (op L bytes : ℕ) (rest : List ℕ) → op < 256 → AllBytes rest → isNonPosted op ≡ true
+      → Rows (short op rest) (highFirst 2 1 (short op rest)) L size
+      → requestIn askConfig (short op rest) ≡ requestOf askConfig k (highFirst 2 1 (short op rest)) L 0 bytes
+      → q .length ≡ L → bytes ≡ q .bytes → MakesRequest q n
+
+  short-made : (k : Kind) (size : ℕ) {B : ℕ} → MadeIo q → k ≡ q .kind → size ≡ B → 0 < B → q .address % B + q .length ≤ B → ShortMade k size
+  short-made k size io same e some fits op L bytes rest h are asks rows is f g =
+      made-by (short op rest) k (highFirst 2 1 (short op rest)) L 0 bytes size
+      (all-cons h (low-then (q .address / 256) (low-then (q .address) are))) asks rows is
+      same (omega (arith, io .address)) (sym f) (sym (io .tag)) g e some fits
 
   -- "short I/O read 40h+c"
   io-read : IoRead ≡ q .kind → MadeIoRead q → MakesRequest q n
   io-read k r = by (r .io .lengths)
     where
-      of : (op L : ℕ) → op < 256 → isNonPosted op ≡ true
-          → firstOf (commandRows askState (short op (zeros 1))) ≡ pick (not (isEnabled peripheral askConfig)) 14
-          (pick (not (fitsSize (highFirst 2 1 (short op (zeros 1))) L (readSizeOf askConfig))) 1 0)
-          → requestIn askConfig (short op (zeros 1)) ≡ requestOf askConfig IoRead (highFirst 2 1 (short op (zeros 1))) L 0 0 → q .length ≡ L → MakesRequest q n
-      of op L h asks rows is e =
-          short-made (r .io) IoRead k (readSizeOf askConfig) ask-read (omega (arith, askFacts .readsize .least)) (r .inBlock) op L 0 (zeros 1) h (zero-bytes 1) asks rows is e
-          (sym (r .bytes))
+      of : ShortMade IoRead (readSizeOf askConfig)
+      of = short-made IoRead (readSizeOf askConfig) (r .io) k ask-read (omega (arith, askFacts .readsize .least)) (r .inBlock)
 
       by : (q .length ≡ 1) ⊎ ((q .length ≡ 2) ⊎ (q .length ≡ 4)) → MakesRequest q n
-      by (inl e) = of 0x40 1 (omega arith) refl refl refl e
-      by (inr (inl e)) = of 0x41 2 (omega arith) refl refl refl e
-      by (inr (inr e)) = of 0x43 4 (omega arith) refl refl refl e
+      by (inl e) = of 0x40 1 0 (zeros 1) (omega arith) (zero-bytes 1) refl refl refl e (sym (r .bytes))
+      by (inr (inl e)) = of 0x41 2 0 (zeros 1) (omega arith) (zero-bytes 1) refl refl refl e (sym (r .bytes))
+      by (inr (inr e)) = of 0x43 4 0 (zeros 1) (omega arith) (zero-bytes 1) refl refl refl e (sym (r .bytes))
 
   -- "I/O write 44h+c", its data low byte first
   io-write : IoWrite ≡ q .kind → MadeIoWrite q → MakesRequest q n
   io-write k r = by (r .io .lengths)
     where
-      of : (op L bytes : ℕ) (rest : List ℕ) → op < 256 → AllBytes rest → isNonPosted op ≡ true
-          → firstOf (commandRows askState (short op rest)) ≡ pick (not (isEnabled peripheral askConfig)) 14
-          (pick (not (fitsSize (highFirst 2 1 (short op rest)) L (payloadOf askConfig))) 1 0)
-          → requestIn askConfig (short op rest) ≡ requestOf askConfig IoWrite (highFirst 2 1 (short op rest)) L 0 bytes → q .length ≡ L → bytes ≡ q .bytes → MakesRequest q n
-      of = short-made (r .io) IoWrite k (payloadOf askConfig) ask-payload (omega (arith, askFacts .payload .least)) (r .inBlock)
+      v : ℕ
+      v = q .bytes
 
-      below : {L : ℕ} → q .length ≡ L → q .bytes < 2 ^ (8 * L)
-      below e = subst (λ (L : ℕ). q .bytes < 2 ^ (8 * L)) e (r .bytes)
+      of : ShortMade IoWrite (payloadOf askConfig)
+      of = short-made IoWrite (payloadOf askConfig) (r .io) k ask-payload (omega (arith, askFacts .payload .least)) (r .inBlock)
+
+      below : {L : ℕ} → q .length ≡ L → v < 2 ^ (8 * L)
+      below e = subst (λ (L : ℕ). v < 2 ^ (8 * L)) e (r .bytes)
 
       by : (q .length ≡ 1) ⊎ ((q .length ≡ 2) ⊎ (q .length ≡ 4)) → MakesRequest q n
       by (inl e) =
-          let rest : List ℕ = q .bytes % 256 ∷ zeros 1 in
-          of 0x44 1 (lowFirst 1 3 (short 0x44 rest)) rest (omega arith) (low-then (q .bytes) (zero-bytes 1)) refl refl refl e (omega (arith, below e))
+          let rest : List ℕ = v % 256 ∷ zeros 1 in
+          of 0x44 1 (lowFirst 1 3 (short 0x44 rest)) rest (omega arith) (low-then v (zero-bytes 1)) refl refl refl e (omega (arith, below e))
       by (inr (inl e)) =
-          let rest : List ℕ = q .bytes % 256 ∷ q .bytes / 256 % 256 ∷ zeros 1 in
-          of 0x45 2 (lowFirst 2 3 (short 0x45 rest)) rest (omega arith) (low-then (q .bytes) (low-then (q .bytes / 256) (zero-bytes 1))) refl refl refl e (omega (arith, below e))
+          let rest : List ℕ = low2 v ++ zeros 1 in
+          of 0x45 2 (lowFirst 2 3 (short 0x45 rest)) rest (omega arith) (low-then v (low-then (v / 256) (zero-bytes 1))) refl refl refl e
+          (omega (arith, below e))
       by (inr (inr e)) =
-          let rest : List ℕ = low4 (q .bytes) ++ zeros 1 in
-          of 0x47 4 (lowFirst 4 3 (short 0x47 rest)) rest (omega arith) (then4 (q .bytes) (zero-bytes 1)) refl refl refl e (omega arith ∙ back4 (q .bytes) (below e))
+          let rest : List ℕ = low4 v ++ zeros 1 in
+          of 0x47 4 (lowFirst 4 3 (short 0x47 rest)) rest (omega arith) (then4 v (zero-bytes 1)) refl refl refl e (omega arith ∙ back4 v (below e))
 
 request-by : (k : Kind) (q : Request) (n : ℕ) → n < 2 ^ 32 → k ≡ q .kind → (made : Made q) → MadeAs k q → MakesRequest q n
 request-by MemoryRead q n small e made a = memory-read q made n small e a
@@ -396,7 +400,8 @@ module _ (t : Posted) (made : PostedMade t) where
 
   write-bytes : AllBytes writeCommand
   write-bytes =
-      all-cons (omega arith) (all-cons (omega arith) (all-cons (omega (arith, writeFacts .most)) (low-then (t .length) (high8-then (t .address) (zero-bytes (suc (t .length)))))))
+      all-cons (omega arith)
+      (all-cons (omega arith) (all-cons (omega (arith, writeFacts .most)) (low-then (t .length) (high8-then (t .address) (zero-bytes (suc (t .length)))))))
 
   write-by : MakesWrite t
   write-by =
@@ -434,7 +439,8 @@ write-held (Held t) m = write-by t m
 held-in : (s : State) → Sound s → RequestBy (s .peripheral .request) (s .peripheral .serial) × WriteBy (s .peripheral .write)
 held-in s so =
     let c = sound-clauses s (so .isSound) (so .isFit) .ofChannel peripheral in
-    (request-held (s .peripheral .serial) (parts so .each peripheral .serial) (s .peripheral .request) (c .request), write-held (s .peripheral .write) (c .write))
+    let p = s .peripheral in
+    (request-held (p .serial) (parts so .each peripheral .serial) (p .request) (c .request), write-held (p .write) (c .write))
 
 pub makes : Makes
 makes =
