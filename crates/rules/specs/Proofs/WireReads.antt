@@ -12,11 +12,12 @@ use borrow.Author.Tests.{eqb-true, eqb-false, eq-eqb, ne-eqb}
 use Rattle.base.specs.Pick.{pick, pick-ind, and-left, and-right, or-either}
 use Rattle.wires.specs.Table.{rowAt, isGroup}
 use Rattle.wires.specs.Groups.{levelAt, isDown, definedBit, putPairs, afterSent, platformWires, wholeWires}
-use Rattle.wires.specs.Kept.{whole-platform, whole-level}
+use Rattle.wires.specs.Kept.{whole-level}
 use Rattle.wires.specs.Rows.{DefinedBit, defined-bit, settable-bit}
 use Rattle.wires.specs.Sent.{sent-levels}
 use Rattle.wires.specs.Changes.{lastNamed}
 use Rattle.wires.specs.declared.Wires.{Wires}
+use Rattle.state.specs.Facts.{fresh-sound}
 use Rattle.state.specs.Sound.{Sound}
 use Rattle.rules.specs.Rules.Reset.{Reset, start, espiReset, platformReset}
 use Rattle.rules.specs.Rules.Wires as W
@@ -33,7 +34,7 @@ use Rattle.rules.specs.Statements.WireSteps.{wireOf}
 use Rattle.rules.specs.Statements.Wires.Effects.{groupsSent, tableValues}
 use Rattle.rules.specs.Statements.Wires.Rows.{wireDefined, wireOfBoard}
 use Rattle.rules.specs.Statements.WireReads.{wireDown, resetLevel, resetsGroup, resetsBy, along, packetIn, settingIn, packets, settings}
-use Rattle.rules.specs.Statements.WireReads.{through, lastPut, lastSet, valueRead, ReadAfter, WireReads}
+use Rattle.rules.specs.Statements.WireReads.{through, lastPut, lastSet, valueRead, ReadAfter, SoundBefore, WireReads}
 use Rattle.rules.specs.Proofs.Cases.{board-long}
 use Rattle.rules.specs.Proofs.Events.{head-without, tail-without}
 use Rattle.rules.specs.Proofs.Effects.{effects, after-call}
@@ -275,19 +276,21 @@ platform-level v i h =
     (getD-set-other (set l 4 0x7) 5 4 0x6 0 (λ q. omega arith) ∙ getD-set-same l 4 0x7 0 (omega arith))
     (getD-set-same (set l 4 0x7) 5 0x6 0 (omega (arith, length-set l 4 0x7)))
 
-reset-level : (w : World) (r : Reset) (i bit : ℕ) → resetsGroup i r ≡ true → Sound (step w (reset r) .next .state)
-    → wireOf (step w (reset r) .next) i bit ≡ resetLevel i bit
+reset-sound : (r : Reset) (w : World) → SoundBefore r w → Sound (step w (reset r) .next .state)
 unfolding step
-reset-level w start i bit e s = refl
-reset-level w espiReset i bit e s = refl
-reset-level w platformReset i bit e s =
-    let v = wiresOf w in
-    ap (λ (x : ℕ). x / 2 ^ bit % 2)
-    (platform-level v i (sym (whole-platform v) ∙ wires-whole (step w (reset platformReset) .next) s) e)
+reset-sound start w s = fresh-sound
+reset-sound espiReset w s = sound-step w (reset espiReset) s refl
+reset-sound platformReset w s = sound-step w (reset platformReset) s refl
+
+reset-level : (r : Reset) (w : World) (i bit : ℕ) → SoundBefore r w → resetsGroup i r ≡ true → wireOf (step w (reset r) .next) i bit ≡ resetLevel i bit
+unfolding step
+reset-level start w i bit s e = refl
+reset-level espiReset w i bit s e = refl
+reset-level platformReset w i bit s e = ap (λ (x : ℕ). x / 2 ^ bit % 2) (platform-level (wiresOf w) i (wires-whole w s) e)
 
 pub wire-reads : WireReads
 wire-reads =
     record {
-      since = λ w r cs i bit e s h q. read-after (step w (reset r) .next) cs i bit (resetLevel i bit) s h q (λ d. reset-level w r i bit e s);
+      since = λ w r cs i bit s e h q. read-after (step w (reset r) .next) cs i bit (resetLevel i bit) (reset-sound r w s) h q (λ d. reset-level r w i bit s e);
       between = λ w cs i bit s h q. read-after w cs i bit (valueRead w i bit) s h q (λ d. sym (read-level w i bit d));
     }

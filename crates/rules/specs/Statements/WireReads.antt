@@ -101,9 +101,15 @@ pub record ReadAfter (w : World) (cs : List Call) (i bit old : ℕ) : Type 0 whe
   pub down : wireDown i bit ≡ true → valueRead (run w cs) i bit ≡ lastPut i bit (packets w cs) old
   pub up : wireOfBoard i bit ≡ true → valueRead (run w cs) i bit ≡ lastSet (settings i bit w cs) old
 
--- cs: calls with no reset of the group among them. The state after a reset is sound: any start gives such, and the others keep it (`SoundKept`)
+-- "Start takes no state"
+abbrev pub SoundBefore : Reset → World → Type 0
+SoundBefore start w = Unit {0}
+SoundBefore espiReset w = Sound (w .state)
+SoundBefore platformReset w = Sound (w .state)
+
+-- since a reset of the wire's group, or between any two places of a run: cs, with no such reset among them
 pub record WireReads : Type 0 where
-  pub since : (w : World) (r : Reset) (cs : List Call) (i bit : ℕ) → resetsGroup i r ≡ true → Sound (step w (reset r) .next .state)
+  pub since : (w : World) (r : Reset) (cs : List Call) (i bit : ℕ) → SoundBefore r w → resetsGroup i r ≡ true
       → allHanded cs ≡ true → without (λ v c. resetsBy i c) (step w (reset r) .next) cs ≡ true
       → ReadAfter (step w (reset r) .next) cs i bit (resetLevel i bit)
   pub between : (w : World) (cs : List Call) (i bit : ℕ) → Sound (w .state) → allHanded cs ≡ true → without (λ v c. resetsBy i c) w cs ≡ true
