@@ -2,6 +2,7 @@
 pub mod Apart
 pub mod Effects
 pub mod SoundMeans
+pub mod Makes
 pub mod WholeFirstApplies
 pub mod WholeRefusals
 pub mod Fits

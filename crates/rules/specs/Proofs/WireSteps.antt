@@ -91,7 +91,7 @@ set-of w i bit value o s t e =
     }
 
 -- what an accepted call of the board did
-abbrev BoardDid : Config → Wires → W₀.Board → Wires → Type 0
+abbrev pub BoardDid : Config → Wires → W₀.Board → Wires → Type 0
 BoardDid c v (W₀.setWire index bit value) u = (settable index bit value ≡ true) × (u ≡ G.setWire (on wires c) v index bit value)
 BoardDid c v (W₀.readWire index bit) u = W₀.valueOf v (W₀.readWire index bit) ≡ G.readWire v index bit
 
@@ -102,7 +102,7 @@ board-did (W.noWire e) n = absurd (omega arith)
 board-did (W.read e) n = rw e
 
 module _ (w : World) (o : W₀.Board) (n : step w (board wires o) .number ≡ 0) where
-  board-law : BoardDid (w .state .config) (wiresOf w) o (W₀.settle (w .state .config) (wiresOf w) o .next)
+  pub board-law : BoardDid (w .state .config) (wiresOf w) o (W₀.settle (w .state .config) (wiresOf w) o .next)
   unfolding served lift
   board-law = board-did (D.settled wires (w .state .config) (wiresOf w) o) (sym (ap (λ (q : Outcome). q .number) (board-long wires w o refl)) ∙ n)
 

@@ -2,6 +2,7 @@
 -- this law and unfold no decision.
 pub mod Effects
 pub mod SoundMeans
+pub mod Makes
 pub mod Rows
 pub mod Status
 pub mod Steps
