@@ -277,7 +277,7 @@ static inline uint32_t espi_target_look(const struct espi_target *target, struct
 {
     uint8_t report[ESPI_LOOK_REPORT_LEN];
     uint32_t word = espi_look(target->state, ESPI_STATE_LEN, report, ESPI_LOOK_REPORT_LEN);
-    if (espi_number(word) == ESPI_OK)
+    if (word == ESPI_OK)
         *request = espi_request_of(report);
     return word;
 }
@@ -299,7 +299,7 @@ static inline uint32_t espi_target_take(struct espi_target *target, struct espi_
 {
     uint8_t report[ESPI_TAKE_REPORT_LEN];
     uint32_t word = espi_take_write(target->state, ESPI_STATE_LEN, target->write_store, ESPI_WRITE_STORE_LEN, report, ESPI_TAKE_REPORT_LEN);
-    if (espi_number(word) == ESPI_OK)
+    if (word == ESPI_OK)
         *taken = espi_write_of(report);
     return word;
 }
