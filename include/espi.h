@@ -251,9 +251,9 @@ static inline struct espi_write espi_write_of(const uint8_t report[ESPI_TAKE_REP
 
 /* ---- A target with its stores
  *
- * The nine calls over one struct, each of which does what its plain call does and returns its word. The struct is 4.7 KB: make it static, not a local
- * variable. What is handed in (command, data) lies outside it. The board reads `reply` after an exchange and `write_store` after a take, and leaves the
- * rest alone; that keeps the duties about state and stores above, but for the order of calls. */
+ * The nine calls over one struct: each does what its plain call does and returns the same word. The struct is 4.7 KB: make it static, not a local
+ * variable. What is handed in (command, data) lies outside it; the board reads `reply` after an exchange and `write_store` after a take, and leaves the
+ * rest alone. Then no slices overlap, and every call gets the state and the stores that the last one left; the other duties above stay the board's. */
 struct espi_target {
     uint8_t state[ESPI_STATE_LEN];
     uint8_t reply[ESPI_REPLY_LEN];
