@@ -164,6 +164,8 @@ def contracts(page, crates):
 
 FURTHER = ["base/specs/Pick", "command/specs/Numbers", "promises/specs/ByteRuns", "state/specs/Channel", "state/specs/Sound"]
 FURTHER += ["wires/specs/Below", "wires/specs/Table", "wires/specs/Turn"]
+STATEMENTS = "Fields Effects Sizes Shape Events Requests WireEvents Peripheral/Rows Peripheral/Effects Wires/Rows Wires/Effects"
+FURTHER += ["rules/specs/Statements/" + name for name in STATEMENTS.split()]
 PUBLIC = re.compile(r"^( *(?:abbrev|unfoldable) )?pub (record |data )?(?!use |mod )([^\s:({]+)")
 RULE = re.compile(r'"[^"]+"|\b01, [A-Z]|\b02, Q-\d|\b004, (?:tables? )?\d')
 
