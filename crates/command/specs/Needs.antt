@@ -30,7 +30,7 @@ channelOn on Peripheral = on .peripheral
 channelOn on Wires = on .wires
 channelOn on Independent = true
 
--- else 15, "cycle type not listed": one of the two that the opcode takes (01, Commands)
+-- else 15, "cycle type not listed" (01, Replies and refusals): one of the two that the opcode takes (01, Commands)
 abbrev pub cycleListed : Cycle → ℕ → Bool
 cycleListed Absent t = true
 cycleListed (Types n w) t = eqb t n || eqb t w

@@ -32,7 +32,7 @@ successOf MemoryRead q sent = pieceOf q sent
 successOf IoRead q sent = pieceOf q sent
 successOf IoWrite q sent = bare 0x06 q
 
--- the next hand-over: none, or one. PC_AVAIL is "a completion is ready" (01, Registers and status): once the request is answered; "0Eh for failure"
+-- the next hand-over: none, or one. "a completion is ready" (01, Registers and status) once the request is answered; 0Eh for a failure
 unfoldable pub upward : Np → List Completion
 upward Free = []
 upward (Waiting q) = []

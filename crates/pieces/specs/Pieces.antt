@@ -6,7 +6,7 @@ use lib.ListN.{take, drop}
 use Rattle.pieces.specs.Marks.{markOf}
 use Rattle.pieces.specs.declared.Mark.{Mark}
 
--- N: "the number of P-aligned blocks that it touches", "floor((A+L-1)/P) - floor(A/P) + 1"
+-- N: "the number of P-aligned blocks that it touches" (demand 3), "floor((A+L-1)/P) - floor(A/P) + 1" (01, Requests, answers, pieces)
 unfoldable pub blocks : ℕ → ℕ → ℕ → ℕ
 blocks A L P = (A + L - 1) / P - A / P + 1
 
@@ -29,7 +29,7 @@ unfoldable pub piecesFrom : ℕ → ℕ → ℕ → ℕ → ℕ → List Piece
 piecesFrom A L P k zero = []
 piecesFrom A L P k (suc n) = piece A L P k ∷ piecesFrom A L P (suc k) n
 
--- "block by block in address order"
+-- "block by block in address order" (demand 3)
 unfoldable pub pieces : ℕ → ℕ → ℕ → List Piece
 pieces A L P = piecesFrom A L P 0 (blocks A L P)
 

@@ -65,7 +65,7 @@ putPairs w (i ∷ d ∷ ps) = putPairs (putPair w i d) ps
 
 -- ---- the board sets and reads a wire
 
--- else 22, "no such defined wire": an index of 2 to 7, and a bit that its row defines (01, Wires: the table)
+-- else 22, "no such defined wire" (01, Replies and refusals): an index of 2 to 7, and a bit that its row defines (01, Wires: the table)
 abbrev pub definedBit : ℕ → ℕ → Bool
 definedBit i bit = isGroup i && (ltb bit 4 && eqb (rowAt (i - 2) .defined / 2 ^ bit % 2) 1)
 
@@ -125,7 +125,7 @@ afterSent w (k ∷ ks) = afterSent (leftBy w k) ks
 abbrev pub packetOf : Wires → List ℕ → Packet
 packetOf w ks = record { place = w .place; count = sizes senderSize ks }
 
--- "index and data": a group "with all defined bits valid" (01, Wires)
+-- "index and data" (01, Commands: PUT_VWIRE) of a group "with all defined bits valid" (01, Wires)
 abbrev pub pairAt : (i level : ℕ) → List ℕ
 pairAt i level = i ∷ (rowAt (i - 2) .defined * 16 + level) ∷ []
 

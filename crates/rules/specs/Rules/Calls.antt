@@ -127,7 +127,7 @@ answerCall st read serial success bytes =
     (let p = L.settled peripheral (unpacked st) (P.answer serial success bytes) in
     stored (p .number) (kept (p .next) st) (over (keptBytes (p .kept) bytes) read))))
 
--- "take a write": 10, for "a take the write store" and the report, 11, then 23; it "leaves the store" (01, What the engine covers; docs/DECISIONS.md, 15)
+-- "take a write": 10, for "a take the write store" (01, What the engine covers; docs/DECISIONS.md, 15) and the report, 11, then 23; the store stays
 unfoldable pub takeWriteCall : (st write report : List ℕ) → Stored
 takeWriteCall st write report =
     pick (ltb (length st) stateLength) (stored storeTooShort st report)

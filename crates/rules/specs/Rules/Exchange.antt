@@ -19,7 +19,8 @@ use Rattle.rules.specs.declared.Plan.{Plan}
 
 -- ---- configuration: each channel gets the enableEdge of its enable bit
 
--- each channel by what its enable bit was and is: "Disabling channel 0", "Disabling channel 1", "Enabling it from disabled" (01, Wires)
+-- each channel by what its enable bit was and is: "Disabling channel 0" (01, Requests, answers, pieces), "Disabling channel 1", "Enabling it from
+-- disabled" (01, Wires)
 abbrev pub reconfigured : State → Config → State
 reconfigured s c = each (λ k. enableEdge k (on k (s .config)) (on k c)) c s
 
@@ -49,8 +50,8 @@ wasReset r s = each (λ k. reset k r) (configReset r (s .config)) s
 abbrev pub acted : (k : Channel) → State → Act k → Plan
 acted k s a = lift k s (acting k (s .config) (part k s) a)
 
--- an admitted command: "credit (1), size (1), 2" come in its own rule; the two channels', GET_CONFIGURATION, SET_CONFIGURATION, GET_STATUS, RESET
--- (01, Commands: the opcodes)
+-- an admitted command by its opcode (01, Commands): the two channels', GET_CONFIGURATION, SET_CONFIGURATION, GET_STATUS, RESET; what is left of the
+-- order, "credit (1), size (1), 2", comes in its own rule (01, Replies and refusals)
 unfoldable pub decide : State → Command → List ℕ → Plan
 decide s (C.Peripheral o) b = acted peripheral s (actOf peripheral (s .config) o b)
 decide s (C.Wires o) b = acted wires s (actOf wires (s .config) o b)
@@ -70,7 +71,7 @@ abbrev pub byDecoded : State → List ℕ → Decoded → Plan
 byDecoded s b (Refused n) = silent n s
 byDecoded s b (Known o) = decide s o b
 
--- "One exchange is the whole command phase of one Chip Select# assertion" (01, What the engine covers), its CRC "checked only while register 008h
--- bit 31 is 1" (01, Commands); of a sound state, so from "empty (12)" on in the order of refusals
+-- "One exchange is the whole command phase of one Chip Select# assertion" (01, What the engine covers), of a sound state: the order of refusals from
+-- "empty (12)" on (01, Replies and refusals), the CRC "checked only while register 008h bit 31 is 1" (01, Commands)
 unfoldable pub exchange : State → List ℕ → Plan
 exchange s b = byDecoded s b (admit (channelsOf (s .config)) (crcChecked (s .config .r008)) b)

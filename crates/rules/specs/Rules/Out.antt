@@ -33,6 +33,6 @@ defer = record { number = 0; say = Said Defer B.Nothing; kept = K.Nothing }
 abbrev pub number : ℕ → Out
 number n = record { number = n; say = Silent; kept = K.Nothing }
 
--- accepted, and its data kept: number 0 of a board call (01, Replies and refusals), "Success copies exactly L bytes"
+-- a board call that is accepted, number 0, and its data kept: an answer's (01, Requests, answers, pieces: "Success copies exactly L bytes")
 abbrev pub keep : Kept → Out
 keep kept = record { number = 0; say = Silent; kept = kept }

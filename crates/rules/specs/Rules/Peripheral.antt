@@ -96,7 +96,7 @@ abbrev pub holding : Peripheral → ℕ → ℕ → ℕ → Peripheral
 holding p address length payload =
     record { write = Held (record { address = address; length = length; payload = payload }); request = p .request; serial = p .serial }
 
--- "no credit (posted write while one is held ..)", then the size rules; its data is kept "at the start of the write store" (01, Replies and refusals)
+-- "no credit (posted write while one is held ..)", then the size rules (01, Replies and refusals); the data is kept (01, Requests, answers, pieces)
 unfoldable pub post : Config → Peripheral → (address length from : ℕ) → PeripheralChange
 post c p address length from =
     pick (not (pcFree (p .write))) (change p fatal)

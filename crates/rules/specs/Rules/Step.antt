@@ -91,7 +91,7 @@ served k w o p =
       next = record { state = p .next; write = w .write; read = over (keptBytes (p .kept) (given k o)) (w .read) };
     }
 
--- number 10, "a lent store too short": "an exchange uses all three" (01, What the engine covers) ..
+-- number 10 (01, Replies and refusals): "an exchange uses all three" (01, What the engine covers) ..
 abbrev pub shortStores : List ℕ → World → Bool
 shortStores reply w = ltb (length reply) replyLength || (ltb (length (w .write)) writeLength || ltb (length (w .read)) readLength)
 
@@ -106,7 +106,8 @@ abbrev pub shortFor : (k : Channel) → Board k → World → Bool
 shortFor peripheral o w = shortPeripheral o w
 shortFor wires o w = false
 
--- one call of a sound state: "10, 11, then their own" (01, Replies and refusals), 10 for a state slice by `short`, 11 never, since "Every call keeps it"
+-- one call of a sound state: "10, 11, then their own" (01, Replies and refusals); 10 for a state slice by `short`; 11 never, since "Every call keeps
+-- it" (01, Sound state)
 unfoldable pub step : World → Call → Outcome
 step w (reset r) = only 0 (withState w (E.wasReset r (w .state)))
 step w (exchange command reply) = pick (shortStores reply w) (only storeTooShort w) (performed w command (E.exchange (w .state) command))

@@ -121,7 +121,8 @@ valueEnables v = eqb (bits 0 0 v) 1
 abbrev pub enabledAfter : Channel → Config → ℕ → ℕ → Bool
 enabledAfter k c a v = pick (enablesAt k a) (valueEnables v) (isEnabled k c)
 
--- an edge for the part whose register it is: "Disabling channel 0", "Disabling channel 1", "Enabling it from disabled" (01, Wires)
+-- an edge for the part whose register it is: "Disabling channel 0" (01, Requests, answers, pieces), "Disabling channel 1", "Enabling it from disabled"
+-- (01, Wires)
 abbrev pub writtenPart : Config → ℕ → ℕ → (k : Channel) → Part k → Part k
 writtenPart c a v k = switched k (isEnabled k c) (enabledAfter k c a v)
 

@@ -18,7 +18,7 @@ use Rattle.rules.specs.Statements.Events.{accepted, endsWith}
 -- ---- events: refused calls are idle, what an accepted exchange was its bytes say
 
 -- asks: an accepted non-posted request; tells: an accepted answer; gets: an accepted GET_PC; ends: an ending event, "a start, an eSPI
--- reset, a platform reset or a disabling of channel 0, refused ones apart"; lends: no call of the engine, other stores are lent from here on
+-- reset, a platform reset or a disabling of channel 0, refused ones apart" (demand 3); lends: no call of the engine, other stores are lent from here on
 pub data Event : Type 0 where
   idle asks tells gets ends lends : Event
 

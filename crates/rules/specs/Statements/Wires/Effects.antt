@@ -46,7 +46,8 @@ noneMarked = false ∷ false ∷ false ∷ false ∷ false ∷ false ∷ []
 abbrev pub tableValues : List ℕ
 tableValues = 0x0 ∷ 0x0 ∷ 0xC ∷ 0x0 ∷ 0x7 ∷ 0x6 ∷ []
 
--- "eSPI reset also resets all .. groups"; "Platform reset also resets .. wire groups 6 and 7"; "A reset group is not pending" (01, Requests; Wires)
+-- "eSPI reset also resets all .. groups"; "Platform reset also resets .. wire groups 6 and 7" (01, Requests, answers, pieces); "A reset group is not
+-- pending" (01, Wires)
 abbrev pub resetPart : Reset → Wires → Wires
 resetPart start v = record { level = tableValues; pending = noneMarked; place = 4 }
 resetPart espiReset v = record { level = tableValues; pending = noneMarked; place = 4 }
