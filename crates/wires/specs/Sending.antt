@@ -80,14 +80,14 @@ turn-closed w g e =
     ap (λ (n : ℕ). turn senderSize (waiting w) senders (g .left) n (senderOf (g .group))) e
     ∙ turn-full senderSize (waiting w) senders (g .left) (senderOf (g .group)) (λ k. omega arith)
 
--- a step: nearer the end, what it takes and then the rest, and the room that is left (01, Wires: "going round")
+-- a step: nearer the end, what it takes and then the rest, and the room that is left (01, Wires: GET_VWIRE)
 pub record Step (w : Wires) (g : Going) (now : List ℕ) (h : Going) : Type 0 where
   pub up : isUp (h .group) ≡ true
   pub less : h .left < g .left
   pub turns : turnOf w g ≡ now ++ turnOf w h
   pub room : h .room + sizes senderSize (turnOf w g) ≡ g .room + sizes senderSize (turnOf w h)
 
--- each step from an up group is one (01, Wires: "going round")
+-- each step from an up group is one (01, Wires: GET_VWIRE)
 pub step : (w : Wires) (g : Going) → isUp (g .group) ≡ true → 0 < g .left → Step w g (nowTaken w g) (past w g)
 unfolding turn sizes
 step w g here more = go (markAt w (g .group)) (leb (senderSize k) (g .room)) refl asked
@@ -155,7 +155,7 @@ sizes-over w g e = ap (sizes senderSize) (turn-over w g e)
 
 -- ---- so far sent: what is still to be taken completes it
 
--- what is sent so far and what is still to be taken are together what `sent` says (01, Wires: "going round")
+-- what is sent so far and what is still to be taken are together what `sent` says (01, Wires: "min(pending, operating count) groups")
 pub record Gone (w : Wires) (capacity : ℕ) (next : Wires) (g : Going) : Type 0 where
   pub up : isUp (g .group) ≡ true
   pub rest : afterSent next (turnOf w g) ≡ afterSent w (sent w capacity)

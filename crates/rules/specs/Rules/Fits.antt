@@ -1,4 +1,5 @@
--- What the lent slices must hold for a plan to be carried out: a piece's data in the read store and the reply, a packet over sound wires, the kept data in its source and its store.
+-- What the lent slices must hold for a plan to be carried out: a piece's data in the read store and the reply, a packet over sound wires, the kept
+-- data in its source and its store.
 use Prim.Native.Nat.{ℕ, _+_, _≤_}
 use Rattle.wires.specs.Sending.{PacketFits}
 use Rattle.wires.specs.declared.Wires.{Wires}
