@@ -4,6 +4,7 @@
 CONTRACTS.md: a section `## CRATE` has a line 'Definitions in `FILE`, ..' and rows `| `function` | .. `definition` .. | form | requires | met by |`.
 Both pages: a name cited as `name` (`file`), files under crates/, is declared in that file; `Record.field` is a field of it; `x.edit` exists.
 PROMISES.md, 'Statements and proofs': a row's second name is declared with its first as type.
+The files of definitions (those that CONTRACTS.md names, all of rules/specs/Rules, and FURTHER): above each public definition stands the rule that it says.
 """
 import glob
 import os
@@ -159,6 +160,48 @@ def contracts(page, crates):
     return listed
 
 
+# ---- the definitions, and the rules that they say
+
+FURTHER = ["base/specs/Pick", "command/specs/Numbers", "promises/specs/ByteRuns", "state/specs/Channel", "state/specs/Sound"]
+FURTHER += ["wires/specs/Below", "wires/specs/Table", "wires/specs/Turn"]
+STATEMENTS = "Fields Effects Sizes Shape Events Requests WireEvents Peripheral/Rows Peripheral/Effects Wires/Rows Wires/Effects"
+FURTHER += ["rules/specs/Statements/" + name for name in STATEMENTS.split()]
+PUBLIC = re.compile(r"^( *(?:abbrev|unfoldable) )?pub (record |data )?(?!use |mod )([^\s:({]+)")
+RULE = re.compile(r'"[^"]+"|\b01, [A-Z]|\b02, Q-\d|\b004, (?:tables? )?\d')
+
+
+def definitions(path):
+    """The public ones, with the comment directly above. A law is none: its name has a hyphen, or its type ends in an equation or an order."""
+    lines = read(path).split("\n")
+    for at, line in enumerate(lines):
+        head = PUBLIC.match(line)
+        if not head or "-" in head.group(3):
+            continue
+        top, end = at, at + 1
+        while end < len(lines) and lines[end].startswith("  "):
+            end += 1
+        if not head.group(1) and not head.group(2) and re.search(r"[≡≤<]", " ".join(lines[at:end]).split("→")[-1]):
+            continue
+        while top > 0 and lines[top - 1].lstrip().startswith("--"):
+            top -= 1
+        yield head.group(3), " ".join(text.strip(" -") for text in lines[top:at])
+
+
+def cited_definitions(page):
+    """Each quotes its rule, or has the rule's place in 01, 02 or 004, or a number of docs/DECISIONS.md; how many there are."""
+    files = set(glob.glob("crates/rules/specs/Rules/*.antt")) | {f"crates/{name}.antt" for name in FURTHER}
+    for line in read(page).split("\n"):
+        if "Definitions in" in line:
+            files |= {os.path.join("crates", f) for f in re.findall(r"`([^`]+\.antt)`", line)}
+    decided, found = re.findall(r"^(\d+)\. \*\*", read("docs/DECISIONS.md"), re.M), 0
+    for path in sorted(files):
+        for name, comment in definitions(path):
+            found += 1
+            if not RULE.search(comment) and not set(re.findall(r"DECISIONS\.md, (\d+)", comment)) & set(decided):
+                fault(f"{path}: {name}: which rule does it say?")
+    return found
+
+
 def told(name, faults, right):
     """Prints the faults, or what is right; the exit status."""
     for text in faults or [right + ": ok"]:
@@ -181,7 +224,8 @@ def main():
                 fault(f"{crate}::{name} is exported and has a requires")
     cited = citations("docs/PROMISES.md") | citations("docs/CONTRACTS.md")
     proofs("docs/PROMISES.md")
-    return told("listed", faults, f"{len(listed)} public functions, {len(cited)} statements")
+    defined = cited_definitions("docs/CONTRACTS.md")
+    return told("listed", faults, f"{len(listed)} public functions, {len(cited)} statements, {defined} definitions")
 
 
 if __name__ == "__main__":
