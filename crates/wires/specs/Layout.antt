@@ -79,7 +79,8 @@ marksIn on l = marksFit on (getD l 6 0) (getD l 7 0) (getD l 8 0) (getD l 9 0) (
 pub words-back : (l : List ℕ) → ((k : ℕ) → getD l k 0 < 256) → wiresOf (wordsIn l) ≡ wiresIn l
 words-back l byte =
     ap (λ (a : List ℕ). fromBytes a (low4 (number4 72 l)) (getD l 76 0)) (low8-number8 l byte 64)
-    ∙ ap (λ (b : List ℕ). fromBytes (getD l 64 0 ∷ getD l 65 0 ∷ getD l 66 0 ∷ getD l 67 0 ∷ getD l 68 0 ∷ getD l 69 0 ∷ getD l 70 0 ∷ getD l 71 0 ∷ []) b (getD l 76 0)) (low4-number4 l byte 72)
+    ∙ ap (λ (b : List ℕ). fromBytes (getD l 64 0 ∷ getD l 65 0 ∷ getD l 66 0 ∷ getD l 67 0 ∷ getD l 68 0 ∷ getD l 69 0 ∷ getD l 70 0 ∷ getD l 71 0 ∷ []) b
+    (getD l 76 0)) (low4-number4 l byte 72)
 
 mark-back : (b : Bool) → eqb (bit b) 1 ≡ b
 mark-back true = refl

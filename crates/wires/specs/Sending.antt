@@ -107,14 +107,17 @@ step w g here more = go (markAt w (g .group)) (leb (senderSize k) (g .room)) ref
         let t : ℕ → ℕ → List ℕ = λ room j. turn senderSize (waiting w) senders (g .left - 1) room j in
         ap (λ (l : ℕ). turn senderSize (waiting w) senders l (g .room) k) e
         ∙ ap (λ (j : ℕ). pick (waiting w k) (pick (leb (senderSize k) (g .room)) (k ∷ t (g .room - senderSize k) j) []) (t (g .room) j)) (sym (next .own))
-        ∙ ap (λ (i : ℕ). pick (markAt w i) (pick (leb (senderSize k) (g .room)) (k ∷ rest (g .room - senderSize k)) []) (rest (g .room))) (up-group (g .group) here .back)
+        ∙ ap (λ (i : ℕ). pick (markAt w i) (pick (leb (senderSize k) (g .room)) (k ∷ rest (g .room - senderSize k)) []) (rest (g .room)))
+        (up-group (g .group) here .back)
 
     go : (a b : Bool) → leb (senderSize k) (g .room) ≡ b → turnOf w g ≡ pick a (pick b (k ∷ rest (g .room - senderSize k)) []) (rest (g .room))
         → Step w g (pick (a && b) (k ∷ []) [])
         (pick a
-        (pick b (record { group = groupAfter (g .group); left = g .left - 1; room = g .room - senderSize k }) (record { group = g .group; left = 0; room = g .room }))
+        (pick b (record { group = groupAfter (g .group); left = g .left - 1; room = g .room - senderSize k })
+        (record { group = g .group; left = 0; room = g .room }))
         (record { group = groupAfter (g .group); left = g .left - 1; room = g .room }))
-    go true true f e = record { up = next .up; less = omega arith; turns = e; room = let q = ap (sizes senderSize) e in omega (arith, q, leb-true 1 (g .room) f) }
+    go true true f e =
+        record { up = next .up; less = omega arith; turns = e; room = let q = ap (sizes senderSize) e in omega (arith, q, leb-true 1 (g .room) f) }
     go true false f e = record { up = here; less = more; turns = e; room = let q = ap (sizes senderSize) e in omega (arith, q) }
     go false b f e = record { up = next .up; less = omega arith; turns = e; room = let q = ap (sizes senderSize) e in omega (arith, q) }
 
@@ -164,7 +167,12 @@ pub record Gone (w : Wires) (capacity : ℕ) (next : Wires) (g : Going) : Type 0
 pub gone-first : (w : Wires) (capacity : ℕ) (g : Going) → isUp (w .place) ≡ true → g ≡ begun (w .place) capacity → Gone w capacity w g
 gone-first w capacity g up e =
     let t = ap (turnOf w) e ∙ begun-turn w (w .place) capacity in
-    record { up = ap (λ (h : Going). isUp (h .group)) e ∙ up; rest = ap (afterSent w) t; room = omega (arith, ap (λ (h : Going). h .room) e, ap (sizes senderSize) t) }
+    record {
+      up = ap (λ (h : Going). isUp (h .group)) e ∙ up;
+      rest = ap (afterSent w) t;
+      room = omega
+          (arith, ap (λ (h : Going). h .room) e, ap (sizes senderSize) t);
+    }
 
 pub gone-on : {w next : Wires} {capacity : ℕ} {g : Going} (next′ : Wires) (h : Going) → Gone w capacity next g → 0 < g .left → h ≡ past w g
     → afterSent next′ (turnOf w (past w g)) ≡ afterSent next (turnOf w g) → Gone w capacity next′ h

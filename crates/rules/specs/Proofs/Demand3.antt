@@ -143,7 +143,11 @@ unfolding piece part over
 part-over A L P k d rd e =
     let a : edge A L P k ≤ length d = omega (arith, edge-le A L P k) in
     let b : edge A L P (suc k) - edge A L P k ≤ length (drop (edge A L P k) d) = rw length-drop (omega (arith, edge-le A L P (suc k))) in
-    rw (drop-append-le (edge A L P k) d (drop (length d) rd) a, take-append-le (edge A L P (suc k) - edge A L P k) (drop (edge A L P k) d) (drop (length d) rd) b)
+    rw (
+      drop-append-le (edge A L P k) d (drop (length d) rd) a,
+      take-append-le (edge A L P (suc k) - edge A L P k) (drop (edge A L P k) d)
+          (drop (length d) rd) b,
+    )
 
 datas-are : (A L P tag : ℕ) (d rd : List ℕ) → length d ≡ L → (n k : ℕ) → datas (pieceAt A L P tag) (over d rd) k n ≡ joined d (piecesFrom A L P k n)
 unfolding datas joined piecesFrom

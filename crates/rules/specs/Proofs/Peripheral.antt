@@ -79,7 +79,8 @@ module _ (p : Peripheral) (serial success : ℕ) (d : List ℕ) where
   abbrev Told : PeripheralChange → Type 0
   Told = Settled p (answer serial success d)
 
-  answered-settled : (q : Request) (t : Bool) → succeeded success ≡ t → p .request ≡ Waiting q → serial ≡ p .serial → length d ≡ bytesFor q t → Told (P.answered p q t)
+  answered-settled : (q : Request) (t : Bool) → succeeded success ≡ t → p .request ≡ Waiting q → serial ≡ p .serial → length d ≡ bytesFor q t
+      → Told (P.answered p q t)
   answered-settled q true e h n l = succeeds h n e l
   answered-settled q false e h n l = fails h n e l
 

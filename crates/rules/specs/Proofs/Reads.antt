@@ -118,7 +118,8 @@ module _ (c : Config) (b : List ℕ) where
 
 module _ (c : Config) (r : List ℕ) where
   abbrev OnRow : ℕ → Listed → Type 0
-  OnRow op (As q) = cycleListed (q .cycle) (getD r 0 0) ≡ true → CommandLength (commandOf q (op ∷ r)) (length (op ∷ r)) → ReadAs c (op ∷ r) (commandOf q (op ∷ r))
+  OnRow op (As q) =
+      cycleListed (q .cycle) (getD r 0 0) ≡ true → CommandLength (commandOf q (op ∷ r)) (length (op ∷ r)) → ReadAs c (op ∷ r) (commandOf q (op ∷ r))
   OnRow op Unlisted = Unit {0}
 
   abbrev At : ℕ → Type 0
@@ -163,10 +164,13 @@ module _ (c : Config) (r : List ℕ) where
       (λ op _ u. subst (OnRow op) (sym u) tt)
 
 pub reads : Reads
-reads s b o e = by-bytes b (admit-decodes (channelsOf (s .config)) (crcChecked (s .config .r008)) b o e) (admit-length (channelsOf (s .config)) (crcChecked (s .config .r008)) b o e)
+reads s b o e =
+    by-bytes b (admit-decodes (channelsOf (s .config)) (crcChecked (s .config .r008)) b o e)
+    (admit-length (channelsOf (s .config)) (crcChecked (s .config .r008)) b o e)
   where
     by-bytes : (l : List ℕ) → Decodes (channelsOf (s .config)) l o → CommandLength o (length l) → ReadAs (s .config) l o
     by-bytes [] d n = absurd (omega (arith, d .passes .some))
     by-bytes (op ∷ r) d n =
         subst (ReadAs (s .config) (op ∷ r)) (sym (d .same))
-        (subst (OnRow (s .config) r op) (d .passes .row) (at-opcode (s .config) r op) (d .listed) (subst (λ (z : Command). CommandLength z (length (op ∷ r))) (d .same) n))
+        (subst (OnRow (s .config) r op) (d .passes .row) (at-opcode (s .config) r op) (d .listed)
+        (subst (λ (z : Command). CommandLength z (length (op ∷ r))) (d .same) n))

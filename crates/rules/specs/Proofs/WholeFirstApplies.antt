@@ -42,7 +42,8 @@ packing st h =
 
 -- ---- the exchange, start and the resets
 
-exchange-first : (st command reply write read : List ℕ) → exchangeCall st command reply write read .word % 256 ≡ firstOf (exchangeRows st command reply write read)
+exchange-first : (st command reply write read : List ℕ)
+    → exchangeCall st command reply write read .word % 256 ≡ firstOf (exchangeRows st command reply write read)
 unfolding exchangeCall exchangePlanned
 exchange-first st command reply write read =
     let f : Exchanged → ℕ = λ x. x .word % 256 in

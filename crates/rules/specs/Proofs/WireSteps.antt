@@ -184,7 +184,8 @@ never-nil : (xs : List ℕ) (y : ℕ) → [] ≡ xs ++ (y ∷ []) → ⊥
 never-nil [] y e = let z : _≡_ {A = ℕ} 0 1 = cc in omega arith
 never-nil (x ∷ xs) y e = let z : _≡_ {A = ℕ} 0 1 = cc in omega arith
 
-alone : {ks : List ℕ} (v : Wires) (k last : ℕ) → k < senders → AllBelow senders ks → groupAt k ∷ up ks ≡ last ∷ [] → afterSent (G.leftBy v k) ks .place ≡ nextUp last
+alone : {ks : List ℕ} (v : Wires) (k last : ℕ) → k < senders → AllBelow senders ks → groupAt k ∷ up ks ≡ last ∷ []
+    → afterSent (G.leftBy v k) ks .place ≡ nextUp last
 unfolding up afterSent
 alone v k last h none e = let q : groupAt k ≡ last = cc in next-up k h ∙ ap nextUp q
 alone v k last h (more x xs) e = let z : _≡_ {A = ℕ} 0 1 = cc in absurd (omega arith)
@@ -258,7 +259,8 @@ module _ (w : World) (s : Sound (w .state)) (i : ℕ) (from : 2 ≤ i) (upto : i
       (eqb-true _ _ (and-right (not (on wires (w .state .config))) _ is)) (not-true _ (and-left (not (on wires (w .state .config))) _ is))
       (eqb-false _ _
       (not-true _
-      (and-right (not (rowAt (i - 2) .down)) _ (sym (K.remarked-mark true (wiresOf w) (wiresOf w .place) i from upto) ∙ sym (ap (λ (y : Wires). markAt y i) f) ∙ t))))
+      (and-right (not (rowAt (i - 2) .down)) _
+      (sym (K.remarked-mark true (wiresOf w) (wiresOf w .place) i from upto) ∙ sym (ap (λ (y : Wires). markAt y i) f) ∙ t))))
   raised-by c o (disabled e) t = absurd (same-off o _ e (K.remarked-mark false (wiresOf w) 4 i from upto) t)
   raised-by c o (wiped e) t = absurd (same-off o _ e (K.remarked-mark false (wiresOf w) 4 i from upto) t)
   raised-by c o (platformWiped e) t = absurd (same-off o _ e (platform-off (wiresOf w) i off) t)
@@ -274,6 +276,8 @@ wire-steps =
       put = λ w b r s e n. put-of w b r (step w (exchange b r)) s (seen-as w (exchange b r) (command-event w b r 0x04 puts e refl refl _ (eq-eqb _ 0 n)));
       set = set-step;
       read = read-step;
-      get = λ w b r s e n. got-of w (exchange b r) (step w (exchange b r)) s (seen-as w (exchange b r) (command-event w b r 0x05 gets e refl refl _ (eq-eqb _ 0 n)));
+      get =
+          λ w b r s e n. got-of w (exchange b r) (step w (exchange b r)) s
+          (seen-as w (exchange b r) (command-event w b r 0x05 gets e refl refl _ (eq-eqb _ 0 n)));
       raised = λ w c i s from upto off t. raised-by w s i from upto off c (step w c) (wire-view w c) t;
     }

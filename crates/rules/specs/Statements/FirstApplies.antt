@@ -170,7 +170,8 @@ readRows st index bit = tooShort st stateLength ∷ ownRows wires st (readWire i
 pub record FirstApplies : Type 0 where
   -- of any numbers, as many as a state has at least: fewer are 10
   pub packing : (st : List ℕ) → stateLength ≤ length st → Packing st
-  pub exchange : (st command reply write read : List ℕ) → First (exchangeCall st command reply write read .word % 256) (exchangeRows st command reply write read)
+  pub exchange : (st command reply write read : List ℕ)
+      → First (exchangeCall st command reply write read .word % 256) (exchangeRows st command reply write read)
   pub start : (st : List ℕ) → First (startCall st .word % 256) (startRows st)
   pub espiReset : (st : List ℕ) → First (espiResetCall st .word % 256) (resetRows st)
   pub platformReset : (st : List ℕ) → First (platformResetCall st .word % 256) (resetRows st)
