@@ -80,7 +80,7 @@ pub record RunsAlike (x : Channel) (Same : World → World → Type 0) (w v : Wo
 
 -- ---- the statement
 
--- ("equal sound starts", 01, Wires: no more is asked than equal registers and equal parts of the other channels)
+-- of "equal sound starts" (01, Wires) no more is asked than equal registers and equal parts of the other channels
 pub record StatesAlike (x : Channel) (s t : State) : Type 0 where
   pub config : s .config ≡ t .config
   pub parts : (y : Channel) → same x y ≡ false → part y s ≡ part y t
