@@ -34,8 +34,7 @@ use Rattle.espi.proofs.espi_read_wire
 use Rattle.espi.proofs.espi_read_wire.Reads as ReadWire
 use Rattle.promises.specs.ByteRuns.{ByteWorld, byteStep, afterState, afterExchange, afterLook, afterAnswer, afterTake, afterWord}
 
--- the state bytes and the stores that a call is lent
--- ("Stores lent to a call", "State bytes lent", 01, What the engine covers)
+-- the state bytes and the stores that a call is lent ("Stores lent to a call", "State bytes lent", 01, What the engine covers)
 abbrev pub lending : (state write read : List ℕ) → ByteWorld
 lending state write read = record { state = state; write = write; read = read }
 

@@ -21,8 +21,7 @@ pub record Holding (v : ByteWorld) : Type 0 where
   pub long : stateLength ≤ length (v .state)
   pub passes : holds (v .state) ≡ true
 
--- the state that the bytes hold, and the stores
--- ("the state packed in lent bytes", 01, What form each place takes)
+-- the state that the bytes hold, and the stores ("the state packed in lent bytes", 01, What form each place takes)
 abbrev pub worldOf : ByteWorld → World
 worldOf v = record { state = unpacked (v .state); write = v .write; read = v .read }
 
@@ -53,13 +52,11 @@ lentReport (board k o) = boardReport k o
 lentReport (short state c) = lentReport c
 lentReport (lend write read) = []
 
--- a word's bits 31:8
--- ("through plain numbers", 01, What the engine covers)
+-- a word's bits 31:8 ("through plain numbers", 01, What the engine covers)
 abbrev pub valueOf : ℕ → ℕ
 valueOf word = word / 256
 
--- the reply: as many bytes of its store as the word says
--- ("Store bytes that no rule writes are unchanged", 01, Replies and refusals: those past it)
+-- the reply: as many bytes of its store as the word says ("Store bytes that no rule writes are unchanged", 01, Replies and refusals: those past it)
 abbrev pub replyIn : ByteOutcome → List ℕ
 replyIn x = take (valueOf (x .word)) (x .reply)
 
@@ -84,8 +81,7 @@ pub record RunHolds (v : ByteWorld) (cs : List Call) : Type 0 where
   pub world : worldOf (byteRun v cs) ≡ run (worldOf v) cs
   pub holding : Holding (byteRun v cs)
 
--- start takes no state: any bytes, if there are enough of them
--- ("Start takes no state and gives the fresh one", 01, What the engine covers)
+-- start takes no state: any bytes, if there are enough of them ("Start takes no state and gives the fresh one", 01, What the engine covers)
 pub record Starts (v : ByteWorld) : Type 0 where
   pub agrees : Agrees v (reset start)
   pub fresh : unpacked (byteStep v (reset start) .next .state) ≡ freshState

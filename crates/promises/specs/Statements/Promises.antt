@@ -61,8 +61,7 @@ BytesKept = (v : ByteWorld) → Holding v → (c : Call) → handedOver c ≡ tr
 
 -- ---- the events in words and bytes: an accepted GET_PC is exactly number 0 of an exchange whose first byte is 01h, and so on
 
--- number 0, of such a call
--- ("accepted or deferred", 01, Replies and refusals)
+-- number 0, of such a call ("accepted or deferred", 01, Replies and refusals)
 abbrev pub Accepts : ByteWorld → Call → Type 0 → Type 0
 Accepts v c Such = (numberAt v c ≡ 0) × Such
 
@@ -75,13 +74,11 @@ pub record InBytes (v : ByteWorld) (c : Call) : Type 0 where
   pub end : Exactly (byteEvent v c ≡ R.ends) (byteEnds peripheral v c ≡ true)
   pub ends : (k : Channel) → Exactly (byteEnds k v c ≡ true) (Accepts v c (Ending k (stateIn v .config) c))
 
--- of every call on bytes that hold a state: so of every call of every run (`Bridge`)
--- (the words of 00, demand 3)
+-- of every call on bytes that hold a state: so of every call of every run (`Bridge`) (the words of 00, demand 3)
 abbrev pub EventsInBytes : Type 0
 EventsInBytes = (v : ByteWorld) → Holding v → (c : Call) → handedOver c ≡ true → InBytes v c
 
--- the request that an accepted command makes is as its bytes ask it
--- ("One non-posted request is held", 01, Requests, answers, pieces)
+-- the request that an accepted command makes is as its bytes ask it ("One non-posted request is held", 01, Requests, answers, pieces)
 pub record HeldRequest (v : ByteWorld) (b r : List ℕ) : Type 0 where
   pub request : Request
   pub waits : held (worldOf (byteStep v (exchange b r) .next)) ≡ Waiting request
@@ -258,8 +255,7 @@ DroppedAnswer = (v : ByteWorld) → Holding v → (q : Call) (xs : List Call) (e
     → (success : ℕ) (d : List ℕ) → readLength ≤ length (byteSince v q (xs ++ e ∷ cs) .read)
     → byteStep (byteSince v q (xs ++ e ∷ cs)) (answersWith (serialIn (byteStep v q .next)) success d) .word ≡ 20
 
--- an accepted answer that names a request's serial is its first: so `Asked` holds of it
--- ("answered under its own serial number", 00, demand 3)
+-- an accepted answer that names a request's serial is its first: so `Asked` holds of it ("answered under its own serial number", 00, demand 3)
 abbrev pub FirstAnswer : Type 0
 FirstAnswer = (v : ByteWorld) → Holding v → (q : Call) (xs : List Call) → allHanded (q ∷ xs) ≡ true → byteEvent v q ≡ asks
     → byteUnended peripheral (byteStep v q .next) xs ≡ true → byteAskedTimes (byteStep v q .next) xs < 2 ^ 32

@@ -20,21 +20,19 @@ serialAfter w c = pick (requests w c) ((serialOf w + 1) % 2 ^ 32) (pick (isStart
 abbrev pub SerialGiven : Type 0
 SerialGiven = (w : World) (c : Call) → serialOf (step w c .next) ≡ serialAfter w c
 
--- an answer is accepted only for the held unanswered request, whose serial it names
--- ("An answer names the serial", 01, Requests, answers, pieces)
+-- an answer is accepted only for the held unanswered request, whose serial it names ("An answer names the serial", 01, Requests, answers, pieces)
 pub record ForHeld (w : World) (serial : ℕ) : Type 0 where
   pub request : Request
   pub waits : held w ≡ Waiting request
   pub named : serial ≡ serialOf w
 
--- all others are 20: "answer: no unanswered request with this serial" (01, Replies and refusals)
+-- .. so of every accepted answer; 20 is "answer: no unanswered request with this serial" (01, Replies and refusals)
 abbrev pub AnswerForHeld : Type 0
 AnswerForHeld = (w : World) (serial success : ℕ) (d : List ℕ) → event w (answersWith serial success d) ≡ tells → ForHeld w serial
 
 -- ---- a late answer
 
--- how many requests a run accepts
--- (of `LateAnswer`: "fewer than 2^32 requests", 01, Requests, answers, pieces)
+-- how many requests a run accepts (of `LateAnswer`: "fewer than 2^32 requests", 01, Requests, answers, pieces)
 unfoldable pub askedTimes : World → List Call → ℕ
 askedTimes w [] = 0
 askedTimes w (c ∷ cs) = pick (requests w c) 1 0 + askedTimes (step w c .next) cs
@@ -61,8 +59,7 @@ DroppedAnswer = (w : World) (q : Call) → event w q ≡ asks → (xs : List Cal
     → step (since w q (xs ++ e ∷ cs)) (answersWith (serialOf (step w q .next)) success d) .number ≡ 20
 
 -- an accepted answer that names a request's serial, no ending event and fewer than 2^32 requests having come since, is the request's
--- first: so the answer that demand 3 speaks of is the one that names the serial
--- ("answered under its own serial number", 00, demand 3)
+-- first: so the answer that demand 3 speaks of is the one that names the serial ("answered under its own serial number", 00, demand 3)
 abbrev pub FirstAnswer : Type 0
 FirstAnswer = (w : World) (q : Call) → event w q ≡ asks → (xs : List Call) → unended peripheral (step w q .next) xs ≡ true
     → askedTimes (step w q .next) xs < 2 ^ 32

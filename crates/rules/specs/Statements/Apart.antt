@@ -55,8 +55,7 @@ replyBut x reply =
     pick (eqb (length reply) 0) []
     (take (length reply - 3) reply ++ (clear x (getD reply (length reply - 3) 0 + 256 * getD reply (length reply - 2) 0) ∷ []))
 
--- the number, the value (a reply's length, a wire's value), a report, the reply
--- ("the other channels' replies", "their stores and refusals", 02, Q-14)
+-- the number, the value (a reply's length, a wire's value), a report, the reply ("the other channels' replies", "their stores and refusals", 02, Q-14)
 pub record Seen : Type 0 where
   pub number : ℕ
   pub value : ℕ
@@ -67,8 +66,7 @@ pub record Seen : Type 0 where
 unfoldable pub seen : Channel → Outcome → Seen
 seen x o = record { number = o .number; value = o .value; report = o .report; reply = replyBut x (o .reply) }
 
--- what the calls of a run show, x's own apart
--- ("give each peripheral command the same reply", 01, Wires: here every call that is not x's)
+-- what the calls of a run show, x's own apart ("give each peripheral command the same reply", 01, Wires: here every call that is not x's)
 unfoldable pub seeing : Channel → World → List Call → List Seen
 seeing x w [] = []
 seeing x w (c ∷ cs) = pick (isCallOf x c) (seeing x (step w c .next) cs) (seen x (step w c) ∷ seeing x (step w c .next) cs)

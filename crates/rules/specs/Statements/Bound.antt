@@ -21,8 +21,7 @@ pub record Carries (reply : List ℕ) (index byte : ℕ) : Type 0 where
   pub indexIs : getD reply (2 + at * 2) 0 ≡ index
   pub byteIs : getD reply (3 + at * 2) 0 ≡ byte
 
--- one of the first n accepted GET_VWIREs of the run carries the group, with its value of just before
--- ("with its value when sent, is sent by", 01, Wires)
+-- one of the first n accepted GET_VWIREs of the run carries the group, with its value of just before ("with its value when sent, is sent by", 01, Wires)
 pub record SentBy (g n : ℕ) (w : World) (cs : List Call) : Type 0 where
   pub before : List Call
   pub call : Call

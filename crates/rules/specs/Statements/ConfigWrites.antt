@@ -19,13 +19,11 @@ use Rattle.rules.specs.Statements.Events.{enablesAt}
 use Rattle.rules.specs.Statements.Effects.{valueEnables}
 use Rattle.rules.specs.Statements.Shape.{replyOf}
 
--- bit k of a number
--- (of `BitsWritten`; 01, Registers and status: "the reset value of each register .., with its writable bits")
+-- bit k of a number (of `BitsWritten`; 01, Registers and status: "the reset value of each register .., with its writable bits")
 abbrev pub bitOf : ℕ → ℕ → ℕ
 bitOf k v = v / 2 ^ k % 2
 
--- the table's writable bits: 008h DCF0F000h, 010h 00007705h, 020h 003F0001h, all others none
--- ("Writable", 01, Registers and status)
+-- the table's writable bits: 008h DCF0F000h, 010h 00007705h, 020h 003F0001h, all others none ("Writable", 01, Registers and status)
 abbrev pub writableBits : ℕ → ℕ
 writableBits a = pick (eqb a 0x008) 0xDCF0F000 (pick (eqb a 0x010) 0x00007705 (pick (eqb a 0x020) 0x003F0001 0))
 
@@ -55,8 +53,7 @@ abbrev pub turns : Channel → Bool → Bool → Bool
 turns peripheral was is = was && not is
 turns wires was is = was && not is || not was && is
 
--- an accepted SET_CONFIGURATION
--- ("A write takes effect after its own reply", 01, Registers and status)
+-- an accepted SET_CONFIGURATION ("A write takes effect after its own reply", 01, Registers and status)
 pub record Configured (w : World) (b : List ℕ) (after : World) : Type 0 where
   pub bits : BitsWritten (registerAt b) (registerValue b) (valueAt (w .state .config) (registerAt b)) (valueAt (after .state .config) (registerAt b))
   -- every other register stays
@@ -91,8 +88,7 @@ onlyReads (board k o) = boardOnlyReads k o
 onlyReads (short state c) = true
 onlyReads (lend write read) = false
 
--- low byte first
--- ("data low byte first", 01, Commands: Configuration)
+-- low byte first ("data low byte first", 01, Commands: Configuration)
 abbrev pub registerBytes : ℕ → List ℕ
 registerBytes v = v % 256 ∷ v / 256 % 256 ∷ v / 65536 % 256 ∷ v / 16777216 % 256 ∷ []
 

@@ -80,8 +80,7 @@ pub record Delivers (N : ℕ) (body : ℕ → List ℕ) (w : World) (cs : List C
   -- the N-th
   pub last : (c : Call) → event (run w cs) c ≡ gets → length (got w cs) + 1 ≡ N → Over (step (run w cs) c)
 
--- a read of L bytes at A with this tag under payload size P, answered with d
--- ("Let N be the number of P-aligned blocks that it touches", 00, demand 3)
+-- a read of L bytes at A with this tag under payload size P, answered with d ("Let N be the number of P-aligned blocks that it touches", 00, demand 3)
 pub record HandsOver (A L P tag : ℕ) (d : List ℕ) (w : World) (cs : List Call) : Type 0 where
   -- N is "1 to 64"
   pub few : (1 ≤ blocks A L P) × (blocks A L P ≤ 64)
@@ -132,8 +131,7 @@ pub record HeldAs (w : World) (b r : List ℕ) (xs : List Call) : Type 0 where
 
 -- ---- a request, its answer, and the calls since
 
--- the world after the answer
--- ("From the answer up to the Nth", 00, demand 3: its first)
+-- the world after the answer ("From the answer up to the Nth", 00, demand 3: its first)
 abbrev pub answeredAt : World → List ℕ → List ℕ → List Call → (serial success : ℕ) → List ℕ → World
 answeredAt w b r xs serial success d = step (since w (exchange b r) xs) (answersWith serial success d) .next
 
@@ -179,8 +177,7 @@ RequestHeld = (w : World) (b r : List ℕ) (xs : List Call) → areBytes b ≡ t
 
 -- ---- after an ending event: P16
 
--- in the run cs from w an answer that names this serial is accepted
--- ("answered under its own serial number", 00, demand 3)
+-- in the run cs from w an answer that names this serial is accepted ("answered under its own serial number", 00, demand 3)
 pub record ToldIn (n : ℕ) (w : World) (cs : List Call) : Type 0 where
   pub ys : List Call
   pub success : ℕ
@@ -189,8 +186,7 @@ pub record ToldIn (n : ℕ) (w : World) (cs : List Call) : Type 0 where
   pub split : cs ≡ ys ++ answersWith n success bytes ∷ zs
   pub accepted : event (run w ys) (answersWith n success bytes) ≡ tells
 
--- in the run cs from w a request is accepted, and after it an answer that names the serial it got
--- ("a request accepted later has been answered", 00, demand 3)
+-- in the run cs from w a request is accepted, and after it an answer that names the serial it got ("a request accepted later has been answered", 00, demand 3)
 pub record AskedIn (w : World) (cs : List Call) : Type 0 where
   pub xs : List Call
   pub q : Call
@@ -199,8 +195,7 @@ pub record AskedIn (w : World) (cs : List Call) : Type 0 where
   pub accepted : event (run w xs) q ≡ asks
   pub answered : ToldIn (serialOf (step (run w xs) q .next)) (step (run w xs) q .next) rest
 
--- e is an ending event in w, cs are the calls after it, c is the next one
--- ("GET_PC is refused until a request accepted later has been answered", 00, demand 3)
+-- e is an ending event in w, cs are the calls after it, c is the next one ("GET_PC is refused until a request accepted later has been answered", 00, demand 3)
 pub record AfterEnd (w : World) (e : Call) (cs : List Call) (c : Call) : Type 0 where
   pub getPc : event (since w e cs) c ≡ gets → AskedIn (step w e .next) cs
   pub pcAvail : raises 4 (step (since w e cs) c .reply) ≡ true → AskedIn (step w e .next) cs

@@ -40,8 +40,7 @@ abbrev pub boardRows : (k : Channel) → Part k → Board k → List Row
 boardRows peripheral p o = P.boardRows p o
 boardRows wires p o = W.boardRows o
 
--- the rows of all channels
--- (an opcode is of one channel, so that "in this order" is kept, 01, Replies and refusals)
+-- the rows of all channels (an opcode is of one channel, so that "in this order" is kept, 01, Replies and refusals)
 abbrev pub byChannel : ((k : Channel) → List Row) → List Row
 byChannel rows = rows peripheral ++ rows wires
 
@@ -55,8 +54,7 @@ tooShort store least = row 10 (ltb (length store) least)
 abbrev pub packsNone : List ℕ → Row
 packsNone st = row 11 (not (holds st))
 
--- the first bytes are those of this sound state
--- ("State bytes lent, .. with bytes past it neither read nor written", 01, What the engine covers)
+-- the first bytes are those of this sound state ("State bytes lent, .. with bytes past it neither read nor written", 01, What the engine covers)
 pub record Packs (st : List ℕ) (s : State) : Type 0 where
   pub sound : Sound s
   pub bytes : take stateLength st ≡ packed s
@@ -88,8 +86,7 @@ cycleUnlisted b =
     eqb (byte b 0) 0x00 && not (eqb (byte b 1) 0x01 || eqb (byte b 1) 0x03)
     || eqb (byte b 0) 0x02 && not (eqb (byte b 1) 0x00 || eqb (byte b 1) 0x02)
 
--- the length bytes of PUT_PC, the count of PUT_VWIRE
--- ("a missing header byte needed next (12)", 01, Replies and refusals)
+-- the length bytes of PUT_PC, the count of PUT_VWIRE ("a missing header byte needed next (12)", 01, Replies and refusals)
 abbrev pub headerMissing : List ℕ → Bool
 headerMissing b = eqb (byte b 0) 0x00 && ltb (length b) 4 || eqb (byte b 0) 0x04 && ltb (length b) 2
 
@@ -133,8 +130,7 @@ valueRows b = row 2 (eqb (byte b 0) 0x22 && valueForbidden (registerAt b) (regis
 abbrev pub allSizes : Config → List ℕ → List Row
 allSizes c b = byChannel (λ (k : Channel). sizeRows k c b)
 
--- after the decoder: credit, size, 2
--- ("16, credit (1), size (1), 2", 01, Replies and refusals)
+-- after the decoder: credit, size, 2 ("16, credit (1), size (1), 2", 01, Replies and refusals)
 abbrev pub laterRows : State → List ℕ → List Row
 laterRows s b = byChannel (λ (k : Channel). creditRows k (part k s) b) ++ (allSizes (s .config) b ++ valueRows b)
 
@@ -157,8 +153,7 @@ startRows st = tooShort st stateLength ∷ []
 abbrev pub resetRows : List ℕ → List Row
 resetRows st = tooShort st stateLength ∷ packsNone st ∷ []
 
--- 11, then the channel's own
--- ("11, then their own from 20 up", 01, Replies and refusals)
+-- 11, then the channel's own ("11, then their own from 20 up", 01, Replies and refusals)
 abbrev pub ownRows : (k : Channel) → List ℕ → Board k → List Row
 ownRows k st o = packsNone st ∷ boardRows k (part k (unpacked st)) o
 

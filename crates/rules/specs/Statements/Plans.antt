@@ -33,14 +33,12 @@ abbrev pub Settled : (k : Channel) → Config → Part k → Board k → Change 
 Settled peripheral c p o x = P.Settled p o x
 Settled wires c p o x = W.Settled c p o x
 
--- a channel's command among all commands
--- ("a decoded command is one of a few kinds", 01, Commands)
+-- a channel's command among all commands ("a decoded command is one of a few kinds", 01, Commands)
 abbrev pub commandOf : (k : Channel) → Command k → C₀.Command
 commandOf peripheral o = C.Peripheral o
 commandOf wires o = C.Wires o
 
--- the decoder gave this command, and its CRC was good or not checked
--- ("checked only while register 008h bit 31 is 1", 01, Commands)
+-- the decoder gave this command, and its CRC was good or not checked ("checked only while register 008h bit 31 is 1", 01, Commands)
 abbrev pub Admits : State → List ℕ → C₀.Command → Type 0
 Admits s b o = admit (channelsOf (s .config)) (crcChecked (s .config .r008)) b ≡ Known o
 
@@ -50,14 +48,12 @@ pub data Shows (s : State) (b : List ℕ) : Body → Type 0 where
   status : Admits s b C.GetStatus → Shows s b B.Nothing
   register : (a : ℕ) → Admits s b (C.GetConfiguration a) → Shows s b (B.Word (readAt (s .config) a))
 
--- stores too short (10), no sound state (11), or the decoder gave no command (12 to 16)
--- ("none; unchanged", 01, Replies and refusals)
+-- stores too short (10), no sound state (11), or the decoder gave no command (12 to 16) ("none; unchanged", 01, Replies and refusals)
 pub record Silent (n : ℕ) : Type 0 where
   pub least : 10 ≤ n
   pub most : n ≤ 16
 
--- the decoder's refusal
--- ("empty (12), 13, 14, a missing header byte needed next (12) or 15, exact length (12), 16", 01, Replies and refusals)
+-- the decoder's refusal ("empty (12), 13, 14, a missing header byte needed next (12) or 15, exact length (12), 16", 01, Replies and refusals)
 pub record Refuses (s : State) (b : List ℕ) (n : ℕ) : Type 0 where
   pub given : admit (channelsOf (s .config)) (crcChecked (s .config .r008)) b ≡ Refused n
   pub least : 12 ≤ n

@@ -19,8 +19,7 @@ use Rattle.rules.specs.Statements.Requests.{since, without, writeHandedO
 
 -- ---- what a call was, refused ones apart
 
--- a posted write
--- ("posted write while one is held", 01, Replies and refusals)
+-- a posted write ("posted write while one is held", 01, Replies and refusals)
 abbrev pub isPost : Call → Bool
 isPost (reset r) = false
 isPost (exchange command reply) = isPosted (byte command 0)
@@ -28,8 +27,7 @@ isPost (board k o) = false
 isPost (short state c) = false
 isPost (lend write read) = false
 
--- the board's take
--- ("take a write", 01, What the engine covers)
+-- the board's take ("take a write", 01, What the engine covers)
 abbrev pub peripheralTake : P.Board → Bool
 peripheralTake (P.look report) = false
 peripheralTake (P.answer serial success bytes) = false
@@ -60,8 +58,7 @@ takes w c = accepted (step w c) && isTake c
 abbrev pub takesWith : List ℕ → Call
 takesWith report = board peripheral (P.takeWrite report)
 
--- the write that is held
--- ("One posted write is held", 01, Requests, answers, pieces)
+-- the write that is held ("One posted write is held", 01, Requests, answers, pieces)
 abbrev pub heldWrite : World → Write
 heldWrite w = w .state .peripheral .write
 
@@ -72,24 +69,20 @@ pub record AcceptedPost (w : World) (b reply : List ℕ) : Type 0 where
   pub posted : isPosted (byte b 0) ≡ true
   pub number : step w (exchange b reply) .number ≡ 0
 
--- the command's address and length, and the payload size of 010h then
--- ("held with its payload size", 01, Requests, answers, pieces)
+-- the command's address and length, and the payload size of 010h then ("held with its payload size", 01, Requests, answers, pieces)
 abbrev pub posting : World → List ℕ → Posted
 posting w b = record { address = accessAddress b; length = accessLength b; payload = payloadOf (w .state .config) }
 
--- a take's report: address and length, low byte first
--- ("the take yields its address and length", 01, Requests, answers, pieces)
+-- a take's report: address and length, low byte first ("the take yields its address and length", 01, Requests, answers, pieces)
 abbrev pub takeBytes : List ℕ → List ℕ
 takeBytes b = low8 (accessAddress b) ++ low2 (accessLength b)
 
--- until its take or an ending event
--- ("until the board takes it"; "drop held write", 01, Requests, answers, pieces)
+-- until its take or an ending event ("until the board takes it"; "drop held write", 01, Requests, answers, pieces)
 pub record Untaken (w : World) (b reply : List ℕ) (xs : List Call) : Type 0 where
   pub unended : unended peripheral (step w (exchange b reply) .next) xs ≡ true
   pub untaken : without takes (step w (exchange b reply) .next) xs ≡ true
 
--- the world after the take
--- (it "frees the place", 01, Requests, answers, pieces)
+-- the world after the take (it "frees the place", 01, Requests, answers, pieces)
 abbrev pub takenAt : World → List ℕ → List ℕ → List Call → List ℕ → World
 takenAt w b reply xs report = step (since w (exchange b reply) xs) (takesWith report) .next
 

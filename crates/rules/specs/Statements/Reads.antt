@@ -20,8 +20,7 @@ use Rattle.rules.specs.Statements.Cases.{Admits}
 use Rattle.rules.specs.Statements.Fields.{isListed}
 use Rattle.rules.specs.Statements.Fields.{byte, isPosted, isNonPosted, accessAddress, accessLength, accessTag, dataFrom, requestKind, ioBytes, groups, pairs, registerAt, registerValue}
 
--- the decoder has a row for exactly the opcodes that are listed, of all numbers
--- ("Opcodes", 01, Commands; 13, "unknown opcode", 01, Replies and refusals)
+-- the decoder has a row for exactly the opcodes that are listed, of all numbers ("Opcodes", 01, Commands; 13, "unknown opcode", 01, Replies and refusals)
 abbrev pub OpcodesListed : Type 0
 OpcodesListed = (op : ℕ) → (isListed op ≡ true) ↔ ((q : Row) × (rowOf op ≡ As q))
 
@@ -29,8 +28,7 @@ OpcodesListed = (op : ℕ) → (isListed op ≡ true) ↔ ((q : Row) × (rowOf o
 abbrev pub requestIn : Config → List ℕ → Request
 requestIn c b = requestOf c (requestKind (byte b 0)) (accessAddress b) (accessLength b) (accessTag b) (ioBytes b)
 
--- a posted write has all its data
--- ("PUT_PC, PUT_NP: cycle type, then tag"; "Short: I/O has 2 address bytes"; "GET_PC 01h", 01, Commands)
+-- a posted write has all its data ("PUT_PC, PUT_NP: cycle type, then tag"; "Short: I/O has 2 address bytes"; "GET_PC 01h", 01, Commands)
 pub data Peripheral (c : Config) (b : List ℕ) : P.Act → Type 0 where
   posts : isPosted (byte b 0) ≡ true → dataFrom b + accessLength b ≤ length b → Peripheral c b (P.posts (accessAddress b) (accessLength b) (dataFrom b))
   asks : isNonPosted (byte b 0) ≡ true → Peripheral c b (P.asks (requestIn c b))

@@ -53,8 +53,7 @@ pub record Error (code : ℕ) (w : World) (c : Call) (o : Outcome) : Type 0 wher
   pub value : o .value ≡ 4
   pub report : o .report ≡ []
 
--- by the number: 0 is no refusal, 1 is FATAL (03h), 2 is NON_FATAL (02h), all others are quiet
--- ("FATAL 03h", "NON_FATAL 02h", 01, Replies and refusals)
+-- by the number: 0 is no refusal, 1 is FATAL (03h), 2 is NON_FATAL (02h), all others are quiet ("FATAL 03h", "NON_FATAL 02h", 01, Replies and refusals)
 abbrev pub Refusal : ℕ → World → Call → Outcome → Type 0
 Refusal zero w c o = Unit {0}
 Refusal (suc zero) w c o = Error 0x03 w c o
@@ -67,13 +66,12 @@ RefusalsChangeNothing = (w : World) (c : Call) → Refusal (step w c .number) w 
 
 -- ---- the frame of `step`
 
--- the data bytes of a posted write; no other command has any for the write store
--- ("its data at the start of the write store", 01, Requests, answers, pieces)
+-- the data bytes of a posted write; no other command has any for the write store ("its data at the start of the write store", 01, Requests, answers, pieces)
 abbrev pub postedLength : List ℕ → ℕ
 postedLength b = pick (isPosted (byte b 0)) (accessLength b) 0
 
 -- of the write store, as many bytes at its start as the exchange's command posts, and none by another call
--- (of `StoresKept`; "an exchange uses all three, .. a take the write store", 01, What the engine covers)
+-- (of `StoresKept`; "its data at the start of the write store"; a take "leaves the store", 01, Requests, answers, pieces)
 abbrev pub writesAtMost : Call → ℕ
 writesAtMost (reset r) = 0
 writesAtMost (exchange command reply) = postedLength command
@@ -101,8 +99,7 @@ readsAtMost (board k o) = boardReads k o
 readsAtMost (short state c) = 0
 readsAtMost (lend write read) = 0
 
--- `lend` is no call of the engine
--- ("Stores lent to a call", 01, What the engine covers)
+-- `lend` is no call of the engine ("Stores lent to a call", 01, What the engine covers)
 abbrev pub isLend : Call → Bool
 isLend (reset r) = false
 isLend (exchange command reply) = false
@@ -121,14 +118,13 @@ pub record StoresKept (w : World) (c : Call) : Type 0 where
   pub write : drop (writesAtMost c) (step w c .next .write) ≡ drop (writesAtMost c) (w .write)
   pub read : drop (readsAtMost c) (step w c .next .read) ≡ drop (readsAtMost c) (w .read)
 
--- .. by any call of the engine: "changes no state and no buffer" of a refusal (00, demand 1), and more of all others
+-- .. by any call of the engine, refused or not ("Store bytes that no rule writes", 01, Replies and refusals)
 abbrev pub CallsKeepStores : Type 0
 CallsKeepStores = (w : World) (c : Call) → isLend c ≡ false → StoresKept w c
 
 -- ---- the same of the nine calls over lent bytes
 
--- a word's bits 7:0
--- ("through plain numbers", 01, What the engine covers)
+-- a word's bits 7:0 ("through plain numbers", 01, What the engine covers)
 abbrev pub numberOf : ℕ → ℕ
 numberOf word = word % 256
 

@@ -37,8 +37,7 @@ module _ (w : World) (lent : List ℕ) where
   abbrev pub ShowsAvail : ℕ → ℕ → Type 0
   ShowsAvail k op = (crc : ℕ) → crcWrong (w .state .config) (op ∷ crc ∷ []) ≡ false → (statusBit w k ≡ 1) ↔ Accepted (op ∷ crc ∷ [])
 
-  -- none of 12 to 16
-  -- ("well-formed", 00, demand 3; 01, Replies and refusals: the rows before "credit (1)")
+  -- none of 12 to 16 ("well-formed", 00, demand 3; 01, Replies and refusals: the rows before "credit (1)")
   abbrev pub WellFormed : List ℕ → Type 0
   WellFormed b = noneApplies (formRows (w .state .config) b) ≡ true
 

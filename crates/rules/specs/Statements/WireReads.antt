@@ -51,8 +51,7 @@ unfoldable pub along : {A : Type 0} → (World → Call → List A) → World �
 along f w [] = []
 along f w (c ∷ cs) = f w c ++ along f (step w c .next) cs
 
--- the pairs of a PUT_VWIRE
--- ("PUT_VWIRE applies pairs in order", 01, Wires)
+-- the pairs of a PUT_VWIRE ("PUT_VWIRE applies pairs in order", 01, Wires)
 abbrev pub packetIn : Call → List (List ℕ)
 packetIn (reset r) = []
 packetIn (exchange command reply) = pick (eqb (byte command 0) 0x04) (pairs command ∷ []) []
@@ -60,8 +59,7 @@ packetIn (board k o) = []
 packetIn (short state c) = []
 packetIn (lend write read) = []
 
--- the value to which the board sets this wire
--- ("The board sets one defined bit of an up group", 01, Wires)
+-- the value to which the board sets this wire ("The board sets one defined bit of an up group", 01, Wires)
 abbrev pub wiresSetting : (i bit : ℕ) → W.Board → List ℕ
 wiresSetting i bit (W.setWire index k value) = pick (eqb index i && eqb k bit) (value ∷ []) []
 wiresSetting i bit (W.readWire index k) = []

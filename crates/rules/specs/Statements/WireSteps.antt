@@ -21,8 +21,7 @@ use Rattle.rules.specs.Statements.Fields.{byte, pairs, registerAt, regis
 use Rattle.rules.specs.Statements.WireEvents.{wiresOf, countOf}
 use Rattle.rules.specs.Statements.WireView.{setsWire, readsWire}
 
--- a wire's level: bit `bit` of group i
--- ("The state holds six wire groups", 01, Wires)
+-- a wire's level: bit `bit` of group i ("The state holds six wire groups", 01, Wires)
 abbrev pub wireOf : World → ℕ → ℕ → ℕ
 wireOf w i bit = G.readWire (wiresOf w) i bit
 
@@ -48,8 +47,7 @@ pub record Set (w v : World) (i bit value : ℕ) : Type 0 where
 
 -- ---- GET_VWIRE
 
--- the up group after this one, going round
--- ("going round from the index after the last one sent", 01, Wires)
+-- the up group after this one, going round ("going round from the index after the last one sent", 01, Wires)
 abbrev pub nextUp : ℕ → ℕ
 nextUp i = pick (eqb i 6) 4 (i + 1)
 
@@ -58,13 +56,11 @@ unfoldable pub marked : Wires → List ℕ → List ℕ
 marked w [] = []
 marked w (i ∷ is) = pick (markAt w i) (i ∷ marked w is) (marked w is)
 
--- the pending groups, going round from the place
--- ("going round from the index after the last one sent", 01, Wires; docs/DECISIONS.md, 21)
+-- the pending groups, going round from the place ("going round from the index after the last one sent", 01, Wires; docs/DECISIONS.md, 21)
 abbrev pub pendingRound : Wires → List ℕ
 pendingRound w = marked w (w .place ∷ nextUp (w .place) ∷ nextUp (nextUp (w .place)) ∷ [])
 
--- index and data of each
--- ("then index and data pairs", 01, Commands; "with all defined bits valid", 01, Wires)
+-- index and data of each ("then index and data pairs", 01, Commands; "with all defined bits valid", 01, Wires)
 unfoldable pub pairsOf : Wires → List ℕ → List ℕ
 pairsOf w [] = []
 pairsOf w (i ∷ is) = i ∷ groupByte w i ∷ pairsOf w is

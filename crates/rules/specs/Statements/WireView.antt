@@ -14,8 +14,7 @@ use Rattle.rules.specs.Rules.Step.{World, Call, exchange, board, Outcome
 use Rattle.rules.specs.Statements.Fields.{pairs}
 use Rattle.rules.specs.Statements.WireEvents.{WireEvent, idle, puts, gets, sets, enables, ends, switchesOn, wireEvent, wiresOf, countOf}
 
--- the board's calls
--- ("set a wire", 01, What the engine covers)
+-- the board's calls ("set a wire", 01, What the engine covers)
 abbrev pub setsWire : (index bit value : ℕ) → Call
 setsWire index bit value = board wires (W.setWire index bit value)
 

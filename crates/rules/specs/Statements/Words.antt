@@ -26,8 +26,7 @@ pub data NonPosted : Call → Type 0 where
 pub data Answer : Call → Type 0 where
   answer : {serial success : ℕ} {d : List ℕ} → Answer (answersWith serial success d)
 
--- bit 0 of the channel's register
--- ("bit 0 (enable)", 01, Registers and status)
+-- bit 0 of the channel's register ("bit 0 (enable)", 01, Registers and status)
 abbrev pub enableBit : Channel → Config → ℕ
 enableBit peripheral c = c .r010 .value % 2
 enableBit wires c = c .r020 .value % 2

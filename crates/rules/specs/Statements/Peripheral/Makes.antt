@@ -20,8 +20,7 @@ use Rattle.rules.specs.Statements.Requests.{held, serialOf}
 use Rattle.rules.specs.Statements.PostedWrites.{heldWrite}
 use Rattle.rules.specs.Statements.Peripheral.SoundMeans.{Made, PostedMade}
 
--- a command that some sound state accepts, in bytes; number 0 says that the stores are long enough
--- ("a command makes", 01, Sound state)
+-- a command that some sound state accepts, in bytes; number 0 says that the stores are long enough (of "one that a command makes", 01, Sound state)
 pub record Accepting : Type 0 where
   pub world : World
   pub command : List ℕ

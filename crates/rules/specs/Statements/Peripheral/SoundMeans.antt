@@ -23,8 +23,7 @@ use Rattle.peripheral.specs.declared.Peripheral.{Peripheral}
 abbrev pub Coded : (top size : ℕ) → Type 0
 Coded top size = (n : ℕ) × (1 ≤ n) × (n ≤ top) × (size ≡ sizeOf n)
 
--- by kind; the lengths, tags, address widths and blocks stand there
--- ("Size rules", 01, Replies and refusals; 01, Commands)
+-- by kind; the lengths, tags, address widths and blocks stand there ("Size rules", 01, Replies and refusals; 01, Commands)
 abbrev pub MadeAs : Kind → Request → Type 0
 MadeAs MemoryRead q = MadeMemoryRead q
 MadeAs IoRead q = MadeIoRead q
@@ -69,8 +68,7 @@ SentAs MemoryRead q sent = ReadSent q sent
 SentAs IoRead q sent = ReadSent q sent
 SentAs IoWrite q sent = sent ≡ 0
 
--- a request that waits or failed has no bytes sent, by its shape
--- ("bytes sent are 0 unless a read was answered with success", 01, Sound state)
+-- a request that waits or failed has no bytes sent, by its shape ("bytes sent are 0 unless a read was answered with success", 01, Sound state)
 abbrev pub BytesSent : Np → Type 0
 BytesSent Free = Unit {0}
 BytesSent (Waiting q) = Unit {0}

@@ -26,8 +26,7 @@ use Rattle.rules.specs.Statements.Demand3.{header, pieceBody}
 
 -- ---- GET_PC
 
--- a held read's pieces: how many, and the bytes before the k-th
--- ("N = floor((A+L-1)/P) - floor(A/P) + 1", 01, Requests, answers, pieces)
+-- a held read's pieces: how many, and the bytes before the k-th ("N = floor((A+L-1)/P) - floor(A/P) + 1", 01, Requests, answers, pieces)
 abbrev pub piecesOf : Request → ℕ
 piecesOf q = blocks (q .address) (q .length) (q .payload)
 
