@@ -4,7 +4,7 @@
 CONTRACTS.md: a section `## CRATE` has a line 'Definitions in `FILE`, ..' and rows `| `function` | .. `definition` .. | form | requires | met by |`.
 Both pages: a name cited as `name` (`file`), files under crates/, is declared in that file; `Record.field` is a field of it; `x.edit` exists.
 PROMISES.md, 'Statements and proofs': a row's second name is declared with its first as type.
-The files of definitions (those that CONTRACTS.md names, all of rules/specs/Rules, and FURTHER): above each public definition stands the rule that it says.
+The files of definitions (those that CONTRACTS.md names, all that is under WHOLE, and FURTHER): above each public definition stands the rule that it says.
 """
 import glob
 import os
@@ -172,10 +172,9 @@ def rows(page, crates, crate, files, section, listed):
 
 FURTHER = ["base/specs/Pick", "command/specs/Numbers", "promises/specs/ByteRuns", "state/specs/Channel", "state/specs/Sound"]
 FURTHER += ["wires/specs/Below", "wires/specs/Table", "wires/specs/Turn"]
-STATEMENTS = "Fields Effects Sizes Shape Events Requests WireEvents Peripheral/Rows Peripheral/Effects Wires/Rows Wires/Effects"
-FURTHER += ["rules/specs/Statements/" + name for name in STATEMENTS.split()]
-PUBLIC = re.compile(r"^( *(?:abbrev|unfoldable) )?pub (record |data )?(?!use |mod )([^\s:({]+)")
-RULE = re.compile(r'"[^"]+"|\b01, [A-Z]|\b02, Q-\d|\b004, (?:tables? )?\d')
+WHOLE = ["rules/specs/Rules", "rules/specs/Statements", "promises/specs/Statements"]
+PUBLIC = re.compile(r"^( *(?:abbrev|unfoldable) | +(?=pub (?:record|data) ))?pub (record |data )?(?!use |mod )([^\s:({]+)")
+RULE = re.compile(r'"[^"]+"|\b00, demand \d|\b01, [A-Z]|\b02, Q-\d|\b004, (?:tables? )?\d')
 
 
 def definitions(path):
@@ -196,8 +195,10 @@ def definitions(path):
 
 
 def cited_definitions(page):
-    """Each quotes its rule, or has the rule's place in 01, 02 or 004, or a number of docs/DECISIONS.md; how many there are."""
-    files = set(glob.glob("crates/rules/specs/Rules/*.antt")) | {f"crates/{name}.antt" for name in FURTHER}
+    """Each quotes its rule, or has the rule's place in 00, 01, 02 or 004, or a number of docs/DECISIONS.md; how many there are."""
+    files = {f"crates/{name}.antt" for name in FURTHER}
+    for directory in WHOLE:
+        files |= set(glob.glob(f"crates/{directory}/**/*.antt", recursive=True))
     for section in re.split(r"^(?=## )", read(page), flags=re.M):
         files |= set(defining(section))
     decided, found = re.findall(r"^(\d+)\. \*\*", read("docs/DECISIONS.md"), re.M), 0
