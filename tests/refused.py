@@ -67,13 +67,9 @@ def refuses(place, log):
 def bodies(crate, wrong):
     """The functions that this names and whose own body holds the text replaced."""
     path = os.path.join("crates", crate, wrong.file)
-    found, named = listed.functions(path) if path.endswith(".rt") else {}, set()
-    for name in [p[len("fn "):] for p in wrong.places if p.startswith("fn ") and p[len("fn "):] in found]:
-        text, head = listed.read(path), found[name][2]
-        at = text.index(head) + len(head)
-        if wrong.old in text[at:text.index("\n" + re.match(" *", head).group(0) + "}", at)]:
-            named.add(name)
-    return named
+    found = listed.functions(path) if path.endswith(".rt") else {}
+    names = [p[len("fn "):] for p in wrong.places if p.startswith("fn ")]
+    return {n for n in names if n in found and wrong.old in found[n].body}
 
 
 def judge(wrong, log):
@@ -109,8 +105,8 @@ def main():
         edits, count = edits + 1, count + len(wrong)
         for name in set().union(*(bodies(crate, w) for w in wrong)):
             named[crate, name] = named.get((crate, name), 0) + 1
-    public = [(c, f) for c, fs in listed.source().items() for f, (shown, _, _) in fs.items() if shown]
-    faults += [f"{c}::{f}: {named.get((c, f), 0)} edits with a wrong body of it" for c, f in public if named.get((c, f), 0) < 2]
+    public = [(c, n) for c, fs in listed.source().items() for n, f in fs.items() if f.public and listed.clause(f.contract, "ensures")]
+    faults += [f"{c}::{n}: {named.get((c, n), 0)} edits with a wrong body of it" for c, n in public if named.get((c, n), 0) < 2]
     right = f"{edits} edits, {count} wrong bodies and definitions, each refused where it says; {len(public)} public functions with two wrong bodies or more"
     return listed.told("refused", faults, right)
 
