@@ -41,7 +41,7 @@ def wrongs(edit):
 
 
 def said(path, copy):
-    """The file of the first error; the files with an error of their own; the functions not proved, and whether for want of a file; a proof that does not fit."""
+    """The file of the first error; the files with an error of their own; the functions not proved: whether a search failed; a proof that does not fit."""
     first, own, functions, unfit = "", set(), {}, ""
     for line in listed.read(path).split("\n"):
         error, verdict = ERROR.match(line), VERDICT.match(line)
