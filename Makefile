@@ -22,8 +22,7 @@ run: target/board
 
 archive: $(ARCHIVE)
 
-$(ARCHIVE): $(SOURCES)
-	rt staticlib espi
+include tests/firmware/firmware.mk
 
 target/board: examples/board.c include/espi.h $(ARCHIVE)
 	$(X86_CC) $(CFLAGS) -o $@ examples/board.c $(ARCHIVE)
