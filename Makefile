@@ -3,35 +3,34 @@ CFLAGS = -std=c11 -O2 -Wall -Wextra -Werror -Iinclude
 ARCHIVE = target/staticlib/libespi.a
 SOURCES = $(shell find crates -name '*.rt' -o -name '*.antt') crates.txt
 
-# The archive is x86-64 code: elsewhere a cross compiler and an emulator stand in (tests/tools.sh installs them).
-# QUICK: as many calls as take half a minute.
+# NATIVE: the archive for the machine at hand; where that is not x86-64, the firmware build of the same module. The x86-64 archive is then run by an emulator
+# (tests/tools.sh installs what is needed). QUICK: as many calls as take half a minute.
 ifeq ($(shell uname -m),x86_64)
+NATIVE = $(ARCHIVE)
 X86_CC = $(CC)
-X86_RUN =
-QUICK = 20000000
 else
+NATIVE = target/firmware/$(shell uname -m)-linux-gnu/libespi.a
 X86_CC = x86_64-linux-gnu-gcc -static
-X86_RUN = qemu-x86_64-static
-QUICK = 400000
 endif
+QUICK = 20000000
 
 .PHONY: run archive boundary differential differential-quick bench clean
 
 run: target/board
-	$(X86_RUN) ./target/board
+	./target/board
 
 archive: $(ARCHIVE)
 
 include tests/firmware/firmware.mk
 
-target/board: examples/board.c include/espi.h $(ARCHIVE)
-	$(X86_CC) $(CFLAGS) -o $@ examples/board.c $(ARCHIVE)
+target/board: examples/board.c include/espi.h $(NATIVE)
+	$(CC) $(CFLAGS) -o $@ examples/board.c $(NATIVE)
 
 boundary: target/boundary
-	$(X86_RUN) ./target/boundary
+	./target/boundary
 
-target/boundary: tests/boundary.c tests/crc8.h include/espi.h $(ARCHIVE)
-	$(X86_CC) $(CFLAGS) -o $@ tests/boundary.c $(ARCHIVE)
+target/boundary: tests/boundary.c tests/crc8.h include/espi.h $(NATIVE)
+	$(CC) $(CFLAGS) -o $@ tests/boundary.c $(NATIVE)
 
 bench: target/figures
 	python3 tests/figures.py
@@ -42,13 +41,13 @@ target/figures: tests/figures.c tests/crc8.h include/espi.h $(ARCHIVE)
 # The engine written again in Rust, against the archive: calls without a difference, then every deliberate fault found.
 DIFFERENTIAL = tests/differential/target/release/differential
 
-differential: $(ARCHIVE)
-	cd tests/differential && cargo test --release --lib && cargo build --release
+differential: $(NATIVE)
+	cd tests/differential && cargo test --release --lib && ESPI_ARCHIVE_DIR=$(abspath $(dir $(NATIVE))) cargo build --release
 	$(DIFFERENTIAL) 2000000
 	$(DIFFERENTIAL) --faults
 
-differential-quick: $(ARCHIVE)
-	cd tests/differential && cargo build --release
+differential-quick: $(NATIVE)
+	cd tests/differential && ESPI_ARCHIVE_DIR=$(abspath $(dir $(NATIVE))) cargo build --release
 	$(DIFFERENTIAL) $(QUICK)
 	$(DIFFERENTIAL) --faults
 
