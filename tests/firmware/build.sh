@@ -10,7 +10,8 @@ thumbv7em-none-eabi) own=-O3 ;;
 riscv32-unknown-elf) own='-O3 -march=rv32imac -mabi=ilp32' ;;
 aarch64-linux-gnu | armv7-linux-gnueabihf) own='-O3 -fPIC' ;;
 *)
-    echo "firmware: ${1:+no such TRIPLE: $1; }make firmware TRIPLE=.. with one of: thumbv7em-none-eabi riscv32-unknown-elf aarch64-linux-gnu armv7-linux-gnueabihf" >&2
+    echo "firmware: ${1:+no such TRIPLE: $1; }make firmware TRIPLE=.. with one of" >&2
+    echo "thumbv7em-none-eabi riscv32-unknown-elf aarch64-linux-gnu armv7-linux-gnueabihf" >&2
     exit 2
     ;;
 esac

@@ -15,4 +15,5 @@ static void fault(void)
     _Exit(99);
 }
 
-__attribute__((section(".vectors"), used)) static void *const vectors[] = {stack_top, (void *)_start, (void *)fault, (void *)fault, (void *)fault, (void *)fault, (void *)fault};
+__attribute__((section(".vectors"), used)) static void *const vectors[] = {
+    stack_top, (void *)_start, (void *)fault, (void *)fault, (void *)fault, (void *)fault, (void *)fault};

@@ -28,7 +28,8 @@ BOARD = -nographic -monitor none -serial none -chardev stdio,id=out -semihosting
 MACHINES = $(TRIPLES)
 BRIDGED = armv7-linux-gnueabihf
 
-CC_thumbv7em-none-eabi = arm-none-eabi-gcc -mcpu=cortex-m4 -mthumb --specs=rdimon.specs -nostartfiles -T tests/firmware/cortex-m4.ld -Wl,--gc-sections,--no-warn-execstack \
+CC_thumbv7em-none-eabi = arm-none-eabi-gcc -mcpu=cortex-m4 -mthumb --specs=rdimon.specs -nostartfiles -T tests/firmware/cortex-m4.ld \
+	-Wl,--gc-sections,--no-warn-execstack \
 	$(shell arm-none-eabi-gcc -mcpu=cortex-m4 -mthumb -print-file-name=rdimon-crt0.o) tests/firmware/cortex-m4.c
 RUN_thumbv7em-none-eabi = timeout 300 qemu-system-arm -M mps2-an386 $(BOARD) -kernel
 
@@ -77,6 +78,7 @@ target/firmware/board.txt: target/board
 	./target/board > $@
 
 machine-%: target/firmware/%/boundary target/firmware/%/board $(TRANSCRIPT)
+	@if nm -u target/firmware/$*/libespi.a | grep -E 'ldiv|divdi|moddi'; then echo "firmware: $*: a helper for 64-bit division is called"; exit 1; fi
 	@said=$$($(RUN_$*) target/firmware/$*/boundary < /dev/null); failed=$$?; echo "firmware: $*: $$said"; exit $$failed
 	@$(RUN_$*) target/firmware/$*/board < /dev/null > target/firmware/$*/board.txt
 	@diff -u $(TRANSCRIPT) target/firmware/$*/board.txt
@@ -89,11 +91,13 @@ tests/differential/target/%/release/differential: target/firmware/%/libespi.a FO
 
 bridged-%: tests/differential/target/%/release/differential
 	@echo "firmware: $*: the differential run under $(RUN_$*)"
-	@$< $(BRIDGED_CALLS) > target/firmware/$*/differential.txt || { cat target/firmware/$*/differential.txt; exit 1; }
-	@tail -n 1 target/firmware/$*/differential.txt
+	@for words in "$(BRIDGED_CALLS)" --faults; do \
+		$< $$words > target/firmware/$*/differential.txt || { cat target/firmware/$*/differential.txt; exit 1; }; \
+		tail -n 1 target/firmware/$*/differential.txt; \
+	done
 
 # As many calls as take a quarter of a minute.
-firmware-tests: BRIDGED_CALLS = 800000
+firmware-tests: BRIDGED_CALLS = 1000000
 firmware-tests: $(MACHINES:%=machine-%) $(BRIDGED:%=bridged-%)
 
 differential-firmware: BRIDGED_CALLS = 2000000
