@@ -1,4 +1,4 @@
-# make run: the archive, and a small board played against it. make differential, make bench: README.md says what they do.
+# make run: the archive, and a small board played against it. make install, make firmware, make differential, make bench: README.md says what they do.
 CFLAGS = -std=c11 -O2 -Wall -Wextra -Werror -Iinclude
 ARCHIVE = target/staticlib/libespi.a
 SOURCES = $(shell find crates -name '*.rt' -o -name '*.antt') crates.txt
@@ -14,17 +14,42 @@ X86_CC = x86_64-linux-gnu-gcc -static
 endif
 QUICK = 20000000
 
-.PHONY: run archive boundary differential differential-quick bench clean
+.PHONY: run board-test archive install header boundary bench figures differential differential-quick rust-test clean
 
 run: target/board
 	./target/board
+
+# What the board prints, against the stored transcript.
+board-test: target/board
+	./target/board > target/board.txt
+	diff -u tests/board.txt target/board.txt
 
 archive: $(ARCHIVE)
 
 include tests/firmware/firmware.mk
 
-target/board: examples/board.c include/espi.h $(NATIVE)
+target/board: examples/board.c examples/print.h include/espi.h $(NATIVE)
 	$(CC) $(CFLAGS) -o $@ examples/board.c $(NATIVE)
+
+# The header is C11 on 64-bit and 32-bit machines, and C++11, without a warning.
+HEADER_FLAGS = -Wall -Wextra -Wconversion -Wpedantic -Werror -ffreestanding -fsyntax-only -include include/espi.h
+
+header:
+	$(X86_CC) -std=c11 $(HEADER_FLAGS) -x c /dev/null
+	$(X86_CC) -std=c11 -m32 $(HEADER_FLAGS) -x c /dev/null
+	if command -v $(CXX) > /dev/null; then $(CXX) -std=c++11 $(HEADER_FLAGS) -x c++ /dev/null; else echo "header: no $(CXX), not tried as C++"; fi
+
+# For programs on Linux: the archive, the header and what pkg-config reads; the version is the header's.
+PREFIX = /usr/local
+VERSION = $(shell sed -n 's/^.define ESPI_VERSION_MAJOR //p' include/espi.h).$(shell sed -n 's/^.define ESPI_VERSION_MINOR //p' include/espi.h)
+INTO = $(DESTDIR)$(abspath $(PREFIX))
+
+install: $(NATIVE)
+	install -d $(INTO)/lib/pkgconfig $(INTO)/include
+	install -m 644 $(NATIVE) $(INTO)/lib/libespi.a
+	install -m 644 include/espi.h $(INTO)/include/espi.h
+	sed -e 's|@PREFIX@|$(abspath $(PREFIX))|' -e 's|@VERSION@|$(VERSION)|' include/espi.pc.in > $(INTO)/lib/pkgconfig/espi.pc
+	chmod 644 $(INTO)/lib/pkgconfig/espi.pc
 
 boundary: target/boundary
 	./target/boundary
@@ -35,14 +60,19 @@ target/boundary: tests/boundary.c tests/crc8.h include/espi.h $(NATIVE)
 bench: target/figures
 	python3 tests/figures.py
 
+figures: target/figures
+
 target/figures: tests/figures.c tests/crc8.h include/espi.h $(ARCHIVE)
 	$(X86_CC) $(CFLAGS) -D_POSIX_C_SOURCE=199309L -o $@ tests/figures.c $(ARCHIVE)
 
 # The engine written again in Rust, against the archive: calls without a difference, then every deliberate fault found.
 DIFFERENTIAL = tests/differential/target/release/differential
 
-differential: $(NATIVE)
-	cd tests/differential && cargo test --release --lib && ESPI_ARCHIVE_DIR=$(abspath $(dir $(NATIVE))) cargo build --release
+rust-test:
+	cd tests/differential && cargo test --release --lib
+
+differential: rust-test $(NATIVE)
+	cd tests/differential && ESPI_ARCHIVE_DIR=$(abspath $(dir $(NATIVE))) cargo build --release
 	$(DIFFERENTIAL) 2000000
 	$(DIFFERENTIAL) --faults
 

@@ -1,5 +1,6 @@
 /* What the proof cannot see of the C boundary: the archive as linked, guard bytes round every slice, refusals that write nothing, silence where
- * silent. Bench lines of document 01, the customer's story, and a seeded random run. Exit status 0 and one line at the end if all is well. */
+ * silent; and the header: its names, its readers, its calls over one struct. Bench lines of document 01, the customer's story, every name by what the
+ * engine does with it, and two seeded random runs. Exit status 0 and one line at the end if all is well. */
 #include <stdio.h>
 #include <stdlib.h>
 #include <string.h>
@@ -22,10 +23,16 @@ static const char *doing = "start";
 
 static uint8_t *bytes(struct slice *s) { return s->room + GUARD; }
 
-static void fail(const char *what)
+static _Noreturn void fail(const char *what)
 {
     printf("boundary: %s: %s\n", doing, what);
     exit(1);
+}
+
+static void want(int holds, const char *what)
+{
+    if (!holds)
+        fail(what);
 }
 
 static void lend(struct slice *s, size_t length)
@@ -50,6 +57,15 @@ static void check_same(struct slice *s, size_t from)
         fail("a byte that no rule writes was written");
 }
 
+static int is_short(const struct slice *s, size_t least) { return s->length < least; }
+
+/* Number 10 comes first: exactly where a slice that the call uses is too short. */
+static void check_short(uint32_t word, int any)
+{
+    if ((word == ESPI_SHORT_STORE) != any)
+        fail(any ? "a slice that is too short was not refused" : "number 10 with every slice long enough");
+}
+
 /* A refusal leaves every slice, but for the four bytes of an error reply. */
 static void check_refused(uint32_t word)
 {
@@ -70,6 +86,8 @@ static uint32_t exchange(const uint8_t *sent, size_t n)
     uint32_t word = espi_exchange(bytes(&state), state.length, bytes(&command), n, bytes(&reply), reply.length, bytes(&write_store),
                                   write_store.length, bytes(&read_store), read_store.length);
     uint32_t number = espi_number(word), length = espi_value(word);
+    check_short(word, is_short(&state, ESPI_STATE_LEN) || is_short(&reply, ESPI_REPLY_LEN) || is_short(&write_store, ESPI_WRITE_STORE_LEN) ||
+                          is_short(&read_store, ESPI_READ_STORE_LEN));
     check_same(&command, 0);
     check_same(&read_store, 0);
     check_same(&reply, length);
@@ -93,6 +111,7 @@ static uint32_t answer(uint32_t serial, uint32_t success, const uint8_t *with, s
     lend(&read_store, read_store.length);
     lend(&data, n);
     uint32_t word = espi_answer(bytes(&state), state.length, bytes(&read_store), read_store.length, serial, success, bytes(&data), n);
+    check_short(word, is_short(&state, ESPI_STATE_LEN) || is_short(&read_store, ESPI_READ_STORE_LEN));
     check_same(&data, 0);
     check_same(&read_store, word == ESPI_OK ? n : 0);
     check_same(&state, word == ESPI_OK ? ESPI_STATE_LEN : 0);
@@ -105,6 +124,7 @@ static uint32_t take_write(void)
     lend(&write_store, write_store.length);
     lend(&report, report.length);
     uint32_t word = espi_take_write(bytes(&state), state.length, bytes(&write_store), write_store.length, bytes(&report), report.length);
+    check_short(word, is_short(&state, ESPI_STATE_LEN) || is_short(&write_store, ESPI_WRITE_STORE_LEN) || is_short(&report, ESPI_TAKE_REPORT_LEN));
     check_same(&write_store, 0);
     check_same(&report, word == ESPI_OK ? ESPI_TAKE_REPORT_LEN : 0);
     check_same(&state, word == ESPI_OK ? ESPI_STATE_LEN : 0);
@@ -116,6 +136,7 @@ static uint32_t look(void)
     lend(&state, state.length);
     lend(&report, report.length);
     uint32_t word = espi_look(bytes(&state), state.length, bytes(&report), report.length);
+    check_short(word, is_short(&state, ESPI_STATE_LEN) || is_short(&report, ESPI_LOOK_REPORT_LEN));
     check_same(&state, 0);
     check_same(&report, word == ESPI_OK ? ESPI_LOOK_REPORT_LEN : 0);
     return word;
@@ -125,6 +146,7 @@ static uint32_t set_wire(uint32_t index, uint32_t bit, uint32_t value)
 {
     lend(&state, state.length);
     uint32_t word = espi_set_wire(bytes(&state), state.length, index, bit, value);
+    check_short(word, is_short(&state, ESPI_STATE_LEN));
     check_same(&state, word == ESPI_OK ? ESPI_STATE_LEN : 0);
     return word;
 }
@@ -133,6 +155,7 @@ static uint32_t read_wire(uint32_t index, uint32_t bit)
 {
     lend(&state, state.length);
     uint32_t word = espi_read_wire(bytes(&state), state.length, index, bit);
+    check_short(word, is_short(&state, ESPI_STATE_LEN));
     check_same(&state, 0);
     return word;
 }
@@ -141,6 +164,7 @@ static uint32_t reset_by(uint32_t (*call)(uint8_t *, espi_len))
 {
     lend(&state, state.length);
     uint32_t word = call(bytes(&state), state.length);
+    check_short(word, is_short(&state, ESPI_STATE_LEN));
     check_same(&state, word == ESPI_OK ? ESPI_STATE_LEN : 0);
     return word;
 }
@@ -260,14 +284,14 @@ static void bench_lines(void)
     line("01 07", 1, "03 07 00 D6");
 
     fresh();
-    line("42 00 64 00", 13, "");
-    line("", 12, "");
+    line("42 00 64 00", ESPI_BAD_OPCODE, "");
+    line("", ESPI_BAD_LENGTH, "");
     line("22 00 08 00 00 00 80 88", 0, "08 07 00 3A");
-    line("02 05 00", 15, "");
-    line("01 00", 16, "");
+    line("02 05 00", ESPI_BAD_CYCLE, "");
+    line("01 00", ESPI_BAD_CRC, "");
     line("FF FF", 0, "");
-    line("01 00", 1, "03 07 00 D6");
-    line("22 00 10 00 00 00 00 2A", 2, "02 07 00 BD");
+    line("01 00", ESPI_FATAL, "03 07 00 D6");
+    line("22 00 10 00 00 00 00 2A", ESPI_FORBIDDEN, "02 07 00 BD");
 }
 
 /* ---- the customer's story: channel 0 off and on with an answer still open */
@@ -277,9 +301,9 @@ static void customer(void)
     fresh();
     line("40 00 64 BD", 0, "01 05 00 2A");
     line("22 00 10 00 11 00 00 E3", 0, "08 05 00 10");
-    line("01 07", 14, "");
+    line("01 07", ESPI_CHANNEL_OFF, "");
     line("22 00 10 01 11 00 00 00", 0, "08 07 00 3A");
-    answered(1, 1, 20);
+    answered(1, 1, ESPI_NO_REQUEST);
     line("25 FB", 0, "08 07 00 3A");
     line("01 07", 1, "03 07 00 D6");
     line("40 00 60 00", 0, "01 05 00 2A");
@@ -360,11 +384,51 @@ static size_t some_command(uint8_t *b)
     return n;
 }
 
-static unsigned long seen[24];
+static unsigned long seen[24], short_takes, short_looks;
+
+/* Often enough, seldom too short. */
+static size_t some_length(size_t least) { return least + below(9) - (below(64) == 0 ? 9 : 0); }
+
+/* A take and a look with a report of some length. Where only the report was too short, a long enough one shows whether there was something to report. */
+static uint32_t some_take(void)
+{
+    report.length = some_length(ESPI_TAKE_REPORT_LEN);
+    uint32_t word = take_write();
+    if (is_short(&report, ESPI_TAKE_REPORT_LEN)) {
+        report.length = ESPI_TAKE_REPORT_LEN;
+        short_takes += take_write() == ESPI_OK;
+    }
+    return word;
+}
+
+static uint32_t some_look(void)
+{
+    report.length = some_length(ESPI_LOOK_REPORT_LEN);
+    uint32_t word = look();
+    if (is_short(&report, ESPI_LOOK_REPORT_LEN)) {
+        report.length = ESPI_LOOK_REPORT_LEN;
+        short_looks += look() == ESPI_OK;
+    }
+    return word;
+}
+
+/* An answer that is often right: what the request asks for, if there is one. */
+static void some_answer(uint32_t *serial, uint32_t *length)
+{
+    *serial = 0;
+    *length = below(4);
+    if (some_look() == ESPI_OK) {
+        const uint8_t *r = bytes(&report);
+        *serial = r[11] | (uint32_t)r[12] << 8 | (uint32_t)r[13] << 16 | (uint32_t)r[14] << 24;
+        *length = r[0] == ESPI_IO_WRITE ? 0 : r[9] | (uint32_t)r[10] << 8;
+    }
+    *serial -= below(8) == 0;
+    *length += below(8) == 0;
+}
 
 static void some_call(void)
 {
-    uint8_t b[4200];
+    static uint8_t b[4200];
     uint32_t word = 0;
     switch (below(12)) {
     case 0:
@@ -374,22 +438,17 @@ static void some_call(void)
         word = read_wire(1 + below(8), below(5));
         break;
     case 2:
-        word = take_write();
+        word = some_take();
         break;
     case 3:
-        word = look();
+        word = some_look();
         break;
     case 4:
     case 5: {
-        uint32_t serial = 0, length = below(4);
-        if (look() == ESPI_OK) {
-            const uint8_t *r = bytes(&report);
-            serial = r[11] | (uint32_t)r[12] << 8 | (uint32_t)r[13] << 16 | (uint32_t)r[14] << 24;
-            length = r[0] == ESPI_IO_WRITE ? 0 : r[9] | (uint32_t)r[10] << 8;
-        }
+        uint32_t serial, length, success = below(5);
+        some_answer(&serial, &length);
         memset(b, (int)below(256), sizeof b);
-        uint32_t success = below(5);
-        word = answer(serial - (below(8) == 0), success, b, success == 0 ? below(8) == 0 : length + (below(8) == 0));
+        word = answer(serial, success, b, success == 0 ? below(8) == 0 : length);
         break;
     }
     case 6:
@@ -411,12 +470,12 @@ static void random_run(unsigned long calls)
     doing = "random run";
     fresh();
     for (unsigned long i = 0; i < calls; i++) {
-        size_t *lengths[] = {&state.length, &reply.length, &write_store.length, &read_store.length, &report.length};
-        size_t least[] = {ESPI_STATE_LEN, ESPI_REPLY_LEN, ESPI_WRITE_STORE_LEN, ESPI_READ_STORE_LEN, ESPI_LOOK_REPORT_LEN};
         uint8_t kept[ESPI_STATE_LEN];
         memcpy(kept, bytes(&state), sizeof kept);
-        for (int k = 0; k < 5; k++)
-            *lengths[k] = least[k] + below(9) - (below(64) == 0 ? 9 : 0);
+        state.length = some_length(ESPI_STATE_LEN);
+        reply.length = some_length(ESPI_REPLY_LEN);
+        write_store.length = some_length(ESPI_WRITE_STORE_LEN);
+        read_store.length = some_length(ESPI_READ_STORE_LEN);
         int damaged = below(64) == 0;
         if (damaged)
             bytes(&state)[below(ESPI_STATE_LEN)] ^= (uint8_t)(1u << below(8));
@@ -429,6 +488,340 @@ static void random_run(unsigned long calls)
     for (size_t k = 0; k < sizeof all / sizeof *all; k++)
         if (seen[all[k]] == 0)
             fail("a number that the run never reached");
+    want(short_takes > 0, "no take with a short report while a write was held");
+    want(short_looks > 0, "no look with a short report while a request waited");
+}
+
+/* ---- the header's readers */
+
+static void readers(void)
+{
+    static const uint8_t looked[ESPI_LOOK_REPORT_LEN] = {0x02, 0x11, 0x22, 0x33, 0x44, 0x55, 0x66, 0x77, 0x88, 0x99,
+                                                         0x0A, 0xBB, 0xCC, 0xDD, 0xEE, 0xF1, 0xF2, 0xF3, 0xF4};
+    static const uint8_t taken[ESPI_TAKE_REPORT_LEN] = {0x81, 0x72, 0x63, 0x54, 0x45, 0x36, 0x27, 0x18, 0x09, 0x01};
+    struct espi_request q = espi_request_of(looked);
+    struct espi_write w = espi_write_of(taken);
+    doing = "readers";
+    want(q.kind == 2 && q.address == 0x8877665544332211u && q.length == 0x0A99 && q.serial == 0xEEDDCCBBu && q.value == 0xF4F3F2F1u, "a request read wrong");
+    want(w.address == 0x1827364554637281u && w.length == 0x0109, "a write read wrong");
+    want(espi_status(taken, 4) == 0x6372 && espi_status(taken, 10) == 0x0918 && espi_status(taken, 3) == 0, "a status read wrong");
+    want(ESPI_VERSION_MAJOR >= 0 && ESPI_VERSION_MAJOR < 10 && ESPI_VERSION[0] == '0' + ESPI_VERSION_MAJOR && ESPI_VERSION[1] == '.', "the version's text");
+}
+
+/* ---- the header's names, by what the engine does with them: all through the calls over a struct, which the twin run holds against the plain ones */
+
+static struct espi_target target;
+
+#define FREE (ESPI_STATUS_PC_FREE + ESPI_STATUS_NP_FREE + ESPI_STATUS_VWIRE_FREE)
+
+/* The host sends these bytes and their CRC. */
+static void host(uint8_t response, uint32_t status, const uint8_t *sent, size_t n)
+{
+    uint8_t b[32];
+    memcpy(b, sent, n);
+    b[n] = crc8(b, n);
+    uint32_t word = espi_target_exchange(&target, b, n + 1);
+    want(espi_value(word) >= 4 && target.reply[0] == response, "another response than the named one");
+    want(espi_status(target.reply, espi_value(word)) == status, "another status than the named one");
+}
+
+#define HOST(response, status, ...) host(response, status, (const uint8_t[]){__VA_ARGS__}, sizeof((const uint8_t[]){__VA_ARGS__}))
+
+/* Requests at 1004h and what a look makes of them; each is answered, then asked again and failed. */
+static const struct {
+    uint8_t sent[16];
+    size_t n;
+    struct espi_request is; /* address, length, serial, value, kind */
+} requests[] = {
+    {{ESPI_OPCODE_SHORT_IO_READ + ESPI_SHORT_1, 0x10, 0x04}, 3, {0x1004, 1, 0, 0, ESPI_IO_READ}},
+    {{ESPI_OPCODE_SHORT_IO_READ + ESPI_SHORT_2, 0x10, 0x04}, 3, {0x1004, 2, 0, 0, ESPI_IO_READ}},
+    {{ESPI_OPCODE_SHORT_IO_READ + ESPI_SHORT_4, 0x10, 0x04}, 3, {0x1004, 4, 0, 0, ESPI_IO_READ}},
+    {{ESPI_OPCODE_SHORT_IO_WRITE + ESPI_SHORT_1, 0x10, 0x04, 0xA1}, 4, {0x1004, 1, 0, 0xA1, ESPI_IO_WRITE}},
+    {{ESPI_OPCODE_SHORT_IO_WRITE + ESPI_SHORT_2, 0x10, 0x04, 0xA1, 0xB2}, 5, {0x1004, 2, 0, 0xB2A1, ESPI_IO_WRITE}},
+    {{ESPI_OPCODE_SHORT_IO_WRITE + ESPI_SHORT_4, 0x10, 0x04, 0xA1, 0xB2, 0xC3, 0xD4}, 7, {0x1004, 4, 0, 0xD4C3B2A1, ESPI_IO_WRITE}},
+    {{ESPI_OPCODE_SHORT_MEMORY_READ + ESPI_SHORT_1, 0, 0, 0x10, 0x04}, 5, {0x1004, 1, 0, 0, ESPI_MEMORY_READ}},
+    {{ESPI_OPCODE_SHORT_MEMORY_READ + ESPI_SHORT_2, 0, 0, 0x10, 0x04}, 5, {0x1004, 2, 0, 0, ESPI_MEMORY_READ}},
+    {{ESPI_OPCODE_SHORT_MEMORY_READ + ESPI_SHORT_4, 0, 0, 0x10, 0x04}, 5, {0x1004, 4, 0, 0, ESPI_MEMORY_READ}},
+    {{ESPI_OPCODE_PUT_NP, ESPI_CYCLE_READ_32, 0x50, 40, 0, 0, 0x10, 0x04}, 8, {0x1004, 40, 0, 0, ESPI_MEMORY_READ}},
+    {{ESPI_OPCODE_PUT_NP, ESPI_CYCLE_READ_64, 0x50, 40, 0, 0, 0, 9, 0, 0, 0x10, 0x04}, 12, {0x900001004, 40, 0, 0, ESPI_MEMORY_READ}},
+};
+
+static void same_request(const struct espi_request *q, const struct espi_request *is, uint32_t serial)
+{
+    want(q->kind == is->kind && q->address == is->address && q->length == is->length && q->value == is->value, "another request than the named one");
+    want(q->serial == serial, "a serial that was not given");
+}
+
+static void requests_by_name(void)
+{
+    static const uint8_t with[ESPI_READ_STORE_LEN] = {0x5A, 0x6B, 0x7C, 0x8D};
+    struct espi_request q = {0};
+    espi_target_start(&target);
+    for (uint32_t k = 0; k < sizeof requests / sizeof *requests; k++) {
+        int write = requests[k].is.kind == ESPI_IO_WRITE;
+        uint32_t n = write ? 0 : requests[k].is.length;
+        doing = "a request by name";
+        host(ESPI_RESPONSE_DEFER, FREE - ESPI_STATUS_NP_FREE, requests[k].sent, requests[k].n);
+        want(espi_target_look(&target, &q) == ESPI_OK, "a look was refused");
+        same_request(&q, &requests[k].is, 2 * k + 1);
+        want(espi_target_answer(&target, q.serial, write ? 0 : with, n) == ESPI_OK, "an answer was refused");
+        HOST(ESPI_RESPONSE_ACCEPT, FREE - ESPI_STATUS_NP_FREE + ESPI_STATUS_PC_AVAIL, ESPI_OPCODE_GET_STATUS);
+        HOST(ESPI_RESPONSE_ACCEPT, FREE, ESPI_OPCODE_GET_PC);
+        want(target.reply[1] == (write ? ESPI_CYCLE_DONE : ESPI_CYCLE_ONLY), "another completion than the named one");
+        want(target.reply[3] == n && memcmp(target.reply + 4, with, n) == 0, "a completion with other data than the answer's");
+        doing = "a failure by name";
+        host(ESPI_RESPONSE_DEFER, FREE - ESPI_STATUS_NP_FREE, requests[k].sent, requests[k].n);
+        want(espi_target_fail(&target, 2 * k + 2) == ESPI_OK, "a failure was refused");
+        HOST(ESPI_RESPONSE_ACCEPT, FREE, ESPI_OPCODE_GET_PC);
+        want(target.reply[1] == ESPI_CYCLE_FAILED && target.reply[3] == 0, "another completion than the failed one");
+    }
+}
+
+/* Posted writes at 2004h, their data the last bytes sent, and what a take makes of them. */
+static const struct {
+    uint8_t sent[16];
+    size_t n;
+    struct espi_write is;
+} writes[] = {
+    {{ESPI_OPCODE_SHORT_MEMORY_WRITE + ESPI_SHORT_1, 0, 0, 0x20, 0x04, 0xA1}, 6, {0x2004, 1}},
+    {{ESPI_OPCODE_SHORT_MEMORY_WRITE + ESPI_SHORT_2, 0, 0, 0x20, 0x04, 0xA1, 0xB2}, 7, {0x2004, 2}},
+    {{ESPI_OPCODE_SHORT_MEMORY_WRITE + ESPI_SHORT_4, 0, 0, 0x20, 0x04, 0xA1, 0xB2, 0xC3, 0xD4}, 9, {0x2004, 4}},
+    {{ESPI_OPCODE_PUT_PC, ESPI_CYCLE_WRITE_32, 0, 3, 0, 0, 0x20, 0x04, 0xA1, 0xB2, 0xC3}, 11, {0x2004, 3}},
+    {{ESPI_OPCODE_PUT_PC, ESPI_CYCLE_WRITE_64, 0, 3, 0, 0, 0, 9, 0, 0, 0x20, 0x04, 0xA1, 0xB2, 0xC3}, 15, {0x900002004, 3}},
+};
+
+static void writes_by_name(void)
+{
+    struct espi_write w = {0};
+    doing = "a write by name";
+    espi_target_start(&target);
+    for (size_t k = 0; k < sizeof writes / sizeof *writes; k++) {
+        host(ESPI_RESPONSE_ACCEPT, FREE - ESPI_STATUS_PC_FREE, writes[k].sent, writes[k].n);
+        want(espi_target_take(&target, &w) == ESPI_OK, "a take was refused");
+        want(w.address == writes[k].is.address && w.length == writes[k].is.length, "another write than the named one");
+        want(memcmp(target.write_store, writes[k].sent + writes[k].n - w.length, w.length) == 0, "a write with other data than was sent");
+        HOST(ESPI_RESPONSE_ACCEPT, FREE, ESPI_OPCODE_GET_STATUS);
+    }
+}
+
+/* What is left: the marks of a read in pieces, configuration, error replies, RESET. */
+static void replies_by_name(void)
+{
+    static const uint8_t with[160], reset[2] = {ESPI_OPCODE_RESET, ESPI_OPCODE_RESET};
+    static const uint8_t marks[4] = {ESPI_CYCLE_FIRST, ESPI_CYCLE_MIDDLE, ESPI_CYCLE_MIDDLE, ESPI_CYCLE_LAST};
+    doing = "replies by name";
+    espi_target_start(&target);
+    HOST(ESPI_RESPONSE_FATAL, FREE, ESPI_OPCODE_GET_PC);
+    HOST(ESPI_RESPONSE_NON_FATAL, FREE, ESPI_OPCODE_SET_CONFIGURATION, 0x00, 0x10, 0x00, 0x00, 0x00, 0x00);
+    HOST(ESPI_RESPONSE_ACCEPT, FREE, ESPI_OPCODE_SET_CONFIGURATION, 0x00, 0x10, 0x03, 0x31, 0x00, 0x00);
+    HOST(ESPI_RESPONSE_ACCEPT, FREE, ESPI_OPCODE_GET_CONFIGURATION, 0x00, 0x10);
+    want(memcmp(target.reply + 1, "\x33\x31\x00\x00", 4) == 0, "another register than was written");
+    HOST(ESPI_RESPONSE_DEFER, FREE - ESPI_STATUS_NP_FREE, ESPI_OPCODE_PUT_NP, ESPI_CYCLE_READ_32, 0x50, 0xA0, 0x00, 0x00, 0x10, 0x30);
+    want(espi_target_answer(&target, 1, with, sizeof with) == ESPI_OK, "an answer was refused");
+    for (int k = 0; k < 4; k++) {
+        HOST(ESPI_RESPONSE_ACCEPT, k == 3 ? FREE : FREE - ESPI_STATUS_NP_FREE + ESPI_STATUS_PC_AVAIL, ESPI_OPCODE_GET_PC);
+        want(target.reply[1] == marks[k], "another mark than the named one");
+    }
+    uint32_t word = espi_target_exchange(&target, reset, sizeof reset);
+    want(word == ESPI_OK && espi_status(target.reply, espi_value(word)) == 0, "a RESET with a reply");
+}
+
+/* The numbers of board calls; those of an exchange are named in the lines above. */
+static void refusals_by_name(void)
+{
+    static const uint8_t with[2];
+    struct espi_request q;
+    struct espi_write w;
+    doing = "refusals by name";
+    espi_target_start(&target);
+    want(espi_target_look(&target, &q) == ESPI_NOTHING && espi_target_take(&target, &w) == ESPI_NOTHING, "something to look at or to take");
+    HOST(ESPI_RESPONSE_DEFER, FREE - ESPI_STATUS_NP_FREE, ESPI_OPCODE_SHORT_IO_READ + ESPI_SHORT_1, 0x00, 0x64);
+    want(espi_target_answer(&target, 2, with, 1) == ESPI_NO_REQUEST && espi_target_fail(&target, 2) == ESPI_NO_REQUEST, "a serial that was not given");
+    want(espi_target_answer(&target, 1, with, 2) == ESPI_BAD_COUNT, "an answer of the wrong length");
+    target.state[ESPI_STATE_LEN - 1] = 7; /* the going-round place is 4 to 6 */
+    want(espi_target_look(&target, &q) == ESPI_NOT_SOUND && espi_target_reset(&target) == ESPI_NOT_SOUND, "a state that is not sound");
+}
+
+/* The wires' names beside index and bit of source 004, tables 9 to 14; document 01's rows. */
+static const struct {
+    uint32_t name, index, bit;
+} wires[] = {
+    {ESPI_WIRE_SLP_S3, 2, 0},                {ESPI_WIRE_SLP_S4, 2, 1},      {ESPI_WIRE_SLP_S5, 2, 2},
+    {ESPI_WIRE_SUS_STAT, 3, 0},              {ESPI_WIRE_PLTRST, 3, 1},      {ESPI_WIRE_OOB_RST_WARN, 3, 2},
+    {ESPI_WIRE_OOB_RST_ACK, 4, 0},           {ESPI_WIRE_WAKE, 4, 2},        {ESPI_WIRE_PME, 4, 3},
+    {ESPI_WIRE_TARGET_BOOT_LOAD_DONE, 5, 0}, {ESPI_WIRE_ERROR_FATAL, 5, 1}, {ESPI_WIRE_ERROR_NONFATAL, 5, 2}, {ESPI_WIRE_TARGET_BOOT_LOAD_STATUS, 5, 3},
+    {ESPI_WIRE_SCI, 6, 0},                   {ESPI_WIRE_SMI, 6, 1},         {ESPI_WIRE_RCIN, 6, 2},           {ESPI_WIRE_HOST_RST_ACK, 6, 3},
+    {ESPI_WIRE_HOST_RST_WARN, 7, 0},         {ESPI_WIRE_SMIOUT, 7, 1},      {ESPI_WIRE_NMIOUT, 7, 2},
+};
+#define WIRES (sizeof wires / sizeof *wires)
+
+static const struct {
+    uint32_t index, up, defined, reset;
+} rows[] = {{2, 0, 0x7, 0x0}, {3, 0, 0x7, 0x0}, {4, 1, 0xD, 0xC}, {5, 1, 0xF, 0x0}, {6, 1, 0xF, 0x7}, {7, 0, 0x7, 0x6}};
+
+/* Fresh, with channel 1 on. */
+static void wires_on(void)
+{
+    espi_target_start(&target);
+    HOST(ESPI_RESPONSE_ACCEPT, FREE, ESPI_OPCODE_SET_CONFIGURATION, 0x00, 0x20, 0x01, 0x00, 0x00, 0x00);
+}
+
+/* A wire with a name goes over the bus at its index and bit, and nothing but it changes. */
+static void wire_on_the_bus(uint32_t name, uint32_t index, uint32_t bit)
+{
+    uint32_t up = rows[index - 2].up, defined = rows[index - 2].defined, reset = rows[index - 2].reset, level = (reset >> bit & 1) ^ 1;
+    wires_on();
+    want(espi_target_read(&target, name) == 256 * (level ^ 1), "a fresh wire's level is not its reset value");
+    want(espi_target_set(&target, name, 2) == ESPI_BAD_WIRE, "a wire set to 2");
+    want(espi_target_set(&target, name, level) == (up ? ESPI_OK : ESPI_BAD_WIRE), "a board's wire that it cannot set, or a host's that it can");
+    if (up) {
+        HOST(ESPI_RESPONSE_ACCEPT, FREE + ESPI_STATUS_VWIRE_AVAIL, ESPI_OPCODE_GET_STATUS);
+        HOST(ESPI_RESPONSE_ACCEPT, FREE, ESPI_OPCODE_GET_VWIRE);
+        want(target.reply[1] == 0 && target.reply[2] == index && target.reply[3] == (defined << 4 | (reset ^ 1u << bit)), "another wire than the named one");
+    } else {
+        HOST(ESPI_RESPONSE_ACCEPT, FREE, ESPI_OPCODE_PUT_VWIRE, 0x00, (uint8_t)index, (uint8_t)(1u << (bit + 4) | level << bit));
+    }
+    for (size_t k = 0; k < WIRES; k++) {
+        uint32_t fresh_level = rows[wires[k].index - 2].reset >> wires[k].bit & 1;
+        want(espi_target_read(&target, wires[k].name) == 256 * (fresh_level ^ (wires[k].name == name)), "another wire changed, or the named one did not");
+    }
+}
+
+static void wires_by_name(void)
+{
+    doing = "wires by name";
+    for (size_t k = 0; k < WIRES; k++) {
+        want(espi_wire_index(wires[k].name) == wires[k].index && espi_wire_bit(wires[k].name) == wires[k].bit, "a name at another index or bit");
+        wire_on_the_bus(wires[k].name, wires[k].index, wires[k].bit);
+    }
+    wires_on();
+    for (uint32_t wire = 0; wire < 300; wire++) {
+        int names = 0, defined = wire / 4 >= 2 && wire / 4 <= 7 && rows[wire / 4 - 2].defined >> wire % 4 & 1;
+        for (size_t k = 0; k < WIRES; k++)
+            names += wires[k].name == wire;
+        want(names == defined, "a defined wire without a name, or a name too many");
+        want(espi_number(espi_target_read(&target, wire)) == (defined ? ESPI_OK : ESPI_BAD_WIRE), "a wire that is not defined was read");
+        want(defined || espi_target_set(&target, wire, 0) == ESPI_BAD_WIRE, "a wire that is not defined was set");
+    }
+    want(espi_target_read(&target, UINT32_MAX) == ESPI_BAD_WIRE, "a wire that is not defined was read");
+}
+
+/* ---- the calls over a struct beside the plain ones: the same words, the same bytes */
+
+static struct {
+    uint8_t before[GUARD];
+    struct espi_target target;
+    uint8_t after[GUARD];
+} twin;
+
+static void same_word(uint32_t plain, uint32_t word) { want(plain == word, "another word than the plain call's"); }
+
+static void same_bytes(void)
+{
+    want(memcmp(twin.target.state, bytes(&state), ESPI_STATE_LEN) == 0, "another state than the plain call's");
+    want(memcmp(twin.target.reply, bytes(&reply), ESPI_REPLY_LEN) == 0, "another reply than the plain call's");
+    want(memcmp(twin.target.write_store, bytes(&write_store), ESPI_WRITE_STORE_LEN) == 0, "another write store than the plain call's");
+    want(memcmp(twin.target.read_store, bytes(&read_store), ESPI_READ_STORE_LEN) == 0, "another read store than the plain call's");
+    for (size_t i = 0; i < GUARD; i++)
+        want(twin.before[i] == GUARD_BYTE && twin.after[i] == GUARD_BYTE, "a byte beside the struct was written");
+}
+
+/* The number's bytes stand in the report, low byte first. */
+static int stands(uint64_t number, size_t at, size_t count)
+{
+    for (size_t i = 0; i < count; i++)
+        if (bytes(&report)[at + i] != (uint8_t)(number >> 8 * i))
+            return 0;
+    return count == 8 || number >> 8 * count == 0;
+}
+
+static void twin_look(void)
+{
+    struct espi_request q, kept;
+    memset(&q, 0x5A, sizeof q);
+    kept = q;
+    uint32_t word = look();
+    same_word(word, espi_target_look(&twin.target, &q));
+    if (word == ESPI_OK)
+        want(stands(q.kind, 0, 1) && stands(q.address, 1, 8) && stands(q.length, 9, 2) && stands(q.serial, 11, 4) && stands(q.value, 15, 4),
+             "another request than the plain call's");
+    else
+        want(q.kind == kept.kind && q.address == kept.address && q.length == kept.length && q.serial == kept.serial && q.value == kept.value,
+             "a refused look wrote a request");
+}
+
+static void twin_take(void)
+{
+    struct espi_write w, kept;
+    memset(&w, 0x5A, sizeof w);
+    kept = w;
+    uint32_t word = take_write();
+    same_word(word, espi_target_take(&twin.target, &w));
+    if (word == ESPI_OK)
+        want(stands(w.address, 0, 8) && stands(w.length, 8, 2), "another write than the plain call's");
+    else
+        want(w.address == kept.address && w.length == kept.length, "a refused take wrote a write");
+}
+
+static void twin_answer(void)
+{
+    static uint8_t b[4200];
+    uint32_t serial, length, success = below(3);
+    some_answer(&serial, &length);
+    memset(b, (int)below(256), sizeof b);
+    if (success == 0)
+        same_word(answer(serial, 0, b, 0), espi_target_fail(&twin.target, serial));
+    else
+        same_word(answer(serial, 1, b, length), espi_target_answer(&twin.target, serial, length == 0 ? 0 : b, length));
+}
+
+static void twin_call(void)
+{
+    static uint8_t b[4200];
+    uint32_t wire = below(36), value = below(3);
+    report.length = ESPI_LOOK_REPORT_LEN;
+    switch (below(12)) {
+    case 0:
+        same_word(set_wire(wire / 4, wire % 4, value), espi_target_set(&twin.target, wire, value));
+        break;
+    case 1:
+        same_word(read_wire(wire / 4, wire % 4), espi_target_read(&twin.target, wire));
+        break;
+    case 2:
+        twin_take();
+        break;
+    case 3:
+        twin_look();
+        break;
+    case 4:
+    case 5:
+        twin_answer();
+        break;
+    case 6:
+        if (below(64) == 0)
+            same_word(reset_by(espi_reset), espi_target_reset(&twin.target));
+        else if (below(64) == 0)
+            same_word(reset_by(espi_platform_reset), espi_target_platform_reset(&twin.target));
+        break;
+    default: {
+        size_t n = some_command(b);
+        same_word(exchange(b, n), espi_target_exchange(&twin.target, b, n));
+    }
+    }
+    same_bytes();
+}
+
+static void twin_run(unsigned long calls)
+{
+    doing = "calls over a struct";
+    fresh();
+    memset(&twin, GUARD_BYTE, sizeof twin);
+    same_word(ESPI_OK, espi_target_start(&twin.target));
+    memcpy(twin.target.reply, bytes(&reply), ESPI_REPLY_LEN);
+    memcpy(twin.target.write_store, bytes(&write_store), ESPI_WRITE_STORE_LEN);
+    memcpy(twin.target.read_store, bytes(&read_store), ESPI_READ_STORE_LEN);
+    for (unsigned long i = 0; i < calls; i++)
+        twin_call();
 }
 
 int main(void)
@@ -436,6 +829,13 @@ int main(void)
     bench_lines();
     customer();
     random_run(300000);
-    printf("boundary: bench lines, the customer's story and 300000 random calls: ok\n");
+    readers();
+    requests_by_name();
+    writes_by_name();
+    replies_by_name();
+    refusals_by_name();
+    wires_by_name();
+    twin_run(100000);
+    printf("boundary: bench lines, the customer's story, 300000 random calls, the header's names and readers, 100000 calls over a struct: ok\n");
     return 0;
 }

@@ -66,22 +66,16 @@ START = tests/firmware/cortex-m4.c tests/firmware/cortex-m4.ld
 target/firmware/%/boundary: tests/boundary.c tests/crc8.h include/espi.h $(START) target/firmware/%/libespi.a
 	@$(CC_$*) $(CFLAGS) -o $@ tests/boundary.c $(@D)/libespi.a
 
-target/firmware/%/board: examples/board.c $(wildcard examples/*.h) include/espi.h $(START) target/firmware/%/libespi.a
+target/firmware/%/board: examples/board.c examples/print.h include/espi.h $(START) target/firmware/%/libespi.a
 	@$(CC_$*) $(CFLAGS) -o $@ examples/board.c $(@D)/libespi.a
 
 # ---- the tests
 
-# What the board prints: the stored transcript, or what it prints on the machine at hand.
-TRANSCRIPT = $(firstword $(wildcard tests/board.txt) target/firmware/board.txt)
-
-target/firmware/board.txt: target/board
-	./target/board > $@
-
-machine-%: target/firmware/%/boundary target/firmware/%/board $(TRANSCRIPT)
+machine-%: target/firmware/%/boundary target/firmware/%/board
 	@if nm -u target/firmware/$*/libespi.a | grep -E 'ldiv|divdi|moddi'; then echo "firmware: $*: a helper for 64-bit division is called"; exit 1; fi
 	@said=$$($(RUN_$*) target/firmware/$*/boundary < /dev/null); failed=$$?; echo "firmware: $*: $$said"; exit $$failed
 	@$(RUN_$*) target/firmware/$*/board < /dev/null > target/firmware/$*/board.txt
-	@diff -u $(TRANSCRIPT) target/firmware/$*/board.txt
+	@diff -u tests/board.txt target/firmware/$*/board.txt
 	@echo "firmware: $*: the board prints its transcript"
 
 # The differential run with the archive under an emulator, in a process of its own.
