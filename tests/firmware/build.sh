@@ -1,4 +1,4 @@
-#!/bin/sh
+#!/usr/bin/env bash
 # build.sh TRIPLE: target/firmware/TRIPLE/libespi.a, of the module that tests/firmware/keep.sh kept, by the kit's own clang and in the words of the kit,
 # but for those that name the machine. FLAGS: further words for clang, as -march=rv32imc. -O3 on the small machines too: measured, -Os gives more code and more
 # than twice the stack (docs/PORTING.md).
@@ -50,5 +50,9 @@ report() {
     echo "$folder/libespi.a: $bytes bytes of code and constants; from outside: ${needs:-nothing }; $own${flags:+ $flags}; kit $(cat $out/kit-version)"
 }
 
-[ "$folder/libespi.a" -nt "$out/module.bc" ] && [ "$folder/libespi.a" -nt tests/firmware/build.sh ] && [ "$(cat "$folder/flags")" = "$flags" ] || lower "$1"
+fresh() {
+    [ "$folder/libespi.a" -nt "$out/module.bc" ] && [ "$folder/libespi.a" -nt tests/firmware/build.sh ] && [ "$(cat "$folder/flags")" = "$flags" ]
+}
+
+fresh || lower "$1"
 report

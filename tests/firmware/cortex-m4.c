@@ -15,5 +15,9 @@ static void fault(void)
     _Exit(99);
 }
 
-__attribute__((section(".vectors"), used)) static void *const vectors[] = {
-    stack_top, (void *)_start, (void *)fault, (void *)fault, (void *)fault, (void *)fault, (void *)fault};
+/* The timer's, in a program that has one. */
+__attribute__((weak, alias("fault"))) void bus_interrupt(void);
+
+#define FAULT (void *)fault
+__attribute__((section(".vectors"), used)) static void *const vectors[16] = {
+    stack_top, (void *)_start, FAULT, FAULT, FAULT, FAULT, FAULT, FAULT, FAULT, FAULT, FAULT, FAULT, FAULT, FAULT, FAULT, (void *)bus_interrupt};

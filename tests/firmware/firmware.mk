@@ -1,6 +1,7 @@
 # Firmware builds and their tests (docs/PORTING.md).
 #   make firmware TRIPLE=..      target/firmware/TRIPLE/libespi.a, its size and what it needs from outside
-#   make firmware-tests          a build for every triple; on each machine the boundary test and the board; a differential run on 32-bit Arm
+#   make firmware-tests          a build for every triple; on each machine the boundary test and the board; on the boards the calls from an interrupt and a
+#                                main loop; a differential run on 32-bit Arm
 #   make differential-firmware   2,000,000 calls of that run
 #   make firmware-figures        stack and instructions on Cortex-M4 and RISC-V 32, as docs/PORTING.md and docs/FIGURES.md have them
 MODULE = target/firmware/module.bc
@@ -26,6 +27,7 @@ target/firmware/%/libespi.a: $(MODULE) FORCE
 
 BOARD = -nographic -monitor none -serial none -chardev stdio,id=out -semihosting-config enable=on,target=native,chardev=out
 MACHINES = $(TRIPLES)
+BOARDS = thumbv7em-none-eabi riscv32-unknown-elf
 BRIDGED = armv7-linux-gnueabihf
 
 CC_thumbv7em-none-eabi = arm-none-eabi-gcc -mcpu=cortex-m4 -mthumb --specs=rdimon.specs -nostartfiles -T tests/firmware/cortex-m4.ld \
@@ -69,6 +71,9 @@ target/firmware/%/boundary: tests/boundary.c tests/crc8.h include/espi.h $(START
 target/firmware/%/board: examples/board.c examples/print.h include/espi.h $(START) target/firmware/%/libespi.a
 	@$(CC_$*) $(CFLAGS) -o $@ examples/board.c $(@D)/libespi.a
 
+target/firmware/%/interrupt: tests/firmware/interrupt.c tests/crc8.h include/espi.h $(START) target/firmware/%/libespi.a
+	@$(CC_$*) $(CFLAGS) -o $@ tests/firmware/interrupt.c $(@D)/libespi.a
+
 # ---- the tests
 
 machine-%: target/firmware/%/boundary target/firmware/%/board
@@ -77,6 +82,10 @@ machine-%: target/firmware/%/boundary target/firmware/%/board
 	@$(RUN_$*) target/firmware/$*/board < /dev/null > target/firmware/$*/board.txt
 	@diff -u tests/board.txt target/firmware/$*/board.txt
 	@echo "firmware: $*: the board prints its transcript"
+
+# The emulator counts time in instructions here, so that the interrupt comes at the same places in every run.
+interrupt-%: target/firmware/%/interrupt
+	@said=$$($(RUN_$*) target/firmware/$*/interrupt -icount shift=3 < /dev/null); failed=$$?; echo "firmware: $*: $$said"; exit $$failed
 
 # The differential run with the archive under an emulator, in a process of its own.
 tests/differential/target/%/release/differential: target/firmware/%/libespi.a FORCE
@@ -91,15 +100,14 @@ bridged-%: tests/differential/target/%/release/differential
 	done
 
 # As many calls as take a quarter of a minute.
-firmware-tests: BRIDGED_CALLS = 1000000
-firmware-tests: $(MACHINES:%=machine-%) $(BRIDGED:%=bridged-%)
+firmware-tests: BRIDGED_CALLS = 1500000
+firmware-tests: $(MACHINES:%=machine-%) $(BOARDS:%=interrupt-%) $(BRIDGED:%=bridged-%)
 
 differential-firmware: BRIDGED_CALLS = 2000000
 differential-firmware: $(BRIDGED:%=bridged-%)
 
 # ---- the figures of the boards
 
-BOARDS = thumbv7em-none-eabi riscv32-unknown-elf
 WRAP = $(patsubst %,-Wl$(comma)--wrap=espi_%,start reset platform_reset exchange look answer take_write set_wire read_wire)
 comma = ,
 
