@@ -8,7 +8,7 @@ MODULE = target/firmware/module.bc
 TRIPLES = thumbv7em-none-eabi riscv32-unknown-elf aarch64-linux-gnu armv7-linux-gnueabihf
 
 .PHONY: firmware firmware-tests differential-firmware firmware-figures FORCE
-.SECONDARY:
+.PRECIOUS: $(addprefix target/firmware/%/,libespi.a boundary board interrupt stack figures) tests/differential/target/%/release/differential
 
 # One run of the kit for the x86-64 archive and for the module that every other one is compiled of.
 $(ARCHIVE) $(MODULE) &: $(SOURCES) tests/firmware/keep.sh
