@@ -4,6 +4,7 @@
 CONTRACTS.md: a section `## CRATE` has a line 'Definitions in `FILE`, ..' and rows `| `function` | .. `definition` .. | form | requires | met by |`.
 Both pages: a name cited as `name` (`file`), files under crates/, is declared in that file; `Record.field` is a field of it; `x.edit` exists.
 PROMISES.md, 'Statements and proofs': a row's second name is declared with its first as type.
+The files of definitions (those that CONTRACTS.md names, all of rules/specs/Rules, and FURTHER): above each public definition stands the rule that it says.
 """
 import glob
 import os
@@ -89,7 +90,7 @@ def declared(path, name):
     return all(head.group(2) == "record" and re.search(r"^ +pub " + re.escape(f) + r" *:", "\n".join(block), re.M) for f in fields)
 
 
-CITED = re.compile(r"`([^`\s]+)` \(`([^`\s]+)`\)")
+CITED = re.compile(r"`([^`\s]+)`\s+\(`([^`\s]+)`\)")
 
 
 def citations(page):
@@ -123,13 +124,22 @@ def proofs(page):
 
 # ---- docs/CONTRACTS.md
 
+def defining(text):
+    """The files that a paragraph of the page names: 'Definitions in `FILE`, ..'."""
+    said = re.search(r"Definitions in(.*?)(?:\n\n|\Z)", text, re.S)
+    return [os.path.join("crates", f) for f in re.findall(r"`([^`]+\.antt)`", said.group(1))] if said else []
+
+
 def contracts(page, crates):
     listed, crate, files = set(), "", []
-    for line in read(page).split("\n"):
-        if line.startswith("## "):
-            crate, files = line[3:].strip(), []
-        if "Definitions in" in line:
-            files = [os.path.join("crates", f) for f in re.findall(r"`([^`]+\.antt)`", line)]
+    for section in re.split(r"^(?=## )", read(page), flags=re.M):
+        crate, files = section.split("\n")[0][3:].strip(), defining(section)
+        rows(page, crates, crate, files, section, listed)
+    return listed
+
+
+def rows(page, crates, crate, files, section, listed):
+    for line in section.split("\n"):
         cells = [c.strip() for c in line.strip().strip("|").split("|")]
         name = re.fullmatch(r"`([\w:]+)`", cells[0])
         if not line.startswith("|") or not name or len(cells) != 5:
@@ -156,7 +166,57 @@ def contracts(page, crates):
         for other, caller in re.findall(r"`(\w+)::([\w:]+)`", callers):
             if caller not in crates.get(other, {}):
                 fault(f"{where}: no function {other}::{caller}")
-    return listed
+
+
+# ---- the definitions, and the rules that they say
+
+FURTHER = ["base/specs/Pick", "command/specs/Numbers", "promises/specs/ByteRuns", "state/specs/Channel", "state/specs/Sound"]
+FURTHER += ["wires/specs/Below", "wires/specs/Table", "wires/specs/Turn"]
+STATEMENTS = "Fields Effects Sizes Shape Events Requests WireEvents Peripheral/Rows Peripheral/Effects Wires/Rows Wires/Effects"
+FURTHER += ["rules/specs/Statements/" + name for name in STATEMENTS.split()]
+PUBLIC = re.compile(r"^( *(?:abbrev|unfoldable) )?pub (record |data )?(?!use |mod )([^\s:({]+)")
+RULE = re.compile(r'"[^"]+"|\b01, [A-Z]|\b02, Q-\d|\b004, (?:tables? )?\d')
+
+
+def definitions(path):
+    """The public ones, with the comment directly above. A law is none: its name has a hyphen, or its type ends in an equation or an order."""
+    lines = read(path).split("\n")
+    for at, line in enumerate(lines):
+        head = PUBLIC.match(line)
+        if not head or "-" in head.group(3):
+            continue
+        top, end = at, at + 1
+        while end < len(lines) and lines[end].startswith("  "):
+            end += 1
+        if not head.group(1) and not head.group(2) and re.search(r"[≡≤<]", " ".join(lines[at:end]).split("→")[-1]):
+            continue
+        while top > 0 and lines[top - 1].lstrip().startswith("--"):
+            top -= 1
+        yield head.group(3), " ".join(text.strip(" -") for text in lines[top:at])
+
+
+def cited_definitions(page):
+    """Each quotes its rule, or has the rule's place in 01, 02 or 004, or a number of docs/DECISIONS.md; how many there are."""
+    files = set(glob.glob("crates/rules/specs/Rules/*.antt")) | {f"crates/{name}.antt" for name in FURTHER}
+    for section in re.split(r"^(?=## )", read(page), flags=re.M):
+        files |= set(defining(section))
+    decided, found = re.findall(r"^(\d+)\. \*\*", read("docs/DECISIONS.md"), re.M), 0
+    for path in sorted(files):
+        for name, comment in definitions(path):
+            found += 1
+            if not RULE.search(comment) and not set(re.findall(r"DECISIONS\.md, (\d+)", comment)) & set(decided):
+                fault(f"{path}: {name}: which rule does it say?")
+    return found
+
+
+# ---- widths
+
+def narrow(limit=160):
+    """Pages, comments, code and specs keep to the width; rows of tables and `use` lines apart, which cannot be broken."""
+    for path in ["README.md"] + glob.glob("docs/*.md") + glob.glob("crates/**/*.rt", recursive=True) + glob.glob("crates/**/*.antt", recursive=True):
+        for at, line in enumerate(read(path).split("\n")):
+            if len(line) > limit and not re.match(r"\||\s*(ghost |pub )?use ", line):
+                fault(f"{path}:{at + 1}: {len(line)} characters")
 
 
 def told(name, faults, right):
@@ -179,9 +239,11 @@ def main():
                 fault(f"{crate}::{name} has no ensures")
             if exported and clause(contract, "requires"):
                 fault(f"{crate}::{name} is exported and has a requires")
-    cited = citations("docs/PROMISES.md") | citations("docs/CONTRACTS.md")
+    cited = citations("docs/PROMISES.md") | citations("docs/CONTRACTS.md") | citations("docs/RULES.md")
     proofs("docs/PROMISES.md")
-    return told("listed", faults, f"{len(listed)} public functions, {len(cited)} statements")
+    defined = cited_definitions("docs/CONTRACTS.md")
+    narrow()
+    return told("listed", faults, f"{len(listed)} public functions, {len(cited)} statements, {defined} definitions")
 
 
 if __name__ == "__main__":

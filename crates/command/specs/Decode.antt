@@ -28,7 +28,7 @@ use Rattle.command.specs.declared.Decoded.the-variants.{Known, Refused}
 
 -- ---- the fields of a command
 
--- the number of n bytes from a place on, high byte first
+-- the number of n bytes from a place on: "high byte first" (01, Commands)
 abbrev pub highFirst : ℕ → ℕ → List ℕ → ℕ
 highFirst zero at b = 0
 highFirst (suc n) at b = highFirst n at b * 256 + getD b (at + n) 0
@@ -55,7 +55,8 @@ registerAddress r b = highFirst (r .address) (r .from) b / 4 % 1024 * 4
 abbrev pub registerData : List ℕ → ℕ
 registerData b = joined4 (getD b 3 0) (getD b 4 0) (getD b 5 0) (getD b 6 0)
 
--- the command of a row that bytes of the right length are
+-- the command of a row that bytes of the right length are: "one of a few kinds, and the four short accesses are one kind with an access inside it"
+-- (01, Commands)
 abbrev pub commandAs : Row → List ℕ → Opcode → Command
 commandAs r b O.PutPc = C.Peripheral (P.PutPc (headOf r b))
 commandAs r b O.GetPc = C.Peripheral P.GetPc
@@ -68,12 +69,13 @@ commandAs r b O.GetStatus = C.GetStatus
 commandAs r b O.Reset = C.Reset
 commandAs r b (O.Short a n) = C.Peripheral (P.Short a (record { address = addressIn r b; size = n }))
 
+-- that of the row's own opcode (01, Commands)
 abbrev pub commandOf : Row → List ℕ → Command
 commandOf r b = commandAs r b (r .opcode)
 
 -- ---- the decoder
 
--- the last byte is the CRC of all before it
+-- the last byte is the CRC of all before it (004, 5.2: "all the bytes during the Command Phase")
 abbrev pub crcGood : List ℕ → Bool
 crcGood b = eqb (crc (take (length b - 1) b)) (getD b (length b - 1) 0)
 
@@ -81,6 +83,7 @@ crcGood b = eqb (crc (take (length b - 1) b)) (getD b (length b - 1) 0)
 abbrev pub crcWrong : Bool → Bool → List ℕ → Bool
 crcWrong checked has b = checked && (has && not (crcGood b))
 
+-- 16, "CRC wrong while checked"; else the command is known
 abbrev pub checkedAs : Bool → List ℕ → Row → Decoded
 checkedAs checked b r = pick (crcWrong checked (r .crc) b) (Refused crcRefused) (Known (commandOf r b))
 

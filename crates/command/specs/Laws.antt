@@ -29,7 +29,8 @@ use Rattle.command.specs.declared.Listed.the-variants.{Unlisted}
 -- the byte is no single opcode
 abbrev pub NoSingle : ℕ → Type 0
 NoSingle op =
-    ((((((((Unit {0} × (op ≡ 0x00 → ⊥)) × (op ≡ 0x01 → ⊥)) × (op ≡ 0x02 → ⊥)) × (op ≡ 0x04 → ⊥)) × (op ≡ 0x05 → ⊥)) × (op ≡ 0x21 → ⊥)) × (op ≡ 0x22 → ⊥)) × (op ≡ 0x25 → ⊥))
+    ((((((((Unit {0} × (op ≡ 0x00 → ⊥)) × (op ≡ 0x01 → ⊥)) × (op ≡ 0x02 → ⊥)) × (op ≡ 0x04 → ⊥)) × (op ≡ 0x05 → ⊥)) × (op ≡ 0x21 → ⊥)) × (op ≡ 0x22 → ⊥)) ×
+    (op ≡ 0x25 → ⊥))
     × (op ≡ 0xFF → ⊥)
 
 -- then the short accesses decide
@@ -52,7 +53,11 @@ no-single op r =
 pub middle : (op : ℕ) → 0x25 < op → op < 0xFF → rowOf op ≡ shortRow op
 middle op l h =
     no-single op (
-      ((((((((tt, λ e. omega arith), λ e. omega arith), λ e. omega arith), λ e. omega arith), λ e. omega arith), λ e. omega arith), λ e. omega arith), λ e. omega arith),
+      (
+        (((((((tt, λ e. omega arith), λ e. omega arith), λ e. omega arith), λ e. omega arith), λ e. omega arith), λ e. omega arith), λ e. omega arith),
+        λ e.
+            omega arith,
+      ),
       λ e. omega arith,
     )
 

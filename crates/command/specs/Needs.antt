@@ -24,21 +24,23 @@ use Rattle.command.specs.declared.Need.the-variants.{Whole, More, Open, 
 
 -- ---- what the row says of the bytes
 
--- the command's channel is on; those for no channel always are
+-- else 14, "channel disabled": the command's channel is on; those for no channel always are (004, table 2, note 2)
 abbrev pub channelOn : Channels → Channel → Bool
 channelOn on Peripheral = on .peripheral
 channelOn on Wires = on .wires
 channelOn on Independent = true
 
+-- else 15, "cycle type not listed" (01, Replies and refusals): one of the two that the opcode takes (01, Commands)
 abbrev pub cycleListed : Cycle → ℕ → Bool
 cycleListed Absent t = true
 cycleListed (Types n w) t = eqb t n || eqb t w
 
--- 8 address bytes
+-- 8 address bytes: "03h (8)" and "02h (8)" (01, Commands)
 abbrev pub wideCycle : Cycle → ℕ → Bool
 wideCycle Absent t = false
 wideCycle (Types n w) t = eqb t w
 
+-- 8, or as many as the opcode's row has: "4 address bytes", "I/O has 2 address bytes, memory 4" (01, Commands)
 abbrev pub addressBytes : Row → List ℕ → ℕ
 addressBytes r b = pick (wideCycle (r .cycle) (getD b 1 0)) 8 (r .address)
 
@@ -50,16 +52,18 @@ lengthOf hi lo = pick (eqb (high2 (hi % 16) lo) 0) 4096 (high2 (hi % 16) lo)
 abbrev pub groupCount : ℕ → ℕ
 groupCount c = c % 64 + 1
 
+-- "all FFh" (01, Commands: RESET)
 unfoldable pub allFF : List ℕ → Bool
 allFF [] = true
 allFF (x ∷ xs) = eqb x 0xFF && allFF xs
 
 -- ---- how many bytes
 
--- header, address, n data bytes, CRC
+-- header, address, n data bytes, CRC: the whole command phase, "its CRC byte included" (01, What the engine covers)
 abbrev pub wholeWith : Row → List ℕ → ℕ → ℕ
 wholeWith r b n = r .from + addressBytes r b + n + bit (r .crc)
 
+-- "how many bytes the command needs in all" (02, Q-8); RESET has no fixed length, and "FFh not a RESET" is 13
 abbrev pub needData : Row → List ℕ → Data → Need
 needData r b (Fixed n) = Whole (wholeWith r b n)
 needData r b Length = Whole (wholeWith r b (lengthOf (getD b 2 0) (getD b 3 0)))
@@ -79,5 +83,6 @@ abbrev pub needListed : Channels → List ℕ → Listed → Need
 needListed on b Unlisted = Never opcodeUnknown
 needListed on b (As r) = needRow on b r
 
+-- .. "or how many more header bytes must come before that is known" (02, Q-8): of no bytes, the opcode
 unfoldable pub needIn : Channels → List ℕ → Need
 needIn on b = pick (eqb (length b) 0) (More 1) (needListed on b (rowOf (getD b 0 0)))

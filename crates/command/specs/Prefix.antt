@@ -33,12 +33,14 @@ use Rattle.command.specs.declared.Decoded.the-variants.{Known, Refused}
 
 -- ---- more than 4,109 bytes: the first two decide, and whether all are FFh
 
+-- too long for every command but one: 12, "too long"; "RESET: two or more bytes, all FFh", else 13
 abbrev pub endless : Data → Bool → Decoded
 endless (Fixed n) ff = Refused 12
 endless Length ff = Refused 12
 endless Pairs ff = Refused 12
 endless Ones ff = pick ff (Known C.Reset) (Refused 13)
 
+-- "in this order": 13, 14, 15, then the length (01, Replies and refusals)
 abbrev pub overlong : Channels → Listed → (second : ℕ) (ff : Bool) → Decoded
 overlong on Unlisted t ff = Refused 13
 overlong on (As r) t ff =
@@ -48,6 +50,7 @@ overlong on (As r) t ff =
 
 -- ---- what is needed decides what is read
 
+-- 12 while bytes are missing or too many, then 16, then the command; RESET at two bytes or more; a refusal as the need says it ("in this order")
 abbrev pub ReadsOff : Bool → List ℕ → Need → Decoded → Type 0
 ReadsOff checked b (Whole n) d =
     (c : Command) × (d ≡ pick (not (eqb (length b) n)) (Refused 12) (pick (checked && not (crcGood b)) (Refused 16) (Known c)))
@@ -57,6 +60,8 @@ ReadsOff checked b (Never n) d = d ≡ Refused n
 
 -- ---- the laws
 
+-- "how many bytes the command needs in all, or how many more header bytes must come before that is known" (02, Q-8), as more bytes come; a buffer
+-- of "at least 4,109 bytes" holds every command whose length is fixed
 pub record Prefix (on : Channels) : Type 0 where
   pub wholeStays : (b c : List ℕ) (n : ℕ) → needIn on b ≡ Whole n → needIn on (b ++ c) ≡ Whole n
   pub neverStays : (b c : List ℕ) (n : ℕ) → needIn on b ≡ Never n → needIn on (b ++ c) ≡ Never n
@@ -418,6 +423,7 @@ module _ (on : Channels) (checked : Bool) (b : List ℕ) (bytes : IsBytes b) whe
       sym (passed _ _ (ne-eqb (length b) 0 (λ e. omega arith)) refl)
       ∙ listed-over (rowOf (getD b 0 0)) (row-tells on b (getD b 0 0)) (row-ends (getD b 0 0)) (row-says checked b (getD b 0 0)) h
 
+-- that all this holds, whatever channels are on (02, Q-8)
 pub prefix : (on : Channels) → Prefix on
 prefix on =
     record {

@@ -15,7 +15,7 @@ use Rattle.command.specs.declared.Data.the-variants.{Fixed, Length, Pair
 use Rattle.command.specs.declared.Listed.{Listed}
 use Rattle.command.specs.declared.Listed.the-variants.{As, Unlisted}
 
--- the opcode tells all: so many address and data bytes behind it, and a CRC
+-- the opcode tells all: so many address and data bytes behind it, and a CRC (004, 3.2: "an optional header (HDR), optional DATA and a CRC")
 abbrev pub plain : Opcode → Channel → (address bytes : ℕ) → Listed
 plain op k a n = As (record { opcode = op; channel = k; cycle = Absent; told = 1; from = 1; address = a; carries = Fixed n; crc = true })
 

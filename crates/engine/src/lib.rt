@@ -90,7 +90,11 @@ fn lift_wires(x: WiresChange, state: &mut [u8]) -> Outgoing
 // Channel 0 stores the queue that it touches itself; the status is then that of the bytes.
 fn act_peripheral(c: Config, o: PeripheralCommand, b: &[u8], state: &mut [u8]) -> Outgoing
     requires { ⌜ Loadable (now state) × (c ≡ unpacked (now state) .config) × PeripheralFits o (now b) ⌝ }
-    ensures { λ r. ⌜ carried r (now (state .exit)) ≡ carriedBy (acted peripheral (unpacked (now (state .entry))) (actOf peripheral (unpacked (now (state .entry)) .config) o (now (b .entry)))) (now (state .entry)) ⌝ }
+    ensures { λ r. ⌜
+        carried r (now (state .exit))
+        ≡ carriedBy
+        (acted peripheral (unpacked (now (state .entry))) (actOf peripheral (unpacked (now (state .entry)) .config) o (now (b .entry)))) (now (state .entry))
+        ⌝ }
 {
     let others = Wires::status_in(state);
     let out = peripheral_channel::decide(c, o, b, state);
@@ -105,7 +109,10 @@ fn act_peripheral(c: Config, o: PeripheralCommand, b: &[u8], state: &mut [u8]) -
 
 fn act_wires(c: Config, o: WiresCommand, b: &[u8], state: &mut [u8]) -> Outgoing
     requires { ⌜ Loadable (now state) × (c ≡ unpacked (now state) .config) × WiresFits o (now b) ⌝ }
-    ensures { λ r. ⌜ carried r (now (state .exit)) ≡ carriedBy (acted wires (unpacked (now (state .entry))) (actOf wires (unpacked (now (state .entry)) .config) o (now (b .entry)))) (now (state .entry)) ⌝ }
+    ensures { λ r. ⌜
+        carried r (now (state .exit))
+        ≡ carriedBy (acted wires (unpacked (now (state .entry))) (actOf wires (unpacked (now (state .entry)) .config) o (now (b .entry)))) (now (state .entry))
+        ⌝ }
 {
     lift_wires(wires_channel::decide(c, Wires::unpack(state), o, b), state)
 }
@@ -212,7 +219,12 @@ pub fn platform_reset(s: State) -> State
 // The board answers the request with this serial with these bytes, or with failure.
 pub fn answer(serial: u32, success: u32, bytes: &[u8], state: &mut [u8]) -> Outgoing
     requires { ⌜ Loadable (now state) ⌝ }
-    ensures { λ r. ⌜ carried r (now (state .exit)) ≡ carriedBy (lift peripheral (unpacked (now (state .entry))) (answerTo (unpacked (now (state .entry)) .peripheral) serial (succeeded success) (length (now (bytes .entry))))) (now (state .entry)) ⌝ }
+    ensures { λ r. ⌜
+        carried r (now (state .exit))
+        ≡ carriedBy
+        (lift peripheral (unpacked (now (state .entry)))
+        (answerTo (unpacked (now (state .entry)) .peripheral) serial (succeeded success) (length (now (bytes .entry))))) (now (state .entry))
+        ⌝ }
 {
     lift_peripheral(
         peripheral_channel::answer_to(Peripheral::unpack(state), serial, success != 0, bytes.len()),
@@ -223,7 +235,9 @@ pub fn answer(serial: u32, success: u32, bytes: &[u8], state: &mut [u8]) -> Outg
 // The board takes the held write.
 pub fn take_write(state: &mut [u8]) -> Outgoing
     requires { ⌜ Loadable (now state) ⌝ }
-    ensures { λ r. ⌜ carried r (now (state .exit)) ≡ carriedBy (lift peripheral (unpacked (now (state .entry))) (taken (unpacked (now (state .entry)) .peripheral))) (now (state .entry)) ⌝ }
+    ensures { λ r. ⌜
+        carried r (now (state .exit))
+        ≡ carriedBy (lift peripheral (unpacked (now (state .entry))) (taken (unpacked (now (state .entry)) .peripheral))) (now (state .entry)) ⌝ }
 {
     lift_peripheral(peripheral_channel::taken(Peripheral::unpack(state)), state)
 }
@@ -231,7 +245,12 @@ pub fn take_write(state: &mut [u8]) -> Outgoing
 // The board sets one wire.
 pub fn set_wire(index: u32, bit: u32, value: u32, state: &mut [u8]) -> Outgoing
     requires { ⌜ Loadable (now state) ⌝ }
-    ensures { λ r. ⌜ carried r (now (state .exit)) ≡ carriedBy (lift wires (unpacked (now (state .entry))) (setting (unpacked (now (state .entry)) .config) (unpacked (now (state .entry)) .wires) index bit value)) (now (state .entry)) ⌝ }
+    ensures { λ r. ⌜
+        carried r (now (state .exit))
+        ≡ carriedBy
+        (lift wires (unpacked (now (state .entry)))
+        (setting (unpacked (now (state .entry)) .config) (unpacked (now (state .entry)) .wires) index bit value)) (now (state .entry))
+        ⌝ }
 {
     let c = Config::unpack(state);
     lift_wires(

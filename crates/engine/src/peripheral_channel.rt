@@ -60,7 +60,8 @@ fn with_request(p: Peripheral, n: Np) -> Peripheral
 // Credit, then size; the data from this byte of the command on is kept.
 fn post(c: Config, address: u64, length: u32, from: u32, state: &mut [u8]) -> Out
     requires { ⌜ (64 ≤ L.length (now state)) × Stands (peripheralIn (now state)) (now state) × (reachable c ≡ true) ⌝ }
-    ensures { λ r. ⌜ changedTo r (now (state .exit)) ≡ changedBy peripheral (P.post c (peripheralIn (now (state .entry))) address length from) (now (state .entry)) ⌝ }
+    ensures { λ r. ⌜
+        changedTo r (now (state .exit)) ≡ changedBy peripheral (P.post c (peripheralIn (now (state .entry))) address length from) (now (state .entry)) ⌝ }
 {
     if !Peripheral::takes_write(state) {
         return out::fatal();
@@ -140,7 +141,9 @@ fn bytes_of(size: u8, b: &[u8]) -> u32
 
 fn short_access(c: Config, a: Access, at: Span, b: &[u8], state: &mut [u8]) -> Out
     requires { ⌜ (64 ≤ L.length (now state)) × Stands (peripheralIn (now state)) (now state) × (reachable c ≡ true) × PeripheralFits (Short a at) (now b) ⌝ }
-    ensures { λ r. ⌜ changedTo r (now (state .exit)) ≡ changedBy peripheral (P.acting c (peripheralIn (now (state .entry))) (P.shortAct c a at (now (b .entry)))) (now (state .entry)) ⌝ }
+    ensures { λ r. ⌜
+        changedTo r (now (state .exit))
+        ≡ changedBy peripheral (P.acting c (peripheralIn (now (state .entry))) (P.shortAct c a at (now (b .entry)))) (now (state .entry)) ⌝ }
 {
     let n = at.size as u32;
     match a {
@@ -180,8 +183,12 @@ fn data_at(h: Head) -> u32
 }
 
 pub(crate) fn decide(c: Config, o: PeripheralCommand, b: &[u8], state: &mut [u8]) -> Out
-    requires { ⌜ (64 ≤ L.length (now state)) × Stands (peripheralIn (now state)) (now state) × (reachable c ≡ true) × (soundRequest (npIn (now state)) ≡ true) × PeripheralFits o (now b) ⌝ }
-    ensures { λ r. ⌜ changedTo r (now (state .exit)) ≡ changedBy peripheral (P.decide c (peripheralIn (now (state .entry))) o (now (b .entry))) (now (state .entry)) ⌝ }
+    requires { ⌜
+        (64 ≤ L.length (now state)) × Stands (peripheralIn (now state)) (now state) × (reachable c ≡ true) × (soundRequest (npIn (now state)) ≡ true)
+        × PeripheralFits o (now b) ⌝ }
+    ensures { λ r. ⌜
+        changedTo r (now (state .exit))
+        ≡ changedBy peripheral (P.decide c (peripheralIn (now (state .entry))) o (now (b .entry))) (now (state .entry)) ⌝ }
 {
     match o {
         PeripheralCommand::PutPc(h) => post(c, h.address, h.length, data_at(h), state),

@@ -71,7 +71,8 @@ module _ (st : List ℕ) (ok : Bool) (e : ok ≡ holds st) where
 
 module _ (st : List ℕ) where
   -- a call that changes the state alone
-  pub changed-by : (f : State → State) (s t : State) (st′ : List ℕ) → s ≡ unpacked st → t ≡ f s → st′ ≡ over (packed t) st → done 0 st′ ≡ done 0 (kept (f (unpacked st)) st)
+  pub changed-by : (f : State → State) (s t : State) (st′ : List ℕ) → s ≡ unpacked st → t ≡ f s → st′ ≡ over (packed t) st
+      → done 0 st′ ≡ done 0 (kept (f (unpacked st)) st)
   changed-by f s t st′ e et es = ap (done 0) (es ∙ ap (λ (z : State). kept z st) (et ∙ ap f e))
 
   -- a board call
@@ -105,7 +106,8 @@ module _ (st : List ℕ) where
       → number ≡ P.lookNumber n
       → report′ ≡ over (P.lookReport n (h .serial)) report
       → looked number report′
-      ≡ looked (P.lookNumber (unpacked st .peripheral .request)) (over (P.lookReport (unpacked st .peripheral .request) (unpacked st .peripheral .serial)) report)
+      ≡ looked (P.lookNumber (unpacked st .peripheral .request))
+      (over (P.lookReport (unpacked st .peripheral .request) (unpacked st .peripheral .serial)) report)
   unfolding unpacked
   looked-by h n number report report′ e en ew er =
       rw (ew, er)
@@ -120,7 +122,8 @@ module _ (st : List ℕ) where
       → exchanged n st′ reply′ write′ ≡ exchangePlanned (exchange (unpacked st) command) st command reply write read
   unfolding exchangePlanned unpacked
   exchanged-by p w st′ command reply reply′ write write′ read n e ep es =
-      let x : Outgoing → List ℕ → Wires → Exchanged = λ q l w. exchanged (word (q .number) (length (replyBytes (q .reply) w read))) l (over (replyBytes (q .reply) w read) reply) (over (keptBytes (q .kept) command) write) in
+      let x : Outgoing → List ℕ → Wires → Exchanged = λ q l w. exchanged (word (q .number) (length (replyBytes (q .reply) w read))) l
+      (over (replyBytes (q .reply) w read) reply) (over (keptBytes (q .kept) command) write) in
       ap (λ (z : Sent). exchanged (z .word) st′ (z .reply) (z .write)) es
       ∙ ap (x p st′) e
       ∙ ap (λ (z : Carried). x (z .goes) (z .state) (wiresIn st)) ep
@@ -135,8 +138,10 @@ module _ (st : List ℕ) where
       ∙ sym (zero-add (256 * readWire (wiresIn st) index bit))
       ∙ ap (λ (b : Bool). word (pick b 0 22) (pick b (readWire (wiresIn st) index bit) 0)) (sym t)
 
-pub wire-refused : (w : Wires) (index bit : ℕ) (ok : Bool) → ok ≡ definedBit index bit → not ok ≡ true → 22 ≡ word (W.readNumber index bit) (W.readValue w index bit)
-wire-refused w index bit true eo h = let z : _≡_ {A = Bool} true false = sym h in ap (λ (b : Bool). pick b 22 (word (W.readNumber index bit) (W.readValue w index bit))) z
+pub wire-refused : (w : Wires) (index bit : ℕ) (ok : Bool) → ok ≡ definedBit index bit → not ok ≡ true
+    → 22 ≡ word (W.readNumber index bit) (W.readValue w index bit)
+wire-refused w index bit true eo h =
+    let z : _≡_ {A = Bool} true false = sym h in ap (λ (b : Bool). pick b 22 (word (W.readNumber index bit) (W.readValue w index bit))) z
 wire-refused w index bit false eo h = ap (λ (b : Bool). word (pick b 0 22) (pick b (readWire w index bit) 0)) eo
 
 -- ---- what goes out fits the lent slices
@@ -146,7 +151,8 @@ pub kept-wider : (k : Kept) (m a b : ℕ) → a ≤ b → KeptFits k m a → Kep
 kept-wider K.Nothing m a b h f = tt
 kept-wider (K.Data at n) m a b h f = record { there = f .there; most = omega (arith, f .most) }
 
-pub exchange-fits : (st st′ command : List ℕ) (w : Wires) (p : Outgoing) → Loadable st → w ≡ wiresIn st → carried p st′ ≡ carriedBy (exchange (unpacked st) command) st
+pub exchange-fits : (st st′ command : List ℕ) (w : Wires) (p : Outgoing) → Loadable st → w ≡ wiresIn st
+    → carried p st′ ≡ carriedBy (exchange (unpacked st) command) st
     → ReplyFits (p .reply) w × KeptFits (p .kept) (length command) writeLength
 unfolding unpacked
 exchange-fits st st′ command w p h ew e =
@@ -155,6 +161,7 @@ exchange-fits st st′ command w p h ew e =
     (subst (λ (z : Carried). ReplyFits (z .goes .reply) (wiresIn st) × KeptFits (z .goes .kept) (length command) writeLength) (sym e) (f .reply, f .kept))
 
 pub answer-fits : (s : State) (serial success : ℕ) (st st′ bytes : List ℕ) (p : Outgoing) → sound s ≡ true
-    → carried p st′ ≡ carriedBy (lift peripheral s (P.answerTo (s .peripheral) serial (P.succeeded success) (length bytes))) st → KeptFits (p .kept) (length bytes) readLength
+    → carried p st′ ≡ carriedBy (lift peripheral s (P.answerTo (s .peripheral) serial (P.succeeded success) (length bytes))) st → KeptFits (p .kept)
+    (length bytes) readLength
 answer-fits s serial success st st′ bytes p h e =
     subst (λ (z : Carried). KeptFits (z .goes .kept) (length bytes) readLength) (sym e) (F.answer-fits s h serial success bytes)

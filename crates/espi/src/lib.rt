@@ -81,8 +81,12 @@ fn commit(
     write_store: &mut [u8],
     read_store: &[u8],
 ) -> u32
-    requires { ⌜ (replyLength ≤ length (now reply)) × (writeLength ≤ length (now «write_store»)) × (readLength ≤ length (now «read_store»)) × ReplyFits (p .reply) (wiresOf was) × KeptFits (p .kept) (length (now command)) writeLength ⌝ }
-    ensures { λ r. ⌜ sent r (now (reply .exit)) (now («write_store» .exit)) ≡ sentBy p (wiresOf was) (now (command .entry)) (now (reply .entry)) (now («write_store» .entry)) (now («read_store» .entry)) ⌝ }
+    requires { ⌜
+        (replyLength ≤ length (now reply)) × (writeLength ≤ length (now «write_store»)) × (readLength ≤ length (now «read_store»))
+        × ReplyFits (p .reply) (wiresOf was) × KeptFits (p .kept) (length (now command)) writeLength ⌝ }
+    ensures { λ r. ⌜
+        sent r (now (reply .exit)) (now («write_store» .exit))
+        ≡ sentBy p (wiresOf was) (now (command .entry)) (now (reply .entry)) (now («write_store» .entry)) (now («read_store» .entry)) ⌝ }
 {
     let r = p.reply;
     let k = p.kept;
@@ -99,7 +103,9 @@ pub extern "C" fn espi_exchange(
     write_store: &mut [u8],
     read_store: &[u8],
 ) -> u32
-    ensures { λ r. ⌜ exchanged r (now (state .exit)) (now (reply .exit)) (now («write_store» .exit)) ≡ exchangeCall (now (state .entry)) (now (command .entry)) (now (reply .entry)) (now («write_store» .entry)) (now («read_store» .entry)) ⌝ }
+    ensures { λ r. ⌜
+        exchanged r (now (state .exit)) (now (reply .exit)) (now («write_store» .exit))
+        ≡ exchangeCall (now (state .entry)) (now (command .entry)) (now (reply .entry)) (now («write_store» .entry)) (now («read_store» .entry)) ⌝ }
 {
     if state.len() < STATE {
         return rules::STORE_TOO_SHORT;
@@ -155,7 +161,9 @@ pub extern "C" fn espi_answer(
     success: u32,
     bytes: &[u8],
 ) -> u32
-    ensures { λ r. ⌜ stored r (now (state .exit)) (now («read_store» .exit)) ≡ answerCall (now (state .entry)) (now («read_store» .entry)) serial success (now (bytes .entry)) ⌝ }
+    ensures { λ r. ⌜
+        stored r (now (state .exit)) (now («read_store» .exit))
+        ≡ answerCall (now (state .entry)) (now («read_store» .entry)) serial success (now (bytes .entry)) ⌝ }
 {
     if state.len() < STATE {
         return rules::STORE_TOO_SHORT;
@@ -174,7 +182,8 @@ pub extern "C" fn espi_answer(
 
 #[no_mangle]
 pub extern "C" fn espi_take_write(state: &mut [u8], write_store: &[u8], report: &mut [u8]) -> u32
-    ensures { λ r. ⌜ stored r (now (state .exit)) (now (report .exit)) ≡ takeWriteCall (now (state .entry)) (now («write_store» .entry)) (now (report .entry)) ⌝ }
+    ensures { λ r. ⌜
+        stored r (now (state .exit)) (now (report .exit)) ≡ takeWriteCall (now (state .entry)) (now («write_store» .entry)) (now (report .entry)) ⌝ }
 {
     if state.len() < STATE {
         return rules::STORE_TOO_SHORT;

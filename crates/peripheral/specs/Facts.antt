@@ -212,7 +212,12 @@ record Sent (q : Request) (sent : ℕ) : Type 0 where
   edge : (sent ≡ 0) ⊎ ((q .address + sent) % q .payload ≡ 0)
 
 sent-read : (q : Request) (sent : ℕ) → sentRight MemoryRead q sent ≡ true → Sent q sent
-sent-read q sent e = record { short = ltb-true sent (q .length) (and-left (ltb sent (q .length)) _ e); edge = go (or-either (eqb sent 0) _ (and-right (ltb sent (q .length)) _ e)) }
+sent-read q sent e =
+    record {
+      short = ltb-true sent (q .length) (and-left (ltb sent (q .length)) _ e);
+      edge = go
+          (or-either (eqb sent 0) _ (and-right (ltb sent (q .length)) _ e));
+    }
   where
     go : (eqb sent 0 ≡ true) ⊎ (eqb ((q .address + sent) % (q .payload)) 0 ≡ true) → (sent ≡ 0) ⊎ ((q .address + sent) % q .payload ≡ 0)
     go (inl h) = inl (eqb-true sent 0 h)
@@ -338,7 +343,8 @@ edge-right q sent h e = and-true (lt-ltb _ _ h) (go (eqb sent 0))
     go false = eq-eqb _ 0 e
 
 -- the place after a piece that is not the last
-after-piece : (q : Request) (sent : ℕ) → ReadyRequest q sent → (eqb (sent + nextOf q sent) (q .length) ≡ false) → sentRight MemoryRead q (sent + nextOf q sent) ≡ true
+after-piece : (q : Request) (sent : ℕ) → ReadyRequest q sent → (eqb (sent + nextOf q sent) (q .length) ≡ false)
+    → sentRight MemoryRead q (sent + nextOf q sent) ≡ true
 after-piece q sent r e =
     let n = next-ok (q .address) (q .length) (q .payload) sent (omega (arith, r .made .payload .least)) (r .short) (eqb-false _ _ e) in
     edge-right q (sent + nextOf q sent) (n .0) (n .1)

@@ -48,7 +48,17 @@ module _ (p l : List ℕ) where
 
   pub request-at : length p ≡ 29
       → requestIn (p ++ l)
-      ≡ record { kind = kindOf (getD l 1 0); tag = getD l 2 0; address = number8 3 l; length = number4 11 l; payload = number4 15 l; readsize = number4 19 l; bytes = number4 23 l }
+      ≡ record {
+        kind =
+            kindOf (getD l 1 0);
+        tag = getD l 2 0;
+        address = number8 3 l;
+        length = number4 11 l;
+        payload = number4 15 l;
+        readsize = number4 19 l;
+        bytes
+            = number4 23 l;
+      }
   request-at h =
       rw (
         past p l 30 1 (omega arith),
@@ -108,7 +118,8 @@ module _ (p t : List ℕ) (h : length p ≡ 29) where
   np-back (Failed q) s f =
       rw (past p (npBytes (Failed q) ++ t) 29 0 (omega arith)) (ap Failed (request-back 3 q 0 (failed-request q s) (ltb-true _ _ f)))
 
-pub peripheral-back : (p t : List ℕ) (q : Peripheral) → length p ≡ 12 → soundRequest (q .request) ≡ true → soundWrite (q .write) ≡ true → fitsPeripheral q ≡ true
+pub peripheral-back : (p t : List ℕ) (q : Peripheral) → length p ≡ 12 → soundRequest (q .request) ≡ true → soundWrite (q .write) ≡ true
+    → fitsPeripheral q ≡ true
     → peripheralIn (p ++ (peripheralBytes q ++ t)) ≡ q
 peripheral-back p t q h sr sw f =
     let b = writeBytes (q .write) in
@@ -117,7 +128,8 @@ peripheral-back p t q h sr sw f =
     let l₂ : length (p ++ b) ≡ 29 = length-join p b 12 17 h (write-length (q .write)) in
     let l₃ : length ((p ++ b) ++ c) ≡ 60 = length-join (p ++ b) c 29 31 l₂ (np-length (q .request)) in
     let f₁ = and-right (fitsRequest (q .request)) _ f in
-    let e₁ : p ++ ((b ++ (c ++ d)) ++ t) ≡ p ++ (b ++ (c ++ (d ++ t))) = ap (λ (z : List ℕ). p ++ z) (append-assoc b (c ++ d) t ∙ ap (λ (z : List ℕ). b ++ z) (append-assoc c d t)) in
+    let e₁ : p ++ ((b ++ (c ++ d)) ++ t) ≡ p ++ (b ++ (c ++ (d ++ t))) = ap (λ (z : List ℕ). p ++ z)
+    (append-assoc b (c ++ d) t ∙ ap (λ (z : List ℕ). b ++ z) (append-assoc c d t)) in
     let e₂ = e₁ ∙ sym (append-assoc p b (c ++ (d ++ t))) in
     let e₃ = e₂ ∙ sym (append-assoc (p ++ b) c (d ++ t)) in
     rw (
@@ -142,7 +154,8 @@ all-numbers a b c d e f = then8 a (then4 b (then4 c (then4 d (then4 e (all-low4 
 
 all-request : (phase : ℕ) (q : Request) (sent : ℕ) → phase < 256 → MadeRequest q → AllBytes (requestBytes phase q sent)
 all-request phase q sent h m =
-    all-cons h (all-cons (kind-small (q .kind)) (all-cons (omega (arith, m .tag)) (all-numbers (q .address) (q .length) (q .payload) (q .readsize) (q .bytes) sent)))
+    all-cons h (all-cons (kind-small (q .kind))
+    (all-cons (omega (arith, m .tag)) (all-numbers (q .address) (q .length) (q .payload) (q .readsize) (q .bytes) sent)))
 
 all-np : (n : Np) → soundRequest n ≡ true → AllBytes (npBytes n)
 all-np Free e = all-cons (omega arith) (all-cons (omega arith) (all-cons (omega arith) (all-numbers 0 0 0 0 0 0)))
@@ -151,7 +164,8 @@ all-np (Ready q sent) e = all-request 2 q sent (omega arith) (ready-request q se
 all-np (Failed q) e = all-request 3 q 0 (omega arith) (failed-request q e)
 
 pub all-peripheral : (p : Peripheral) → soundRequest (p .request) ≡ true → AllBytes (peripheralBytes p)
-all-peripheral p e = all-append (writeBytes (p .write)) (all-write (p .write)) (all-append (npBytes (p .request)) (all-np (p .request) e) (all-low4 (p .serial)))
+all-peripheral p e =
+    all-append (writeBytes (p .write)) (all-write (p .write)) (all-append (npBytes (p .request)) (all-np (p .request) e) (all-low4 (p .serial)))
 
 -- ---- what bytes make fits
 

@@ -4,7 +4,7 @@ use Rattle.peripheral.specs.declared.Np.the-variants.{Free}
 use Rattle.peripheral.specs.declared.Write.the-variants.{Empty}
 use Rattle.peripheral.specs.declared.Peripheral.{Peripheral}
 
--- nothing held, and this the last serial given
+-- nothing held, and this the last serial given: as a start leaves it, with 0 (01, Requests, answers, pieces: "only start sets it, to 0")
 abbrev pub idle : ℕ → Peripheral
 idle serial = record { write = Empty; request = Free; serial = serial }
 

@@ -55,12 +55,14 @@ module _ (p q : Peripheral) (l : List ℕ) (h : Stands p l) where
 module _ (p : Peripheral) (l : List ℕ) (h : Stands p l) where
   pub stored-write : (w : Write) → put 12 (writeBytes w) l ≡ put 12 (peripheralBytes (record { write = w; request = p .request; serial = p .serial })) l
   stored-write w =
-      stored p (record { write = w; request = p .request; serial = p .serial }) l h [] (writeBytes (p .write)) (writeBytes w) (npBytes (p .request) ++ low4 (p .serial)) 12
+      stored p (record { write = w; request = p .request; serial = p .serial }) l h [] (writeBytes (p .write)) (writeBytes w)
+      (npBytes (p .request) ++ low4 (p .serial)) 12
       refl refl (ap length (append-nil (h .front)) ∙ h .at) (write-length w ∙ sym (write-length (p .write)))
 
   pub stored-request : (n : Np) → put 29 (npBytes n) l ≡ put 12 (peripheralBytes (record { write = p .write; request = n; serial = p .serial })) l
   stored-request n =
-      stored p (record { write = p .write; request = n; serial = p .serial }) l h (writeBytes (p .write)) (npBytes (p .request)) (npBytes n) (low4 (p .serial)) 29
+      stored p (record { write = p .write; request = n; serial = p .serial }) l h (writeBytes (p .write)) (npBytes (p .request)) (npBytes n)
+      (low4 (p .serial)) 29
       refl refl (length-join (h .front) (writeBytes (p .write)) 12 17 (h .at) (write-length (p .write))) (np-length n ∙ sym (np-length (p .request)))
 
   -- a request under a serial of its own
@@ -72,7 +74,8 @@ module _ (p : Peripheral) (l : List ℕ) (h : Stands p l) where
       stored p (record { write = p .write; request = n; serial = k }) l h a y v [] 29
       (ap (λ (z : List ℕ). a ++ z) (sym (append-nil y))) (ap (λ (z : List ℕ). a ++ z) (sym (append-nil v)))
       (length-join (h .front) a 12 17 (h .at) (write-length (p .write)))
-      (length-join (npBytes n) (low4 k) 31 4 (np-length n) refl ∙ sym (length-join (npBytes (p .request)) (low4 (p .serial)) 31 4 (np-length (p .request)) refl))
+      (length-join (npBytes n) (low4 k) 31 4 (np-length n) refl ∙ sym
+      (length-join (npBytes (p .request)) (low4 (p .serial)) 31 4 (np-length (p .request)) refl))
 
 -- ---- the status bits of what was put: each is in its queue's first byte
 

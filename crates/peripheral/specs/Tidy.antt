@@ -84,7 +84,8 @@ peripheral-again l byte e =
     (write-again (getD l 12 0) (postedIn l) (and-left t _ e) ∙ ap (λ (z : List ℕ). getD l 12 0 ∷ z) (join (eight 13) (join (four 21) (four 25))))
     (join
     (request-again (getD l 30 0) (requestIn l) refl (getD l 29 0) (number4 56 l) (and-right t _ e)
-    ∙ ap (λ (z : List ℕ). getD l 29 0 ∷ getD l 30 0 ∷ getD l 31 0 ∷ z) (join (eight 32) (join (four 40) (join (four 44) (join (four 48) (join (four 52) (four 56)))))))
+    ∙ ap (λ (z : List ℕ). getD l 29 0 ∷ getD l 30 0 ∷ getD l 31 0 ∷ z)
+    (join (eight 32) (join (four 40) (join (four 44) (join (four 48) (join (four 52) (four 56)))))))
     (four 60))
 
 -- ---- a packed channel passes
@@ -127,7 +128,8 @@ peripheral-tidy p t q h =
     let b = writeBytes (q .write) in
     let c = npBytes (q .request) in
     let d = low4 (q .serial) in
-    let e₁ : p ++ ((b ++ (c ++ d)) ++ t) ≡ p ++ (b ++ (c ++ (d ++ t))) = ap (λ (z : List ℕ). p ++ z) (append-assoc b (c ++ d) t ∙ ap (λ (z : List ℕ). b ++ z) (append-assoc c d t)) in
+    let e₁ : p ++ ((b ++ (c ++ d)) ++ t) ≡ p ++ (b ++ (c ++ (d ++ t))) = ap (λ (z : List ℕ). p ++ z)
+    (append-assoc b (c ++ d) t ∙ ap (λ (z : List ℕ). b ++ z) (append-assoc c d t)) in
     let l₂ : length (p ++ b) ≡ 29 = length-join p b 12 17 h (write-length (q .write)) in
     ap tidyPeripheral e₁
     ∙ and-true (write-tidy p (c ++ (d ++ t)) (q .write) h)

@@ -59,7 +59,8 @@ blocks-64 A L i j top l fits = go (leb i j) refl
         )
     go false e =
         let le : j ≤ i = omega (arith, leb-false i j e) in
-        let one : blocks A L (64 * 2 ^ i) ≤ 1 = rw (sizes-apart j i le) (blocks-one A L (64 * 2 ^ j) (2 ^ (i - j)) (omega (arith, pow-pos j)) (pow-pos (i - j)) l fits) in
+        let one : blocks A L (64 * 2 ^ i) ≤ 1 = rw (sizes-apart j i le)
+        (blocks-one A L (64 * 2 ^ j) (2 ^ (i - j)) (omega (arith, pow-pos j)) (pow-pos (i - j)) l fits) in
         omega arith
 
 -- each byte of the read lies in one of them

@@ -87,7 +87,8 @@ module _ (A L P : ℕ) (p : 0 < P) (l : 0 < L) where
   edge-first zero h = rw edge-zero
   edge-first (suc k) h =
       let before : k < blocks A L P = omega arith in
-      ne-eqb (edge A L P (suc k)) 0 (λ e. omega (arith, edge-next k before, next-pos A L P (edge A L P k) p (edge-short k before))) ∙ sym (ne-eqb (suc k) 0 (λ e. omega arith))
+      ne-eqb (edge A L P (suc k)) 0 (λ e. omega (arith, edge-next k before, next-pos A L P (edge A L P k) p (edge-short k before))) ∙ sym
+      (ne-eqb (suc k) 0 (λ e. omega arith))
 
   pub edge-all : (k : ℕ) → k < blocks A L P → eqb (edge A L P (suc k)) L ≡ eqb (suc k) (blocks A L P)
   edge-all k h = go (eqb (suc k) (blocks A L P)) refl

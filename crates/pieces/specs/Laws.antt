@@ -47,7 +47,8 @@ cut-join : {a b : ℕ} (l : List ℕ) → a ≤ b → take (b - a) (drop a l) ++
 cut-join {a} {b} l h = rw (drop-drop (b - a) a l, add-sub-of-le h) at (take-append-drop (b - a) (drop a l))
 
 -- byte x of the read lies in piece k exactly where it lies in the k-th block: the pieces are the meetings of the read and the blocks
-pub piece-holds : (A L P k x : ℕ) → 0 < P → A ≤ x → x < A + L → ((A + piece A L P k .from ≤ x) × (x < A + piece A L P k .from + piece A L P k .size)) ↔ (x / P ≡ A / P + k)
+pub piece-holds : (A L P k x : ℕ) → 0 < P → A ≤ x → x < A + L
+    → ((A + piece A L P k .from ≤ x) × (x < A + piece A L P k .from + piece A L P k .size)) ↔ (x / P ≡ A / P + k)
 unfolding piece edge
 piece-holds A L P k x p from upto = (
   λ h. div-eq-of-lt-le P (omega arith) (omega arith),
@@ -120,7 +121,13 @@ module _ (A L P : ℕ) (p : 0 < P) (l : 0 < L) where
 
 bench-64 :
     pieces 0x1030 160 64
-    ≡ record { from = 0; size = 16; mark = First } ∷ record { from = 16; size = 64; mark = Middle } ∷ record { from = 80; size = 64; mark = Middle } ∷ record { from = 144; size = 16; mark = Last } ∷ []
+    ≡ record {
+      from =
+          0;
+      size = 16;
+      mark = First;
+    } ∷ record { from = 16; size = 64; mark = Middle } ∷ record { from = 80; size = 64; mark = Middle } ∷ record
+    { from = 144; size = 16; mark = Last } ∷ []
 unfolding pieces piecesFrom piece edge blocks markOf
 bench-64 = refl
 

@@ -2,6 +2,7 @@ pub mod Meets
 pub mod Peripheral
 pub mod Wires
 pub mod Lifted
-pub mod Coincide
+pub mod Contracts
 pub mod Bridge
 pub mod Promises
+pub mod Met

@@ -1,3 +1,5 @@
 pub mod Lifted
 pub mod Words
 pub mod Promises
+pub mod Contracts
+pub mod Met

@@ -109,19 +109,22 @@ pub reachable-write008 : (r : Reg008) (v : ℕ) → reachable008 (r .value) ≡ 
 unfolding reachable008
 reachable-write008 r v h f =
     let w = written008 r v in
-    made _ _ (forbidden008 (write008 r v .value)) (own-again writable008 refl reset008 (r .value) v (sym (own008 (r .value) h .1))) (rw (w .ioMode, w .frequency) f)
+    made _ _ (forbidden008 (write008 r v .value)) (own-again writable008 refl reset008 (r .value) v (sym (own008 (r .value) h .1)))
+    (rw (w .ioMode, w .frequency) f)
 
 pub reachable-write010 : (r : Reg010) (v : ℕ) → reachable010 (r .value) ≡ true → forbidden010 v ≡ false → reachable010 (write010 r v .value) ≡ true
 unfolding reachable010
 reachable-write010 r v h f =
     let w = written010 r v in
-    made _ _ (forbidden010 (write010 r v .value)) (ready-again writable010 refl refl refl refl refl refl refl reset010 (r .value) v (sym (own010 (r .value) h .1))) (rw (w .readCode, w .payloadCode) f)
+    made _ _ (forbidden010 (write010 r v .value))
+    (ready-again writable010 refl refl refl refl refl refl refl reset010 (r .value) v (sym (own010 (r .value) h .1))) (rw (w .readCode, w .payloadCode) f)
 
 pub reachable-write020 : (r : Reg020) (v : ℕ) → reachable020 (r .value) ≡ true → forbidden020 v ≡ false → reachable020 (write020 r v .value) ≡ true
 unfolding reachable020
 reachable-write020 r v h f =
     let w = written020 r v in
-    made _ _ (forbidden020 (write020 r v .value)) (ready-again writable020 refl refl refl refl refl refl refl reset020 (r .value) v (sym (own020 (r .value) h .1))) (rw (w .count) f)
+    made _ _ (forbidden020 (write020 r v .value))
+    (ready-again writable020 refl refl refl refl refl refl refl reset020 (r .value) v (sym (own020 (r .value) h .1))) (rw (w .count) f)
 
 pub reachable-write : (c : Config) (a v : ℕ) → reachable c ≡ true → forbiddenAt a v ≡ false → reachable (writeAt c a v) ≡ true
 reachable-write c a v h =

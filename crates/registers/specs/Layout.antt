@@ -14,14 +14,15 @@ use Rattle.base.specs.AllBytes.{AllBytes, all-low4, then4}
 use Rattle.registers.specs.Laws.{Fitting}
 use Rattle.registers.specs.declared.Config.{Config}
 
--- 0 to 11: the registers 008h, 010h, 020h
+-- 0 to 11: the registers 008h, 010h, 020h (docs/STATE.md; docs/DECISIONS.md, 27)
 abbrev pub configBytes : Config → List ℕ
 configBytes c = low4 (c .r008 .value) ++ (low4 (c .r010 .value) ++ low4 (c .r020 .value))
 
+-- the registers in those bytes (docs/DECISIONS.md, 27)
 abbrev pub configIn : List ℕ → Config
 configIn l = record { r008 = record { value = number4 0 l }; r010 = record { value = number4 4 l }; r020 = record { value = number4 8 l } }
 
--- each number within its width
+-- each number within its width: 31:0 (004, 6.2.1.3, 6.2.1.4 and 6.2.1.5)
 abbrev pub fitsConfig : Config → Bool
 fitsConfig c = ltb (c .r008 .value) (2 ^ 32) && (ltb (c .r010 .value) (2 ^ 32) && ltb (c .r020 .value) (2 ^ 32))
 

@@ -153,7 +153,8 @@ pub record Written (w : Wires) (g : Going) (at : ℕ) (l whole : List ℕ) (n : 
   pub rest : put at (pairBytes w (turnOf w g)) l ≡ whole
   pub end : at + length (pairBytes w (turnOf w g)) ≡ n
 
-pub written-first : (w : Wires) (p : Packet) (g : Going) (code : ℕ) (l l₁ : List ℕ) → g ≡ begun (p .place) (p .count) → l₁ ≡ put 0 (code ∷ (p .count - 1) ∷ []) l
+pub written-first : (w : Wires) (p : Packet) (g : Going) (code : ℕ) (l l₁ : List ℕ) → g ≡ begun (p .place) (p .count)
+    → l₁ ≡ put 0 (code ∷ (p .count - 1) ∷ []) l
     → Written w g 2 l₁ (over (code ∷ packetBytes w p) l) (length (code ∷ packetBytes w p))
 written-first w p g code l l₁ eg e =
     let t = ap (turnOf w) eg ∙ begun-turn w (p .place) (p .count) in
@@ -176,7 +177,9 @@ written-next w g g′ at at′ n l l′ whole small more h e ea eg s =
     let t = ap (pairBytes w) (step w g small more .turns) ∙ pairs-both w (nowTaken w g) (turnOf w (past w g)) in
     let f = ap (λ (x : Going). pairBytes w (turnOf w x)) eg in
     record {
-      rest = ap₂ (λ (k : ℕ) (z : List ℕ). put k z l′) ea f ∙ ap (put (at + length us) vs) e ∙ put-put us vs l at h ∙ ap (λ (z : List ℕ). put at z l) (sym t) ∙ s .rest;
+      rest =
+          ap₂ (λ (k : ℕ) (z : List ℕ). put k z l′) ea f ∙ ap (put (at + length us) vs) e ∙ put-put us vs l at h ∙ ap (λ (z : List ℕ). put at z l) (sym t) ∙ s
+          .rest;
       end = omega (arith, s .end, ap length t, length-append us vs, ap length f, ea);
     }
 
@@ -192,7 +195,8 @@ written-whole w p g code at l l₁ h z s =
 four-more : (k n : ℕ) → k ≡ n → 4 + n ≡ suc (suc (suc (suc k)))
 four-more k n e = omega arith
 
-pub piece-length : (c : Completion) (n : ℕ) (w : Wires) (reads : List ℕ) → readLength ≤ length reads → c .from + c .length ≤ readLength → n ≡ 4 + c .length → (code : ℕ) → n ≡ length (code ∷ bodyBytes (B.Piece c) w reads)
+pub piece-length : (c : Completion) (n : ℕ) (w : Wires) (reads : List ℕ) → readLength ≤ length reads → c .from + c .length ≤ readLength → n ≡ 4 + c .length
+    → (code : ℕ) → n ≡ length (code ∷ bodyBytes (B.Piece c) w reads)
 piece-length c n w reads hs hf e code = e ∙ four-more _ _ (length-take-le (c .length) (drop (c .from) reads) (rw length-drop (omega arith)))
 
 -- the reply of the case that it is in
@@ -200,10 +204,12 @@ pub by-reply : (r r′ : Reply) (w : Wires) (l l₁ reads : List ℕ) (n : ℕ)
     → r ≡ r′
     → (l₁ ≡ over (replyBytes r′ w reads) l) × (n ≡ length (replyBytes r′ w reads)) × (n ≤ replyLength)
     → (l₁ ≡ over (replyBytes r w reads) l) × (n ≡ length (replyBytes r w reads)) × (n ≤ replyLength)
-by-reply r r′ w l l₁ reads n e h = subst (λ (z : Reply). (l₁ ≡ over (replyBytes z w reads) l) × (n ≡ length (replyBytes z w reads)) × (n ≤ replyLength)) (sym e) h
+by-reply r r′ w l l₁ reads n e h =
+    subst (λ (z : Reply). (l₁ ≡ over (replyBytes z w reads) l) × (n ≡ length (replyBytes z w reads)) × (n ≤ replyLength)) (sym e) h
 
 -- data kept at the start of a store
-pub data-by : (dst dst′ src part : List ℕ) (at n : ℕ) → at + n ≤ length src → part ≡ drop at src → dst′ ≡ copied dst part n → dst′ ≡ over (take n (drop at src)) dst
+pub data-by : (dst dst′ src part : List ℕ) (at n : ℕ) → at + n ≤ length src → part ≡ drop at src → dst′ ≡ copied dst part n
+    → dst′ ≡ over (take n (drop at src)) dst
 data-by dst dst′ src part at n h ep e =
     e ∙ ap (λ (z : List ℕ). copied dst z n) ep ∙ copied-over dst (drop at src) n (rw length-drop (omega arith))
 

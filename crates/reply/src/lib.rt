@@ -106,7 +106,9 @@ fn put_word(reply: &mut [u8], code: u8, v: u32) -> usize
 
 fn put_body(reply: &mut [u8], code: u8, body: Body, w: Words, reads: &[u8]) -> usize
     requires { ⌜ (replyLength ≤ length (now reply)) × (readLength ≤ length (now reads)) × BodyFits body (wiresOf w) ⌝ }
-    ensures { λ r. ⌜ (now (reply .exit) ≡ over (code ∷ bodyBytes body (wiresOf w) (now (reads .entry))) (now (reply .entry))) × (r ≡ length (code ∷ bodyBytes body (wiresOf w) (now (reads .entry)))) × (r ≤ 260) ⌝ }
+    ensures { λ r. ⌜
+        (now (reply .exit) ≡ over (code ∷ bodyBytes body (wiresOf w) (now (reads .entry))) (now (reply .entry)))
+        × (r ≡ length (code ∷ bodyBytes body (wiresOf w) (now (reads .entry)))) × (r ≤ 260) ⌝ }
 {
     match body {
         Body::Nothing => {
@@ -133,7 +135,9 @@ fn finish(reply: &mut [u8], n: usize, status: u32)
 
 fn say(reply: &mut [u8], code: u8, body: Body, status: u32, w: Words, reads: &[u8]) -> u32
     requires { ⌜ (replyLength ≤ length (now reply)) × (readLength ≤ length (now reads)) × BodyFits body (wiresOf w) ⌝ }
-    ensures { λ r. ⌜ (now (reply .exit) ≡ over (closed (code ∷ bodyBytes body (wiresOf w) (now (reads .entry))) status) (now (reply .entry))) × (r ≡ length (closed (code ∷ bodyBytes body (wiresOf w) (now (reads .entry))) status)) × (r ≤ replyLength) ⌝ }
+    ensures { λ r. ⌜
+        (now (reply .exit) ≡ over (closed (code ∷ bodyBytes body (wiresOf w) (now (reads .entry))) status) (now (reply .entry)))
+        × (r ≡ length (closed (code ∷ bodyBytes body (wiresOf w) (now (reads .entry))) status)) × (r ≤ replyLength) ⌝ }
 {
     let n = put_body(reply, code, body, w, reads);
     finish(reply, n, status);
@@ -143,7 +147,9 @@ fn say(reply: &mut [u8], code: u8, body: Body, status: u32, w: Words, reads: &[u
 // The reply's bytes, over the wires as they were before the command; their count.
 pub fn put_reply(reply: &mut [u8], r: Reply, w: Words, reads: &[u8]) -> u32
     requires { ⌜ (replyLength ≤ length (now reply)) × (readLength ≤ length (now reads)) × ReplyFits r (wiresOf w) ⌝ }
-    ensures { λ n. ⌜ (now (reply .exit) ≡ over (replyBytes r (wiresOf w) (now (reads .entry))) (now (reply .entry))) × (n ≡ length (replyBytes r (wiresOf w) (now (reads .entry)))) × (n ≤ replyLength) ⌝ }
+    ensures { λ n. ⌜
+        (now (reply .exit) ≡ over (replyBytes r (wiresOf w) (now (reads .entry))) (now (reply .entry)))
+        × (n ≡ length (replyBytes r (wiresOf w) (now (reads .entry)))) × (n ≤ replyLength) ⌝ }
 {
     match r {
         Reply::Silent => 0,

@@ -34,6 +34,7 @@ pub mod Answers
 pub mod WireView
 pub mod Bound
 pub mod WireSteps
+pub mod WireReads
 pub mod Vectors
 pub mod Becomes
 pub mod Effects

@@ -30,3 +30,4 @@ pub mod WireEvents
 pub mod WireView
 pub mod Bound
 pub mod WireSteps
+pub mod WireReads

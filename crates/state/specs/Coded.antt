@@ -24,7 +24,8 @@ module _ (s : State) (l : List ℕ) where
   pub packed-start : {m : List ℕ} → m ≡ put 0 (configBytes (s .config)) l → m ≡ over (configBytes (s .config)) l
   packed-start e = e ∙ put-first (configBytes (s .config)) l
 
-  pub packed-then : (k : Channel) {m n : List ℕ} → n ≡ put (place k) (partBytes k (part k s)) m → m ≡ over (front k s) l → n ≡ over (front k s ++ partBytes k (part k s)) l
+  pub packed-then : (k : Channel) {m n : List ℕ} → n ≡ put (place k) (partBytes k (part k s)) m → m ≡ over (front k s) l
+      → n ≡ over (front k s ++ partBytes k (part k s)) l
   packed-then k e f = e ∙ ap (put (place k) (partBytes k (part k s))) f ∙ put-over (front k s) (partBytes k (part k s)) l (place k) (front-length k s)
 
   pub packed-done : {m : List ℕ} → m ≡ over (front last s ++ partBytes last (part last s)) l → m ≡ over (packed s) l
@@ -45,7 +46,8 @@ module _ (l : List ℕ) (byte : (k : ℕ) → getD l k 0 < 256) (long : stateLen
   holds-each s es =
       same-test _ _
       (λ e.
-      let h : (k : Channel) → holdsPart k (on k (s .config)) l ≡ true = all-true (λ k. holdsPart k (on k (s .config)) l) (and-right (reachable (s .config)) _ e) in
+      let h : (k : Channel) → holdsPart k (on k (s .config)) l ≡ true = all-true (λ k. holdsPart k (on k (s .config)) l)
+      (and-right (reachable (s .config)) _ e) in
       let good : sound s ≡ true =
       sound-made s
       (record {
@@ -63,7 +65,8 @@ module _ (l : List ℕ) (byte : (k : ℕ) → getD l k 0 < 256) (long : stateLen
       found : (k : Channel) → part k s ≡ partIn k l
       found k = ap (part k) es ∙ part-found k l
 
-  pub holds-by : {c : Config} {r : Bool} {h : Each (λ k. Bool)} → c ≡ configIn l → r ≡ reachable c → Each (λ k. of-each (λ j. Bool) h k ≡ holdsPart k (on k c) l)
+  pub holds-by : {c : Config} {r : Bool} {h : Each (λ k. Bool)} → c ≡ configIn l → r ≡ reachable c
+      → Each (λ k. of-each (λ j. Bool) h k ≡ holdsPart k (on k c) l)
       → r && all (of-each (λ k. Bool) h) ≡ holds l
   unfolding unpacked
   holds-by {c} {r} {h} ec er eh =

@@ -4,5 +4,6 @@ use Rattle.wires.specs.Groups.{freshWires}
 use Rattle.peripheral.specs.Queues.{idle}
 use Rattle.state.specs.declared.State.{State}
 
+-- "Start takes no state and gives the fresh one" (01, What the engine covers); "only start sets" the serial, "to 0" (01, Requests, answers, pieces)
 abbrev pub freshState : State
 freshState = record { config = freshConfig; peripheral = idle 0; wires = freshWires }

@@ -1,4 +1,5 @@
--- The laws that go channel by channel: one clause a channel, by the channel's own laws, and where its bytes stand among the state's. What follows from them names no channel.
+-- The laws that go channel by channel: one clause a channel, by the channel's own laws, and where its bytes stand among the state's. What follows
+-- from them names no channel.
 use Prim.Native.Nat.{ℕ, _+_, _<_}
 use mathlib.Core.Bool.{Bool, true, _&&_}
 use mathlib.Core.List.{List, [], _++_, append-assoc, append-nil}
@@ -81,7 +82,8 @@ part-length peripheral q = peripheral-length q
 part-length wires q = refl
 
 -- they give it back
-pub part-back : (k : Channel) (on : Bool) (p r : List ℕ) (q : Part k) → length p ≡ place k → soundPart k on q ≡ true → fitsPart k q ≡ true → partIn k (p ++ (partBytes k q ++ r)) ≡ q
+pub part-back : (k : Channel) (on : Bool) (p r : List ℕ) (q : Part k) → length p ≡ place k → soundPart k on q ≡ true → fitsPart k q ≡ true
+    → partIn k (p ++ (partBytes k q ++ r)) ≡ q
 part-back peripheral on p r q h e f = let g = sound-of on q e in peripheral-back p r q h (g .request) (g .write) f
 part-back wires on p r q h e f = wires-back p r q h (whole-level q f) (whole-marks q f)
 
@@ -161,6 +163,7 @@ pub packed-all : (s : State) → ((k : Channel) → AllBytes (partBytes k (part 
 unfolding packed
 packed-all s h = all-append _ (all-config (s .config)) (all-append _ (h peripheral) (h wires))
 
-pub packed-again : (l : List ℕ) → ((n : ℕ) → getD l n 0 < 256) → ((k : Channel) → partBytes k (partIn k l) ≡ listed (size k) (place k) l) → packed (unpacked l) ≡ listed stateLength 0 l
+pub packed-again : (l : List ℕ) → ((n : ℕ) → getD l n 0 < 256) → ((k : Channel) → partBytes k (partIn k l) ≡ listed (size k) (place k) l)
+    → packed (unpacked l) ≡ listed stateLength 0 l
 unfolding packed unpacked
 packed-again l byte h = join (config-again l byte) (join (h peripheral) (h wires))

@@ -7,17 +7,18 @@ use Rattle.wires.specs.Groups.{soundWires, wholeWires}
 use Rattle.peripheral.specs.Sound.{soundPeripheral, fitsPeripheral}
 use Rattle.state.specs.declared.State.{State}
 
+-- "Sound state: registers hold reachable values", then each channel's clauses (01, Wires, last paragraph)
 unfoldable pub sound : State → Bool
 sound s =
     reachable (s .config)
     && (soundPeripheral (on0 (s .config .r010)) (s .peripheral)
     && soundWires (on1 (s .config .r020)) (s .wires))
 
--- each number within its width, each array of six: what the types of the code say and a record of naturals does not
+-- each number within its width, each array of six: what the types of the code say and a record of naturals does not (01, What form each place takes)
 unfoldable pub fits : State → Bool
 fits s = fitsConfig (s .config) && (fitsPeripheral (s .peripheral) && wholeWires (s .wires))
 
--- the sound states
+-- the sound states: those of which "Every call keeps it" is said (01, Sound state)
 pub record Sound (s : State) : Type 0 where
   pub isSound : sound s ≡ true
   pub isFit : fits s ≡ true

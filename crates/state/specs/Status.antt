@@ -4,5 +4,6 @@ use Rattle.wires.specs.Groups.{wiresStatus}
 use Rattle.peripheral.specs.Status.{peripheralStatus}
 use Rattle.state.specs.declared.State.{State}
 
+-- "Status bits: 0 PC_FREE .., 1 NP_FREE .., 4 PC_AVAIL .." of channel 0, "2 VWIRE_FREE .., 6 VWIRE_AVAIL .." of channel 1; "the rest 0"
 unfoldable pub status : State → ℕ
 status s = peripheralStatus (s .peripheral) + wiresStatus (s .wires)

@@ -20,7 +20,8 @@ put-part x y v z r at h g =
     let l = x ++ (y ++ (z ++ r)) in
     let n : length (x ++ (v ++ z)) ≡ length x + (length y + length z) = simp (length-append, g) in
     let end : drop (length (x ++ (v ++ z))) l ≡ r =
-    ap (λ (k : ℕ). drop k l) n ∙ drop-append-add x (y ++ (z ++ r)) (length y + length z) ∙ drop-append-add y (z ++ r) (length z) ∙ drop-at z r (length z) refl in
+    ap (λ (k : ℕ). drop k l) n ∙ drop-append-add x (y ++ (z ++ r)) (length y + length z) ∙ drop-append-add y (z ++ r) (length z) ∙ drop-at z r (length z)
+    refl in
     B.put-into x y v (z ++ r) at h g
     ∙ sym (ap (λ (q : List ℕ). (x ++ (v ++ z)) ++ q) end ∙ append-assoc x (v ++ z) r ∙ ap (λ (q : List ℕ). x ++ q) (append-assoc v z r))
 
@@ -29,7 +30,8 @@ module _ (s : State) (l : List ℕ) (e : take stateLength l ≡ packed s) where
   stored x y v z at f h g =
       let r = drop stateLength l in
       let apart : l ≡ x ++ (y ++ (z ++ r)) =
-      sym (take-append-drop stateLength l) ∙ ap (λ (m : List ℕ). m ++ r) (e ∙ f) ∙ append-assoc x (y ++ z) r ∙ ap (λ (m : List ℕ). x ++ m) (append-assoc y z r) in
+      sym (take-append-drop stateLength l) ∙ ap (λ (m : List ℕ). m ++ r) (e ∙ f) ∙ append-assoc x (y ++ z) r ∙ ap (λ (m : List ℕ). x ++ m)
+      (append-assoc y z r) in
       subst (λ (m : List ℕ). B.put at v m ≡ over (x ++ (v ++ z)) m) (sym apart) (put-part x y v z r at h g)
 
   pub stored-config : (c : Config) → B.put 0 (configBytes c) l ≡ over (packed (each (λ k q. q) c s)) l

@@ -27,4 +27,5 @@ pub tidy-is : (l : List ℕ) → ((k : ℕ) → getD l k 0 < 256) → stateLengt
 tidy-is l byte h =
     let u = unpacked l in
     same-test _ _ (λ e. packed-agree u l (tidy-again l byte h e))
-    (λ e. ap tidy (sym (take-append-drop stateLength l) ∙ ap (λ (z : List ℕ). z ++ drop stateLength l) (agree-packed u l h e)) ∙ packed-tidy u (drop stateLength l))
+    (λ e. ap tidy (sym (take-append-drop stateLength l) ∙ ap (λ (z : List ℕ). z ++ drop stateLength l) (agree-packed u l h e)) ∙ packed-tidy u
+    (drop stateLength l))

@@ -8,14 +8,17 @@ use borrow.Author.Tests.{eqb-true, eqb-false}
 use Rattle.base.specs.Pick.{and-left, and-right, and-true}
 use Rattle.base.specs.Bytes.{bit}
 
+-- at each number below n: "one test over all rows" of the wire table (01, What form each place takes)
 abbrev pub every : ℕ → (ℕ → Bool) → Bool
 every zero f = true
 every (suc n) f = f n && every n f
 
+-- at some: "a group is pending" (01, Registers and status)
 abbrev pub some : ℕ → (ℕ → Bool) → Bool
 some zero f = false
 some (suc n) f = some n f || f n
 
+-- at how many: "min(pending, operating count)" (01, Wires)
 abbrev pub count : ℕ → (ℕ → Bool) → ℕ
 count zero f = 0
 count (suc n) f = bit (f n) + count n f

@@ -82,7 +82,8 @@ put-place w (i ∷ b ∷ ps) = put-place (putPair w i b) ps ∙ pair-place w i b
 pair-passes : (w : Wires) (i b j : ℕ) → 2 ≤ j → isDown j ≡ false → levelAt (putPair w i b) j ≡ levelAt w j
 pair-passes w i b j h n =
     pick-ind (λ (v : Wires). levelAt v j ≡ levelAt w j) (isDown i)
-    (λ e. level-other w i _ (markAt w i) (w .place) j (in-table i (and-left (isGroup i) (rowAt (i - 2) .down) e) .from) h (λ q. clash (sym n ∙ ap isDown q ∙ e)))
+    (λ e. level-other w i _ (markAt w i) (w .place) j (in-table i (and-left (isGroup i) (rowAt (i - 2) .down) e) .from) h
+    (λ q. clash (sym n ∙ ap isDown q ∙ e)))
     (λ _. refl)
 
 pub put-passes : (w : Wires) (ps : List ℕ) (j : ℕ) → 2 ≤ j → isDown j ≡ false → levelAt (putPairs w ps) j ≡ levelAt w j
@@ -113,14 +114,17 @@ module _ (j bit : ℕ) (down : isDown j ≡ true) (small : bit < 4) where
   pair-own : (w : Wires) (b : ℕ) → wholeWires w ≡ true
       → readWire (putPair w j b) j bit ≡ pick (eqb (bitOf (bitAnd (b / 16) (rowAt (j - 2) .defined)) bit) 1) (bitOf (b % 16) bit) (readWire w j bit)
   pair-own w b e =
-      ap (λ (t : Bool). readWire (pick t (withGroup w j (nibble (levelAt w j) (b % 16) (bitAnd (b / 16) (rowAt (j - 2) .defined))) (markAt w j) (w .place)) w) j bit) down
+      ap (λ (t : Bool). readWire (pick t (withGroup w j (nibble (levelAt w j) (b % 16) (bitAnd (b / 16) (rowAt (j - 2) .defined))) (markAt w j) (w .place)) w)
+      j bit) down
       ∙ ap (λ (x : ℕ). bitOf x bit) (level-same w j _ (markAt w j) (w .place) e (here .from) (here .upto))
-      ∙ nibble-bit (levelAt w j) (b % 16) (bitAnd (b / 16) (rowAt (j - 2) .defined)) bit (omega (arith, and-le-r (b / 16) (rowAt (j - 2) .defined), defined-small)) small
+      ∙ nibble-bit (levelAt w j) (b % 16) (bitAnd (b / 16) (rowAt (j - 2) .defined)) bit
+      (omega (arith, and-le-r (b / 16) (rowAt (j - 2) .defined), defined-small)) small
 
   pair-other : (w : Wires) (i b : ℕ) → (j ≡ i → ⊥) → readWire (putPair w i b) j bit ≡ readWire w j bit
   pair-other w i b n =
       pick-ind (λ (v : Wires). readWire v j bit ≡ readWire w j bit) (isDown i)
-      (λ e. ap (λ (x : ℕ). bitOf x bit) (level-other w i _ (markAt w i) (w .place) j (in-table i (and-left (isGroup i) (rowAt (i - 2) .down) e) .from) (here .from) n))
+      (λ e. ap (λ (x : ℕ). bitOf x bit)
+      (level-other w i _ (markAt w i) (w .place) j (in-table i (and-left (isGroup i) (rowAt (i - 2) .down) e) .from) (here .from) n))
       (λ _. refl)
 
   pair-read : rowAt (j - 2) .defined / 2 ^ bit % 2 ≡ 1 → (w : Wires) (i b : ℕ) → wholeWires w ≡ true
@@ -147,7 +151,8 @@ module _ (j bit : ℕ) (down : isDown j ≡ true) (small : bit < 4) where
       go false q = pair-other w i b (λ x. eqb-false i j q (sym x))
 
   -- an undefined bit keeps its value
-  pub put-undefined : rowAt (j - 2) .defined / 2 ^ bit % 2 ≡ 0 → (w : Wires) (ps : List ℕ) → wholeWires w ≡ true → readWire (putPairs w ps) j bit ≡ readWire w j bit
+  pub put-undefined : rowAt (j - 2) .defined / 2 ^ bit % 2 ≡ 0 → (w : Wires) (ps : List ℕ) → wholeWires w ≡ true
+      → readWire (putPairs w ps) j bit ≡ readWire w j bit
   unfolding putPairs
   put-undefined none w [] e = refl
   put-undefined none w (i ∷ []) e = refl

@@ -16,42 +16,48 @@ use Rattle.wires.specs.declared.Packet.{Packet}
 
 -- ---- the state of the wires
 
+-- "A reset group is not pending": no group is (01, Wires)
 abbrev pub noMarks : List Bool
 noMarks = map (λ (r : WireRow). false) table
 
--- "from 4 itself at first, after an eSPI or platform reset and after a disabling of channel 1"
+-- "from 4 itself at first, after an eSPI or platform reset and after a disabling of channel 1" (01, Wires)
 abbrev pub firstPlace : ℕ
 firstPlace = 4
 
+-- after a start and an eSPI reset: all groups at their "reset value", none pending, going round from 4 (01, Wires)
 abbrev pub freshWires : Wires
 freshWires = record { level = resets; pending = noMarks; place = firstPlace }
 
+-- the four bits of a group: "an array of six nibbles" (01, What form each place takes)
 abbrev pub levelAt : Wires → ℕ → ℕ
 levelAt w i = getD (w .level) (i - 2) 0
 
+-- .. "and one of pending marks" (01, What form each place takes)
 abbrev pub markAt : Wires → ℕ → Bool
 markAt w i = getD (w .pending) (i - 2) false
 
--- the one place where the wires change: a group's level and mark, and the place
+-- the one place where the wires change: a group's level and mark, and the place ("changed at one place", 01, What form each place takes)
 abbrev pub withGroup : Wires → ℕ → ℕ → Bool → ℕ → Wires
 withGroup w i level mark p = record { level = set (w .level) (i - 2) level; pending = set (w .pending) (i - 2) mark; place = p }
 
--- four bits: those of val where the mask has ones, those of old elsewhere
+-- four bits: those of val where the mask has ones, those of old elsewhere ("which of bits 3:0 are valid", 01, Wires)
 abbrev pub nibble : ℕ → ℕ → ℕ → ℕ
 nibble old val mask = bitOr (bitAnd old (15 - mask)) (bitAnd val mask)
 
--- ---- PUT_VWIRE: "applies pairs in order; only valid and defined bits of down groups change, other groups are passed over"
+-- ---- PUT_VWIRE
 
+-- the group is the host's: "other groups are passed over" (01, Wires)
 abbrev pub isDown : ℕ → Bool
 isDown i = isGroup i && rowAt (i - 2) .down
 
--- "Data bits 7:4 say which of bits 3:0 are valid"
+-- "Data bits 7:4 say which of bits 3:0 are valid"; "only valid and defined bits of down groups change" (01, Wires)
 abbrev pub putPair : Wires → ℕ → ℕ → Wires
 putPair w i d =
     pick (isDown i)
     (withGroup w i (nibble (levelAt w i) (d % 16) (bitAnd (d / 16) (rowAt (i - 2) .defined))) (markAt w i) (w .place))
     w
 
+-- "PUT_VWIRE applies pairs in order" (01, Wires)
 unfoldable pub putPairs : Wires → List ℕ → Wires
 putPairs w [] = w
 putPairs w (i ∷ []) = w
@@ -59,133 +65,147 @@ putPairs w (i ∷ d ∷ ps) = putPairs (putPair w i d) ps
 
 -- ---- the board sets and reads a wire
 
+-- else 22, "no such defined wire" (01, Replies and refusals): an index of 2 to 7, and a bit that its row defines (01, Wires: the table)
 abbrev pub definedBit : ℕ → ℕ → Bool
 definedBit i bit = isGroup i && (ltb bit 4 && eqb (rowAt (i - 2) .defined / 2 ^ bit % 2) 1)
 
--- "one defined bit of an up group"; "value above 1" is refused
+-- "one defined bit of an up group"; "value above 1" is refused (01, Wires; Replies and refusals, 22)
 abbrev pub settable : ℕ → ℕ → ℕ → Bool
 settable i bit value = definedBit i bit && (not (rowAt (i - 2) .down) && leb value 1)
 
+-- the group with this one bit set: "The board sets one defined bit" (01, Wires)
 abbrev pub setLevel : Wires → ℕ → ℕ → ℕ → ℕ
 setLevel w i bit value = nibble (levelAt w i) (value * 2 ^ bit) (2 ^ bit)
 
--- "a real change while channel 1 is enabled makes it pending"
+-- "a real change while channel 1 is enabled makes it pending" (01, Wires)
 abbrev pub setWire : Bool → Wires → ℕ → ℕ → ℕ → Wires
 setWire on w i bit value =
     withGroup w i (setLevel w i bit value) (markAt w i || (on && not (eqb (setLevel w i bit value) (levelAt w i)))) (w .place)
 
+-- the level of one wire: "read a wire" (01, What the engine covers)
 abbrev pub readWire : Wires → ℕ → ℕ → ℕ
 readWire w i bit = levelAt w i / 2 ^ bit % 2
 
--- ---- GET_VWIRE: "sends min(pending, operating count) groups, going round from the index after the last one sent"
+-- ---- GET_VWIRE
 
--- a group is one entry of a packet
+-- a group is one entry of a packet: one of the "index and data pairs" (01, Commands)
 abbrev pub senderSize : ℕ → ℕ
 senderSize k = 1
 
+-- the sender's group is pending (01, Wires: "sends min(pending, operating count) groups")
 abbrev pub waiting : Wires → ℕ → Bool
 waiting w k = markAt w (groupAt k)
 
--- the senders that a packet of this capacity takes, from group p on
+-- the senders that a packet of this capacity takes, from group p on: "min(pending, operating count) groups" (01, Wires)
 unfoldable pub sentFrom : Wires → ℕ → ℕ → List ℕ
 sentFrom w p capacity = turn senderSize (waiting w) senders senders capacity (senderOf p)
 
+-- .. from where "going round" stands (01, Wires)
 abbrev pub sent : Wires → ℕ → List ℕ
 sent w capacity = sentFrom w (w .place) capacity
 
--- the next group that goes up, going round
+-- the next group that goes up, going round: "the index after the last one sent" (01, Wires)
 abbrev pub groupAfter : ℕ → ℕ
 groupAfter i = groupAt (after senders (senderOf i))
 
--- the group of the row at a place that goes up, or else the one that comes next
+-- the group of the row at a place that goes up, or else the one that comes next: how `groupAfter` is read from the table (docs/DECISIONS.md, 25)
 abbrev pub upOr : ℕ → ℕ → ℕ
 upOr at next = pick (rowAt at .down) next (rowAt at .index)
 
--- "and their pending marks go"; the place follows the one just sent
+-- "and their pending marks go"; the place follows the one just sent (01, Wires)
 abbrev pub leftBy : Wires → ℕ → Wires
 leftBy w k = withGroup w (groupAt k) (levelAt w (groupAt k)) false (groupAt (after senders k))
 
+-- so for all that a packet takes, in their order (01, Wires: "and their pending marks go")
 unfoldable pub afterSent : Wires → List ℕ → Wires
 afterSent w [] = w
 afterSent w (k ∷ ks) = afterSent (leftBy w k) ks
 
--- a packet is where it begins and how many entries it has, over the wires as they were
+-- a packet is where it begins and how many entries it has, over the wires as they were (docs/DECISIONS.md, 25)
 abbrev pub packetOf : Wires → List ℕ → Packet
 packetOf w ks = record { place = w .place; count = sizes senderSize ks }
 
--- "with all defined bits valid"
+-- "index and data" (01, Commands: PUT_VWIRE) of a group "with all defined bits valid" (01, Wires)
 abbrev pub pairAt : (i level : ℕ) → List ℕ
 pairAt i level = i ∷ (rowAt (i - 2) .defined * 16 + level) ∷ []
 
+-- the data byte of that pair: valid bits 7:4, levels 3:0 (01, Wires: "Data bits 7:4 say which of bits 3:0 are valid")
 abbrev pub groupByte : Wires → ℕ → ℕ
 groupByte w i = rowAt (i - 2) .defined * 16 + levelAt w i
 
+-- the packet's "index and data pairs", in the order sent (01, Commands: PUT_VWIRE)
 unfoldable pub pairBytes : Wires → List ℕ → List ℕ
 pairBytes w [] = []
 pairBytes w (k ∷ ks) = groupAt k ∷ groupByte w (groupAt k) ∷ pairBytes w ks
 
--- the packet's bytes: "the group count less one .., then index and data pairs"
+-- the packet's bytes: "the group count less one .., then index and data pairs" (01, Commands: PUT_VWIRE)
 abbrev pub packetBytes : Wires → Packet → List ℕ
 packetBytes w p = (p .count - 1) ∷ pairBytes w (sentFrom w (p .place) (p .count))
 
+-- "a group is pending" (01, Registers and status)
 abbrev pub anyPending : Wires → Bool
 anyPending w = some senders (waiting w)
 
--- the channel's word of the status: bit 2, VWIRE_FREE, always 1; bit 6, VWIRE_AVAIL: "a group is pending"
+-- the channel's word of the status: "2 VWIRE_FREE (always 1)", "6 VWIRE_AVAIL (a group is pending)" (01, Registers and status; 004, table 4)
 abbrev pub wiresStatus : Wires → ℕ
 wiresStatus w = 4 + bit (anyPending w) * 64
 
 -- ---- enabling, disabling and resets
 
--- an up group "that differs from its reset value"
+-- an "up group pending that differs from its reset value" (01, Wires)
 abbrev pub differs : Wires → ℕ → Bool
 differs w i = not (rowAt (i - 2) .down) && not (eqb (levelAt w i) (rowAt (i - 2) .reset))
 
--- each group's mark anew: "Enabling it from disabled makes each up group pending that differs", "Disabling channel 1 drops pending marks and keeps values"
+-- each group's mark anew, by whether the channel is on now; levels stay: "keeps values" (01, Wires)
 abbrev pub remarked : Bool → Wires → ℕ → Wires
 remarked on w p = record { level = w .level; pending = map (λ (r : WireRow). on && differs w (r .index)) table; place = p }
 
+-- "Enabling it from disabled makes each up group pending that differs from its reset value"; the place stays (01, Wires; docs/DECISIONS.md, 21)
 abbrev pub enabled : Wires → Wires
 enabled w = remarked true w (w .place)
 
+-- "Disabling channel 1 drops pending marks and keeps values"; going round from 4 "after a disabling of channel 1" (01, Wires)
 abbrev pub disabled : Wires → Wires
 disabled w = remarked false w firstPlace
 
--- "A reset group is not pending"
+-- "A reset group is not pending"; going round from 4 again (01, Wires)
 abbrev pub resetGroup : Wires → ℕ → Wires
 resetGroup w i = withGroup w i (rowAt (i - 2) .reset) false firstPlace
 
--- "Platform reset also resets .. wire groups 6 and 7"
+-- "Platform reset also resets .. wire groups 6 and 7" (01, Requests, answers, pieces)
 abbrev pub platformWires : Wires → Wires
 platformWires w = resetGroup (resetGroup w 6) 7
 
 -- ---- soundness (01, Sound state), clause by clause
 
--- "undefined wire bits are 0"
+-- "undefined wire bits are 0" (01, Sound state), of a row's four bits
 abbrev pub inRow : ℕ → ℕ → Bool
 inRow k level = eqb (bitAnd level (15 - rowAt k .defined)) 0 && ltb level 16
 
+-- .. of a group's (01, Sound state)
 abbrev pub onlyDefined : Wires → ℕ → Bool
 onlyDefined w i = inRow (i - 2) (levelAt w i)
 
--- "up groups alone are pending, and none while channel 1 is off"
+-- "up groups alone are pending, and none while channel 1 is off" (01, Sound state)
 abbrev pub markRight : Bool → Wires → ℕ → Bool
 markRight on w i = not (markAt w i) || (on && not (rowAt (i - 2) .down))
 
+-- both, of one group (01, Sound state)
 abbrev pub groupRight : Bool → Wires → ℕ → Bool
 groupRight on w i = onlyDefined w i && markRight on w i
 
--- so each of the first n
+-- so each of the first n (01, Sound state)
 abbrev pub groupsRight : Bool → Wires → ℕ → Bool
 groupsRight on w n = every n (λ (k : ℕ). groupRight on w (k + 2))
 
--- "the going-round place is 4 to 6"
+-- "the going-round place is 4 to 6" (01, Sound state)
 abbrev pub placeRight : Wires → Bool
 placeRight w = leb 4 (w .place) && leb (w .place) 6
 
+-- channel 1's clauses of "Sound state" together, for all six groups (01, Wires, last paragraph)
 abbrev pub soundWires : Bool → Wires → Bool
 soundWires on w = groupsRight on w (length table) && placeRight w
 
--- six groups: what the code's arrays have by their type
+-- six groups: what the code's arrays have by their type ("six wire groups, indexes 2 to 7", 01, Wires)
 abbrev pub wholeWires : Wires → Bool
 wholeWires w = eqb (length (w .level)) 6 && eqb (length (w .pending)) 6

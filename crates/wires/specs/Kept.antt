@@ -187,7 +187,8 @@ remarked-next on w next p i h l e f =
     let s : suc i ≡ i + 1 = omega arith in
     let marks : List Bool = remarked on w p .pending in
     let at : ℕ → Bool = λ j. on && (not (rowAt j .down) && not (eqb (getD (w .level) j 0) (rowAt j .reset))) in
-    let m : at i ≡ getD marks i false = ap at (sym d) ∙ sym (remarked-mark on w p (i + 2) (omega arith) (omega arith)) ∙ ap (λ (j : ℕ). getD marks j false) d in (
+    let m : at i ≡ getD marks i false = ap at (sym d) ∙ sym (remarked-mark on w p (i + 2) (omega arith) (omega arith)) ∙ ap (λ (j : ℕ). getD marks j false)
+    d in (
       ap (λ (j : ℕ). set (next .level) j (getD (w .level) i 0)) d ∙ ap (λ (l : List ℕ). set l i (getD (w .level) i 0)) e ∙ set-getD (w .level) i 0,
       ap (λ (j : ℕ). set (next .pending) j (at i)) d
           ∙ ap (λ (l : List Bool). set l i (at i)) f
@@ -231,7 +232,8 @@ sound-fresh false = refl
 pub sound-put : (on : Bool) (w : Wires) (ps : List ℕ) → soundWires on w ≡ true → soundWires on (putPairs w ps) ≡ true
 sound-put on w ps e = sound-test on _ (pairs-kept w ps (sound-view on w e))
 
-pub sound-set : (on : Bool) (w : Wires) (i bit value : ℕ) → settable i bit value ≡ true → soundWires on w ≡ true → soundWires on (setWire on w i bit value) ≡ true
+pub sound-set : (on : Bool) (w : Wires) (i bit value : ℕ) → settable i bit value ≡ true → soundWires on w ≡ true
+    → soundWires on (setWire on w i bit value) ≡ true
 sound-set on w i bit value t e = sound-test on _ (wire-kept on w i bit value (settable-bit i bit value t) (sound-view on w e))
 
 pub sound-sent : (on : Bool) (w : Wires) (capacity : ℕ) → soundWires on w ≡ true → soundWires on (afterSent w (sent w capacity)) ≡ true

@@ -18,13 +18,14 @@ use Rattle.wires.specs.Kept.{sound-view}
 use Rattle.wires.specs.declared.Wires.{Wires}
 use Rattle.wires.specs.declared.Words.{Words}
 
--- 64 to 69: levels of groups 2 to 7; 70 to 75: their pending marks; 76: the going-round place
+-- 64 to 69: levels of groups 2 to 7; 70 to 75: their pending marks; 76: the going-round place (docs/STATE.md; docs/DECISIONS.md, 27)
 abbrev pub wiresBytes : Wires → List ℕ
 wiresBytes w =
     levelAt w 2 ∷ levelAt w 3 ∷ levelAt w 4 ∷ levelAt w 5 ∷ levelAt w 6 ∷ levelAt w 7
     ∷ bit (markAt w 2) ∷ bit (markAt w 3) ∷ bit (markAt w 4) ∷ bit (markAt w 5) ∷ bit (markAt w 6) ∷ bit (markAt w 7)
     ∷ w .place ∷ []
 
+-- the wires in those bytes (docs/DECISIONS.md, 27)
 abbrev pub wiresIn : List ℕ → Wires
 wiresIn l =
     record {
@@ -33,7 +34,7 @@ wiresIn l =
       place = getD l 76 0;
     }
 
--- the same bytes as three numbers, and the wires of these: eight bytes, four, and the place
+-- the same bytes as three numbers: eight bytes, four, and the place (docs/DECISIONS.md, 37)
 abbrev pub wordsIn : List ℕ → Words
 wordsIn l = record { low = number8 64 l; high = number4 72 l; place = getD l 76 0 }
 
@@ -45,28 +46,31 @@ fromBytes a b place =
       place = place;
     }
 
+-- the wires of these three (docs/DECISIONS.md, 37)
 abbrev pub wiresOf : Words → Wires
 wiresOf w = fromBytes (low8 (w .low)) (low4 (w .high)) (w .place)
 
--- the canonical form, by the bytes as they stand: a mark is 0 or 1
+-- the canonical form, by the bytes as they stand: a mark is 0 or 1 (docs/DECISIONS.md, 23)
 abbrev pub tidyWires : List ℕ → Bool
 tidyWires l =
     leb (getD l 70 0) 1
     && (leb (getD l 71 0) 1 && (leb (getD l 72 0) 1 && (leb (getD l 73 0) 1 && (leb (getD l 74 0) 1 && leb (getD l 75 0) 1))))
 
--- the bytes pack sound wires, the channel being on or off
+-- the bytes pack sound wires, the channel being on or off: else 11, "state not sound" (01, Replies and refusals)
 abbrev pub holdsWires : Bool → List ℕ → Bool
 holdsWires on l = tidyWires l && soundWires on (wiresIn l)
 
--- the same of the levels' six bytes, and of the marks' behind them
+-- the same of the levels' six bytes: "undefined wire bits are 0" (01, Sound state)
 abbrev pub levelsFit : List ℕ → Bool
 levelsFit l =
     inRow 0 (getD l 0 0) && inRow 1 (getD l 1 0) && inRow 2 (getD l 2 0) && inRow 3 (getD l 3 0) && inRow 4 (getD l 4 0) && inRow 5 (getD l 5 0)
 
+-- .. of six marks, of groups 2 to 7: 0 or 1, and "up groups alone are pending, and none while channel 1 is off" (01, Sound state)
 abbrev pub marksFit : Bool → (a b c d e f : ℕ) → Bool
 marksFit on a b c d e f =
     eqb a 0 && (eqb b 0 && (eqb f 0 && (leb c 1 && (leb d 1 && (leb e 1 && (on || (eqb c 0 && (eqb d 0 && eqb e 0))))))))
 
+-- .. of the marks' six bytes behind the levels' (01, Sound state)
 abbrev pub marksIn : Bool → List ℕ → Bool
 marksIn on l = marksFit on (getD l 6 0) (getD l 7 0) (getD l 8 0) (getD l 9 0) (getD l 10 0) (getD l 11 0)
 
@@ -75,7 +79,8 @@ marksIn on l = marksFit on (getD l 6 0) (getD l 7 0) (getD l 8 0) (getD l 9 0) (
 pub words-back : (l : List ℕ) → ((k : ℕ) → getD l k 0 < 256) → wiresOf (wordsIn l) ≡ wiresIn l
 words-back l byte =
     ap (λ (a : List ℕ). fromBytes a (low4 (number4 72 l)) (getD l 76 0)) (low8-number8 l byte 64)
-    ∙ ap (λ (b : List ℕ). fromBytes (getD l 64 0 ∷ getD l 65 0 ∷ getD l 66 0 ∷ getD l 67 0 ∷ getD l 68 0 ∷ getD l 69 0 ∷ getD l 70 0 ∷ getD l 71 0 ∷ []) b (getD l 76 0)) (low4-number4 l byte 72)
+    ∙ ap (λ (b : List ℕ). fromBytes (getD l 64 0 ∷ getD l 65 0 ∷ getD l 66 0 ∷ getD l 67 0 ∷ getD l 68 0 ∷ getD l 69 0 ∷ getD l 70 0 ∷ getD l 71 0 ∷ []) b
+    (getD l 76 0)) (low4-number4 l byte 72)
 
 mark-back : (b : Bool) → eqb (bit b) 1 ≡ b
 mark-back true = refl

@@ -121,7 +121,8 @@ pub nibble-clean : (d old val mask : ℕ) → mask < 16 → ((k : ℕ) → k < 4
 nibble-clean d old val mask h m c =
     record {
       small = nibble-small old val mask h;
-      undefined-off = λ k hk q. nibble-bit old val mask k h hk ∙ ap (λ (t : ℕ). pick (eqb t 1) (bitOf val k) (bitOf old k)) (m k hk q) ∙ c .undefined-off k hk q;
+      undefined-off =
+          λ k hk q. nibble-bit old val mask k h hk ∙ ap (λ (t : ℕ). pick (eqb t 1) (bitOf val k) (bitOf old k)) (m k hk q) ∙ c .undefined-off k hk q;
     }
 
 -- a mask cut to the defined bits

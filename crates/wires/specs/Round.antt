@@ -35,7 +35,8 @@ unfolding turn
 turn-below size waits n zero capacity i h = none
 turn-below size waits n (suc left) capacity i h =
     pick-ind (AllBelow n) (waits i)
-    (λ _. pick-ind (AllBelow n) (leb (size i) capacity) (λ _. more h (turn-below size waits n left (capacity - size i) (after n i) (after-below n i h))) (λ _. none))
+    (λ _. pick-ind (AllBelow n) (leb (size i) capacity) (λ _. more h (turn-below size waits n left (capacity - size i) (after n i) (after-below n i h)))
+    (λ _. none))
     (λ _. turn-below size waits n left capacity (after n i) (after-below n i h))
 
 pub place-below : (n p : ℕ) {is : List ℕ} → p < n → AllBelow n is → placeAfter n p is < n
@@ -52,7 +53,8 @@ turn-fits size waits n zero capacity i = omega arith
 turn-fits size waits n (suc left) capacity i =
     let Q : List ℕ → Type 0 = λ is. sizes size is ≤ capacity in
     pick-ind Q (waits i)
-    (λ _. pick-ind Q (leb (size i) capacity) (λ e. omega (arith, leb-true (size i) capacity e, turn-fits size waits n left (capacity - size i) (after n i))) (λ _. omega arith))
+    (λ _. pick-ind Q (leb (size i) capacity) (λ e. omega (arith, leb-true (size i) capacity e, turn-fits size waits n left (capacity - size i) (after n i)))
+    (λ _. omega arith))
     (λ _. turn-fits size waits n left capacity (after n i))
 
 -- a packet of just that much takes the same senders
@@ -248,15 +250,18 @@ module _ {S C : Type 0} (m : Machine S C) (n : ℕ) where
     within (c ∷ cs) s j hj hp t e (on f a) l = go (f e) (λ k b p q w x. within cs (m .next s c) k b p q w a x)
       where
         sent : m .packs s c ≡ true → m .place (m .next s c) ≡ placeAfter n (m .place s) (packet s)
-            → ((List·Memᴰ g (packet s) → ⊥) → m .waits (m .next s c) g ≡ true) → Next n g j (m .place s) (packet s) → ((k : ℕ) → k < n → Later k (m .next s c) cs) → SentWithin g (suc j) s (c ∷ cs)
+            → ((List·Memᴰ g (packet s) → ⊥) → m .waits (m .next s c) g ≡ true) → Next n g j (m .place s) (packet s) →
+            ((k : ℕ) → k < n → Later k (m .next s c) cs) → SentWithin g (suc j) s (c ∷ cs)
         sent p q w (takes h) rest = here p h
         sent p q w (nears h k b u) rest =
             let o = ap bit p in
-            let v : m .place (m .next s c) < n = rw q (place-below n (m .place s) hp (turn-below (m .size s) (m .waits s) n n (m .capacity s) (m .place s) hp)) in
+            let v : m .place (m .next s c) < n = rw q
+            (place-below n (m .place s) hp (turn-below (m .size s) (m .waits s) n n (m .capacity s) (m .place s) hp)) in
             later {k = suc j} {s = s} {c = c} (suc k) (omega arith) (rest k (omega arith) v (ap (steps n k) q ∙ u) (w h) (omega arith))
 
         go : Moves g s c → ((k : ℕ) → k < n → Later k (m .next s c) cs) → SentWithin g (suc j) s (c ∷ cs)
-        go (stays p q w) rest = let o = ap bit p in later {k = suc j} {s = s} {c = c} (suc j) (omega arith) (rest j hj (rw q hp) (ap (steps n j) q ∙ t) w (omega arith))
+        go (stays p q w) rest =
+            let o = ap bit p in later {k = suc j} {s = s} {c = c} (suc j) (omega arith) (rest j hj (rw q hp) (ap (steps n j) q ∙ t) w (omega arith))
         go (sends p fit q w) rest = sent p q w (turn-nears (m .size s) (m .waits s) n (m .capacity s) (m .place s) g j fit hp hj t e) rest
 
     sooner : {k l : ℕ} {s : S} {cs : List C} → k ≤ l → SentWithin g k s cs → SentWithin g l s cs

@@ -128,7 +128,8 @@ afterRows =
     let b = upOr 2 c in
     upOr 1 b ∷ b ∷ c ∷ d ∷ e ∷ firstPlace ∷ []
 
-pub rows-back : {a b c d e : ℕ} → a ≡ upOr 1 b → b ≡ upOr 2 c → c ≡ upOr 3 d → d ≡ upOr 4 e → e ≡ upOr 5 firstPlace → a ∷ b ∷ c ∷ d ∷ e ∷ firstPlace ∷ [] ≡ afterRows
+pub rows-back : {a b c d e : ℕ} → a ≡ upOr 1 b → b ≡ upOr 2 c → c ≡ upOr 3 d → d ≡ upOr 4 e → e ≡ upOr 5 firstPlace
+    → a ∷ b ∷ c ∷ d ∷ e ∷ firstPlace ∷ [] ≡ afterRows
 rows-back p q r s t = rw (p, q, r, s, t)
 
 pub after-rows : (i : ℕ) → isUp i ≡ true → getD afterRows (i - 2) 0 ≡ groupAfter i

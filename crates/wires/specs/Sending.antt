@@ -18,11 +18,11 @@ use Rattle.wires.specs.declared.Going.{Going}
 use Rattle.wires.specs.declared.Sending.{Sending}
 use Rattle.wires.specs.declared.Packet.{Packet}
 
--- what a GET_VWIRE sends, and the wires after it
+-- what a GET_VWIRE sends, and the wires after it: "GET_VWIRE sends .. groups, going round .., and their pending marks go" (01, Wires)
 abbrev pub sending : Wires → ℕ → Sending
 sending w capacity = record { packet = packetOf w (sent w capacity); next = afterSent w (sent w capacity) }
 
--- what a packet's bytes ask: soundness gives it
+-- what a packet's bytes ask: soundness gives it ("the going-round place is 4 to 6"); at most 64 entries (004, 4.2.2: "up to 64 groups")
 pub record PacketFits (w : Wires) (p : Packet) : Type 0 where
   pub from : 4 ≤ p .place
   pub upto : p .place ≤ 6
@@ -32,17 +32,19 @@ pub record PacketFits (w : Wires) (p : Packet) : Type 0 where
 
 -- ---- the steps of the code
 
+-- at first: every sender is to be asked, and so many entries fit, the "operating count" (01, Wires)
 abbrev pub begun : (place capacity : ℕ) → Going
 begun p capacity = record { group = p; left = senders; room = capacity }
 
--- what is still taken from here on
+-- what is still taken from here on: the rest of `turn` (01, Wires: "going round")
 abbrev pub turnOf : Wires → Going → List ℕ
 turnOf w g = turn senderSize (waiting w) senders (g .left) (g .room) (senderOf (g .group))
 
--- the group asked now waits and fits
+-- the group asked now waits and fits (01, Wires: "min(pending, operating count)")
 abbrev pub goTakes : Bool → Going → Bool
 goTakes waits g = waits && leb (senderSize (senderOf (g .group))) (g .room)
 
+-- going round after it is asked: taken, on with less room; one that waits and does not fit closes the packet (02, Q-4); else on with the same room
 abbrev pub goPast : Bool → Going → Going
 goPast waits g =
     pick waits
@@ -51,13 +53,15 @@ goPast waits g =
     (record { group = g .group; left = 0; room = g .room }))
     (record { group = groupAfter (g .group); left = g .left - 1; room = g .room })
 
+-- the same with the group's own mark: its "pending marks" (01, Wires)
 abbrev pub takes : Wires → Going → Bool
 takes w g = goTakes (markAt w (g .group)) g
 
+-- .. going round past it (01, Wires: "going round")
 abbrev pub past : Wires → Going → Going
 past w g = goPast (markAt w (g .group)) g
 
--- what asking the group now adds to the packet
+-- what asking the group now adds to the packet: it, or nothing (01, Wires: "sends min(pending, operating count) groups")
 abbrev pub nowTaken : Wires → Going → List ℕ
 nowTaken w g = pick (takes w g) (senderOf (g .group) ∷ []) []
 
@@ -76,13 +80,14 @@ turn-closed w g e =
     ap (λ (n : ℕ). turn senderSize (waiting w) senders (g .left) n (senderOf (g .group))) e
     ∙ turn-full senderSize (waiting w) senders (g .left) (senderOf (g .group)) (λ k. omega arith)
 
--- a step: nearer the end, what it takes and then the rest, and the room that is left
+-- a step: nearer the end, what it takes and then the rest, and the room that is left (01, Wires: GET_VWIRE)
 pub record Step (w : Wires) (g : Going) (now : List ℕ) (h : Going) : Type 0 where
   pub up : isUp (h .group) ≡ true
   pub less : h .left < g .left
   pub turns : turnOf w g ≡ now ++ turnOf w h
   pub room : h .room + sizes senderSize (turnOf w g) ≡ g .room + sizes senderSize (turnOf w h)
 
+-- each step from an up group is one (01, Wires: GET_VWIRE)
 pub step : (w : Wires) (g : Going) → isUp (g .group) ≡ true → 0 < g .left → Step w g (nowTaken w g) (past w g)
 unfolding turn sizes
 step w g here more = go (markAt w (g .group)) (leb (senderSize k) (g .room)) refl asked
@@ -102,14 +107,17 @@ step w g here more = go (markAt w (g .group)) (leb (senderSize k) (g .room)) ref
         let t : ℕ → ℕ → List ℕ = λ room j. turn senderSize (waiting w) senders (g .left - 1) room j in
         ap (λ (l : ℕ). turn senderSize (waiting w) senders l (g .room) k) e
         ∙ ap (λ (j : ℕ). pick (waiting w k) (pick (leb (senderSize k) (g .room)) (k ∷ t (g .room - senderSize k) j) []) (t (g .room) j)) (sym (next .own))
-        ∙ ap (λ (i : ℕ). pick (markAt w i) (pick (leb (senderSize k) (g .room)) (k ∷ rest (g .room - senderSize k)) []) (rest (g .room))) (up-group (g .group) here .back)
+        ∙ ap (λ (i : ℕ). pick (markAt w i) (pick (leb (senderSize k) (g .room)) (k ∷ rest (g .room - senderSize k)) []) (rest (g .room)))
+        (up-group (g .group) here .back)
 
     go : (a b : Bool) → leb (senderSize k) (g .room) ≡ b → turnOf w g ≡ pick a (pick b (k ∷ rest (g .room - senderSize k)) []) (rest (g .room))
         → Step w g (pick (a && b) (k ∷ []) [])
         (pick a
-        (pick b (record { group = groupAfter (g .group); left = g .left - 1; room = g .room - senderSize k }) (record { group = g .group; left = 0; room = g .room }))
+        (pick b (record { group = groupAfter (g .group); left = g .left - 1; room = g .room - senderSize k })
+        (record { group = g .group; left = 0; room = g .room }))
         (record { group = groupAfter (g .group); left = g .left - 1; room = g .room }))
-    go true true f e = record { up = next .up; less = omega arith; turns = e; room = let q = ap (sizes senderSize) e in omega (arith, q, leb-true 1 (g .room) f) }
+    go true true f e =
+        record { up = next .up; less = omega arith; turns = e; room = let q = ap (sizes senderSize) e in omega (arith, q, leb-true 1 (g .room) f) }
     go true false f e = record { up = here; less = more; turns = e; room = let q = ap (sizes senderSize) e in omega (arith, q) }
     go false b f e = record { up = next .up; less = omega arith; turns = e; room = let q = ap (sizes senderSize) e in omega (arith, q) }
 
@@ -150,6 +158,7 @@ sizes-over w g e = ap (sizes senderSize) (turn-over w g e)
 
 -- ---- so far sent: what is still to be taken completes it
 
+-- what is sent so far and what is still to be taken are together what `sent` says (01, Wires: "min(pending, operating count) groups")
 pub record Gone (w : Wires) (capacity : ℕ) (next : Wires) (g : Going) : Type 0 where
   pub up : isUp (g .group) ≡ true
   pub rest : afterSent next (turnOf w g) ≡ afterSent w (sent w capacity)
@@ -158,7 +167,12 @@ pub record Gone (w : Wires) (capacity : ℕ) (next : Wires) (g : Going) : Type 0
 pub gone-first : (w : Wires) (capacity : ℕ) (g : Going) → isUp (w .place) ≡ true → g ≡ begun (w .place) capacity → Gone w capacity w g
 gone-first w capacity g up e =
     let t = ap (turnOf w) e ∙ begun-turn w (w .place) capacity in
-    record { up = ap (λ (h : Going). isUp (h .group)) e ∙ up; rest = ap (afterSent w) t; room = omega (arith, ap (λ (h : Going). h .room) e, ap (sizes senderSize) t) }
+    record {
+      up = ap (λ (h : Going). isUp (h .group)) e ∙ up;
+      rest = ap (afterSent w) t;
+      room = omega
+          (arith, ap (λ (h : Going). h .room) e, ap (sizes senderSize) t);
+    }
 
 pub gone-on : {w next : Wires} {capacity : ℕ} {g : Going} (next′ : Wires) (h : Going) → Gone w capacity next g → 0 < g .left → h ≡ past w g
     → afterSent next′ (turnOf w (past w g)) ≡ afterSent next (turnOf w g) → Gone w capacity next′ h

@@ -32,7 +32,8 @@ waiters waits n (suc left) i = pick (waits i) (i ∷ waiters waits n left (after
 turn-waiters : (waits : ℕ → Bool) (n left capacity i : ℕ) → turn senderSize waits n left capacity i ≡ take capacity (waiters waits n left i)
 unfolding turn waiters
 turn-waiters waits n zero capacity i = sym (take-nil capacity)
-turn-waiters waits n (suc left) capacity i = go (waits i) capacity (turn-waiters waits n left capacity (after n i)) (λ c. turn-waiters waits n left c (after n i))
+turn-waiters waits n (suc left) capacity i =
+    go (waits i) capacity (turn-waiters waits n left capacity (after n i)) (λ c. turn-waiters waits n left c (after n i))
   where
     go : (b : Bool) (c : ℕ) → turn senderSize waits n left c (after n i) ≡ take c (waiters waits n left (after n i))
         → ((d : ℕ) → turn senderSize waits n left d (after n i) ≡ take d (waiters waits n left (after n i)))
@@ -198,7 +199,8 @@ pub sent-bytes : (w : Wires) (capacity : ℕ) → packetBytes w (packetOf w (sen
 unfolding sentFrom
 sent-bytes w capacity =
     let ks = sent w capacity in
-    ap (λ (xs : List ℕ). (sizes senderSize ks - 1) ∷ pairBytes w xs) (turn-again senderSize (waiting w) senders senders capacity (senderOf (w .place)) (λ _. omega arith))
+    ap (λ (xs : List ℕ). (sizes senderSize ks - 1) ∷ pairBytes w xs)
+    (turn-again senderSize (waiting w) senders senders capacity (senderOf (w .place)) (λ _. omega arith))
     ∙ ap (λ (n : ℕ). (n - 1) ∷ pairBytes w ks) (sizes-length ks)
 
 pub pairs-length : (w : Wires) (ks : List ℕ) → length (pairBytes w ks) ≡ length ks * 2

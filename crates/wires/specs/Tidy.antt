@@ -118,10 +118,14 @@ module _ (on : Bool) (l : List ℕ) where
       let some : ((none ≡ true) → ⊥) → on ≡ true = or-on on none (and-right (leb (m 74) 1) _ k₅) in
       let p = and-right marks _ (and-right levels _ t) in
       and-true
-      (and-true (zero-small (m 70) a) (and-true (zero-small (m 71) b) (and-true (and-left (leb (m 72) 1) _ k₃) (and-true (and-left (leb (m 73) 1) _ k₄) (and-true (and-left (leb (m 74) 1) _ k₅) (zero-small (m 75) f))))))
+      (and-true (zero-small (m 70) a)
+      (and-true (zero-small (m 71) b)
+      (and-true (and-left (leb (m 72) 1) _ k₃) (and-true (and-left (leb (m 73) 1) _ k₄) (and-true (and-left (leb (m 74) 1) _ k₅) (zero-small (m 75) f))))))
       (sound-test on (wiresIn l)
       (record {
-        clean = by-index (λ (i : ℕ). onlyDefined (wiresIn l) i ≡ true) (and-left (inRow 0 (m 64)) _ t₁) (and-right (inRow 0 (m 64)) _ t₁) (and-right r₁ _ t₂) (and-right r₂ _ t₃) (and-right r₃ _ t₄) (and-right r₄ _ t₅);
+        clean =
+            by-index (λ (i : ℕ). onlyDefined (wiresIn l) i ≡ true) (and-left (inRow 0 (m 64)) _ t₁) (and-right (inRow 0 (m 64)) _ t₁) (and-right r₁ _ t₂)
+            (and-right r₂ _ t₃) (and-right r₃ _ t₄) (and-right r₄ _ t₅);
         marks = by-index (λ (i : ℕ). markAt (wiresIn l) i ≡ true → (isUp i ≡ true) × (on ≡ true))
             (zero-unmarked (m 70) a)
             (zero-unmarked (m 71) b)
@@ -148,13 +152,16 @@ module _ (on : Bool) (l : List ℕ) where
       let down : (i : ℕ) → 2 ≤ i → i ≤ 7 → isUp i ≡ false → markAt (wiresIn l) i ≡ true → ⊥ = λ i h k u x. true≢false (sym (s .marks i h k x .0) ∙ u) in
       let off : on ≡ false → (i : ℕ) → 2 ≤ i → i ≤ 7 → markAt (wiresIn l) i ≡ true → ⊥ = λ o i h k x. true≢false (sym (s .marks i h k x .1) ∙ o) in
       and-true
-      (and-true (and-true (and-true (and-true (and-true (clean 2 (omega arith) (omega arith)) (clean 3 (omega arith) (omega arith))) (clean 4 (omega arith) (omega arith))) (clean 5 (omega arith) (omega arith))) (clean 6 (omega arith) (omega arith))) (clean 7 (omega arith) (omega arith)))
+      (and-true (and-true
+      (and-true (and-true (and-true (clean 2 (omega arith) (omega arith)) (clean 3 (omega arith) (omega arith))) (clean 4 (omega arith) (omega arith)))
+      (clean 5 (omega arith) (omega arith))) (clean 6 (omega arith) (omega arith))) (clean 7 (omega arith) (omega arith)))
       (and-true
       (and-true (unmarked-zero (m 70) (and-left (leb (m 70) 1) _ p) (down 2 (omega arith) (omega arith) refl))
       (and-true (unmarked-zero (m 71) (and-left (leb (m 71) 1) _ p₁) (down 3 (omega arith) (omega arith) refl))
       (and-true (unmarked-zero (m 75) (and-right (leb (m 74) 1) _ p₄) (down 7 (omega arith) (omega arith) refl))
       (and-true c (and-true d (and-true e
-      (on-or on (λ o. and-true (unmarked-zero (m 72) c (off o 4 (omega arith) (omega arith))) (and-true (unmarked-zero (m 73) d (off o 5 (omega arith) (omega arith))) (unmarked-zero (m 74) e (off o 6 (omega arith) (omega arith))))))))))))
+      (on-or on (λ o. and-true (unmarked-zero (m 72) c (off o 4 (omega arith) (omega arith)))
+      (and-true (unmarked-zero (m 73) d (off o 5 (omega arith) (omega arith))) (unmarked-zero (m 74) e (off o 6 (omega arith) (omega arith))))))))))))
       (and-true (le-leb 4 (m 76) (s .from)) (le-leb (m 76) 6 (s .upto))))
 
 -- levels and marks by the bytes of the words that hold them

@@ -18,7 +18,8 @@ unfolding admit
 returns-2 c =
     let a = c .before .before .before .before .before .before .before .before .args in
     passed _ _ (ne-eqb _ _ (c .before .before .before .before .before .before .if1 .left))
-    (c .admit-as .ensures ∙ ap (admitListed (a .on) (a .checked) (a .b .now)) (sym (c .before .before .listed .given .1) ∙ c .before .before .before .before .row-of .ensures))
+    (c .admit-as .ensures ∙ ap (admitListed (a .on) (a .checked) (a .b .now))
+    (sym (c .before .before .listed .given .1) ∙ c .before .before .before .before .row-of .ensures))
 
 returns-3 : tie.Need-returns-3
 unfolding admit

@@ -28,7 +28,8 @@ returns-2 c =
     let a = s .args in
     let x = needRow (a .on) (a .b .now) (a .r) in
     let e = c .before .before .refusal .ensures ∙ ap (λ (y : Need). refusal y (length (a .b .now))) (c .before .before .before .need-row .ensures) in
-    c .checked-as .ensures ∙ reads-checked (a .checked) (a .b .now) (a .r) (a .on) x (row-needs (a .on) (a .b .now) (a .r) (s .pre .0) (s .pre .1)) (sym e ∙ c .before .if1 .left)
+    c .checked-as .ensures ∙ reads-checked (a .checked) (a .b .now) (a .r) (a .on) x (row-needs (a .on) (a .b .now) (a .r) (s .pre .0) (s .pre .1))
+    (sym e ∙ c .before .if1 .left)
 
 pub admit-as-spec : {M : Type 1} → statement M
 admit-as-spec = tie.close (tie.spec (λ c κs. search needs) (λ c κs. search needs) returns checked-as-requires returns-2)

@@ -32,7 +32,9 @@ cast-v-2 : tie.Need-cast-v-2 Inv-loop μ-loop
 cast-v-2 c = record { fits = omega (arith, c .shared-slice-known .given (c .before .before .before .args .at + c .before .before .loop .i)) }
 
 add-v-2 : tie.Need-add-v-2 Inv-loop μ-loop
-add-v-2 c = let l = c .before .before .loop in omega (arith, within 7 _ _ (omega arith) (l .inv .1 .1), c .shared-slice-known .given (c .before .before .before .args .at + l .i))
+add-v-2 c =
+    let l = c .before .before .loop in
+    omega (arith, within 7 _ _ (omega arith) (l .inv .1 .1), c .shared-slice-known .given (c .before .before .before .args .at + l .i))
 
 add-i : tie.Need-add-i Inv-loop μ-loop
 add-i c = search needs
@@ -43,8 +45,10 @@ loop-less c = search needs
 loop-again : tie.Need-loop-again Inv-loop μ-loop
 loop-again c =
     let a = c .before .before .before .args in
-    let l = c .before .before .loop in
-    (search needs, (high-next (l .i) (a .at) (a .b .now) (l .inv .1 .0) refl, power-next _ _ _ (l .inv .1 .1) (omega (arith, c .shared-slice-known .given (a .at + l .i)))))
+    let l = c .before .before .loop in (
+      search needs,
+      (high-next (l .i) (a .at) (a .b .now) (l .inv .1 .0) refl, power-next _ _ _ (l .inv .1 .1) (omega (arith, c .shared-slice-known .given (a .at + l .i)))),
+    )
 
 returns : tie.Need-returns Inv-loop μ-loop
 returns c =

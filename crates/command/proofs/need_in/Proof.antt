@@ -14,13 +14,16 @@ returns-2 : tie.Need-returns-2
 unfolding needIn
 returns-2 c =
     let a = c .before .before .before .before .before .before .before .before .args in
-    passed _ _ (ne-eqb _ _ (c .before .before .before .before .before .before .if1 .left)) (c .need-row .ensures ∙ ap (needListed (a .on) (a .b .now)) (sym (c .before .before .listed .given .1) ∙ c .before .before .before .before .row-of .ensures))
+    passed _ _ (ne-eqb _ _ (c .before .before .before .before .before .before .if1 .left))
+    (c .need-row .ensures ∙ ap (needListed (a .on) (a .b .now))
+    (sym (c .before .before .listed .given .1) ∙ c .before .before .before .before .row-of .ensures))
 
 returns-3 : tie.Need-returns-3
 unfolding needIn
 returns-3 c =
     let a = c .before .before .before .before .before .before .args in
-    passed _ _ (ne-eqb _ _ (c .before .before .before .before .if1 .left)) (ap (needListed (a .on) (a .b .now)) (sym (c .enum-told .given .1) ∙ c .before .before .row-of .ensures))
+    passed _ _ (ne-eqb _ _ (c .before .before .before .before .if1 .left))
+    (ap (needListed (a .on) (a .b .now)) (sym (c .enum-told .given .1) ∙ c .before .before .row-of .ensures))
 
 pub need-in-spec : {M : Type 1} → statement M
 need-in-spec =

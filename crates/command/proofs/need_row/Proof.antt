@@ -17,13 +17,21 @@ returns : tie.Need-returns
 returns c = taken _ _ (denied (c .before .channel-on .ensures) (c .if1 .taken)) refl
 
 returns-2 : tie.Need-returns-2
-returns-2 c = passed _ _ (denied (c .before .before .before .channel-on .ensures) (c .before .before .if1 .left)) (taken _ _ (both _ (c .before .cycle-listed .ensures) (c .if2 .taken)) refl)
+returns-2 c =
+    passed _ _ (denied (c .before .before .before .channel-on .ensures) (c .before .before .if1 .left))
+    (taken _ _ (both _ (c .before .cycle-listed .ensures) (c .if2 .taken)) refl)
 
 returns-3 : tie.Need-returns-3
-returns-3 c = passed _ _ (denied (c .before .before .before .before .before .before .channel-on .ensures) (c .before .before .before .before .before .if1 .left)) (passed _ _ (both _ (c .before .before .before .before .cycle-listed .ensures) (c .before .before .before .if2 .left)) (taken _ _ (lt-ltb _ _ (c .before .if3 .taken)) refl))
+returns-3 c =
+    passed _ _ (denied (c .before .before .before .before .before .before .channel-on .ensures) (c .before .before .before .before .before .if1 .left))
+    (passed _ _ (both _ (c .before .before .before .before .cycle-listed .ensures) (c .before .before .before .if2 .left))
+    (taken _ _ (lt-ltb _ _ (c .before .if3 .taken)) refl))
 
 returns-4 : tie.Need-returns-4
-returns-4 c = passed _ _ (denied (c .before .before .before .before .before .before .channel-on .ensures) (c .before .before .before .before .before .if1 .left)) (passed _ _ (both _ (c .before .before .before .before .cycle-listed .ensures) (c .before .before .before .if2 .left)) (passed _ _ (le-ltb _ _ (c .before .if3 .left)) (c .need-data .ensures)))
+returns-4 c =
+    passed _ _ (denied (c .before .before .before .before .before .before .channel-on .ensures) (c .before .before .before .before .before .if1 .left))
+    (passed _ _ (both _ (c .before .before .before .before .cycle-listed .ensures) (c .before .before .before .if2 .left))
+    (passed _ _ (le-ltb _ _ (c .before .if3 .left)) (c .need-data .ensures)))
 
 pub need-row-spec : {M : Type 1} → statement M
 need-row-spec =

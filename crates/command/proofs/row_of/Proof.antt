@@ -30,9 +30,13 @@ row-of-spec =
     (λ c. simp (c .before .match .keys7, c .plain4 .ensures))
     (λ c. simp (c .before .match .keys8, c .plain5 .ensures))
     (λ c. simp (c .match .keys9))
-    (λ c. let op = c .before .before .before .before .args .op in c .short .ensures ∙ sym (middle op (omega arith) (omega arith) ∙ simp (quad 0x10 op (omega arith) (omega arith))))
-    (λ c. let op = c .before .before .before .before .before .args .op in c .short2 .ensures ∙ sym (middle op (omega arith) (omega arith) ∙ simp (quad 0x11 op (omega arith) (omega arith))))
-    (λ c. let op = c .before .before .before .before .before .before .args .op in c .short3 .ensures ∙ sym (middle op (omega arith) (omega arith) ∙ simp (quad 0x12 op (omega arith) (omega arith))))
-    (λ c. let op = c .before .before .before .before .before .before .before .args .op in c .short4 .ensures ∙ sym (middle op (omega arith) (omega arith) ∙ simp (quad 0x13 op (omega arith) (omega arith))))
+    (λ c. let op = c .before .before .before .before .args .op in
+    c .short .ensures ∙ sym (middle op (omega arith) (omega arith) ∙ simp (quad 0x10 op (omega arith) (omega arith))))
+    (λ c. let op = c .before .before .before .before .before .args .op in
+    c .short2 .ensures ∙ sym (middle op (omega arith) (omega arith) ∙ simp (quad 0x11 op (omega arith) (omega arith))))
+    (λ c. let op = c .before .before .before .before .before .before .args .op in
+    c .short3 .ensures ∙ sym (middle op (omega arith) (omega arith) ∙ simp (quad 0x12 op (omega arith) (omega arith))))
+    (λ c. let op = c .before .before .before .before .before .before .before .args .op in
+    c .short4 .ensures ∙ sym (middle op (omega arith) (omega arith) ∙ simp (quad 0x13 op (omega arith) (omega arith))))
     (λ c. sym (no-single _ (c .before .match .rest) ∙ short-below _ (c .if1 .taken)))
     (λ c. sym (no-single _ (c .before .before .before .before .before .match .rest) ∙ short-above _ (c .if5 .left))))

@@ -13,10 +13,19 @@ use Rattle.engine.proofs.answer.Tie as tie
 
 lift-peripheral-requires : tie.Need-lift-peripheral-requires
 unfolding P.settle
-lift-peripheral-requires c κs = let a = c .before .before .before .before .before .before .args in let l = now (a .state) in let e = c .before .answer-to .ensures ∙ ap (λ (z : Peripheral). P.answerTo z (a .serial) (P.succeeded (a .success)) (length (now (a .bytes)))) (c .before .before .unpack .ensures ∙ peripheral-in l) in (c .before .before .before .before .before .before .pre, settle-stays peripheral (unpacked l) (P.answer (a .serial) (a .success) (now (a .bytes))) _ e)
+lift-peripheral-requires c κs =
+    let a = c .before .before .before .before .before .before .args in let l = now (a .state) in
+    let e = c .before .answer-to .ensures ∙ ap (λ (z : Peripheral). P.answerTo z (a .serial) (P.succeeded (a .success)) (length (now (a .bytes))))
+    (c .before .before .unpack .ensures ∙ peripheral-in l) in
+    (c .before .before .before .before .before .before .pre, settle-stays peripheral (unpacked l) (P.answer (a .serial) (a .success) (now (a .bytes))) _ e)
 
 returns : tie.Need-returns
-returns c = let a = c .before .before .before .before .before .before .before .before .before .args in let l = now (a .state) in lifted-by peripheral l (c .before .before .lift-peripheral .ensures) (c .before .before .before .before .answer-to .ensures ∙ ap (λ (z : Peripheral). P.answerTo z (a .serial) (P.succeeded (a .success)) (length (now (a .bytes)))) (c .before .before .before .before .before .unpack .ensures ∙ peripheral-in l))
+returns c =
+    let a = c .before .before .before .before .before .before .before .before .before .args in let l = now (a .state) in
+    lifted-by peripheral l (c .before .before .lift-peripheral .ensures)
+    (c .before .before .before .before .answer-to .ensures ∙ ap
+    (λ (z : Peripheral). P.answerTo z (a .serial) (P.succeeded (a .success)) (length (now (a .bytes))))
+    (c .before .before .before .before .before .unpack .ensures ∙ peripheral-in l))
 
 pub answer-spec : {M : Type 1} → statement M
 answer-spec =

@@ -11,7 +11,13 @@ use Rattle.engine.proofs.lift_peripheral.Tie as tie
 
 returns : tie.Need-returns
 unfolding unpacked
-returns c = let a = c .before .before .before .before .before .before .before .before .before .before .before .args in let l = now (a .state) in lift-carried peripheral (unpacked l) (a .x) l (c .before .before .before .before .before .before .before .before .before .before .before .pre .0) (c .before .before .before .before .before .before .before .before .before .before .before .pre .1) _ _ (c .before .before .before .store .ensures) (c .reply-with .ensures ∙ ap (withStatus (a .x .out .say)) (status-by (put peripheral (a .x .next) (unpacked l)) (c .before .before .before .before .before .before .before .status .ensures .0, c .before .before .before .before .before .status-in .ensures .0)))
+returns c =
+    let a = c .before .before .before .before .before .before .before .before .before .before .before .args in let l = now (a .state) in
+    lift-carried peripheral (unpacked l) (a .x) l (c .before .before .before .before .before .before .before .before .before .before .before .pre .0)
+    (c .before .before .before .before .before .before .before .before .before .before .before .pre .1) _ _ (c .before .before .before .store .ensures)
+    (c .reply-with .ensures ∙ ap (withStatus (a .x .out .say))
+    (status-by (put peripheral (a .x .next) (unpacked l))
+    (c .before .before .before .before .before .before .before .status .ensures .0, c .before .before .before .before .before .status-in .ensures .0)))
 
 pub lift-peripheral-spec : {M : Type 1} → statement M
 lift-peripheral-spec =

@@ -11,10 +11,18 @@ use Rattle.engine.proofs.set_wire.Tie as tie
 
 lift-wires-requires : tie.Need-lift-wires-requires
 unfolding W.settle
-lift-wires-requires c κs = let a = c .before .before .before .before .before .before .before .args in let l = now (a .state) in let e = c .before .setting .ensures ∙ set-there l _ _ (a .index) (a .bit) (a .value) (c .before .before .before .before .unpack .ensures) (c .before .before .unpack2 .ensures) in (c .before .before .before .before .before .before .before .pre, settle-stays wires (unpacked l) (W.setWire (a .index) (a .bit) (a .value)) _ e)
+lift-wires-requires c κs =
+    let a = c .before .before .before .before .before .before .before .args in let l = now (a .state) in
+    let e = c .before .setting .ensures ∙ set-there l _ _ (a .index) (a .bit) (a .value) (c .before .before .before .before .unpack .ensures)
+    (c .before .before .unpack2 .ensures) in
+    (c .before .before .before .before .before .before .before .pre, settle-stays wires (unpacked l) (W.setWire (a .index) (a .bit) (a .value)) _ e)
 
 returns : tie.Need-returns
-returns c = let a = c .before .before .before .before .before .before .before .before .before .before .args in let l = now (a .state) in lifted-by wires l (c .before .before .lift-wires .ensures) (c .before .before .before .before .setting .ensures ∙ set-there l _ _ (a .index) (a .bit) (a .value) (c .before .before .before .before .before .before .before .unpack .ensures) (c .before .before .before .before .before .unpack2 .ensures))
+returns c =
+    let a = c .before .before .before .before .before .before .before .before .before .before .args in let l = now (a .state) in
+    lifted-by wires l (c .before .before .lift-wires .ensures)
+    (c .before .before .before .before .setting .ensures ∙ set-there l _ _ (a .index) (a .bit) (a .value)
+    (c .before .before .before .before .before .before .before .unpack .ensures) (c .before .before .before .before .before .unpack2 .ensures))
 
 pub set-wire-spec : {M : Type 1} → statement M
 set-wire-spec =

@@ -12,10 +12,18 @@ use Rattle.engine.proofs.take_write.Tie as tie
 
 lift-peripheral-requires : tie.Need-lift-peripheral-requires
 unfolding P.settle
-lift-peripheral-requires c κs = let l = now (c .before .before .before .before .before .args .state) in (c .before .before .before .before .before .pre, settle-stays peripheral (unpacked l) (P.takeWrite []) _ (c .before .taken .ensures ∙ ap P.taken (c .before .before .unpack .ensures ∙ peripheral-in l)))
+lift-peripheral-requires c κs =
+    let l = now (c .before .before .before .before .before .args .state) in (
+      c .before .before .before .before .before .pre,
+      settle-stays peripheral (unpacked l) (P.takeWrite []) _
+          (c .before .taken .ensures ∙ ap P.taken (c .before .before .unpack .ensures ∙ peripheral-in l)),
+    )
 
 returns : tie.Need-returns
-returns c = let l = now (c .before .before .before .before .before .before .before .before .args .state) in lifted-by peripheral l (c .before .before .lift-peripheral .ensures) (c .before .before .before .before .taken .ensures ∙ ap P.taken (c .before .before .before .before .before .unpack .ensures ∙ peripheral-in l))
+returns c =
+    let l = now (c .before .before .before .before .before .before .before .before .args .state) in
+    lifted-by peripheral l (c .before .before .lift-peripheral .ensures)
+    (c .before .before .before .before .taken .ensures ∙ ap P.taken (c .before .before .before .before .before .unpack .ensures ∙ peripheral-in l))
 
 pub take-write-spec : {M : Type 1} → statement M
 take-write-spec =

@@ -30,7 +30,8 @@ use Rattle.engine.specs.Laws.Stored.{stays-carried}
 -- ---- configuration
 
 module _ (s : State) (a v : ℕ) (l : List ℕ) where
-  pub set-forbidden : (bad : Bool) (r : Outgoing) → Packs s l → bad ≡ forbiddenAt a v → bad ≡ true → r ≡ outgoing (nonFatal s) → carried r l ≡ carriedBy (setConfiguration s a v) l
+  pub set-forbidden : (bad : Bool) (r : Outgoing) → Packs s l → bad ≡ forbiddenAt a v → bad ≡ true → r ≡ outgoing (nonFatal s)
+      → carried r l ≡ carriedBy (setConfiguration s a v) l
   unfolding setConfiguration
   set-forbidden bad r h e t k =
       stays-carried s l (nonFatal s) r h refl k ∙ ap (λ (p : Plan). carriedBy p l) (taken (nonFatal s) _ (tested e t) refl)
@@ -45,7 +46,8 @@ module _ (s : State) (a v : ℕ) (l : List ℕ) where
   unfolding setConfiguration
   set-done bad c l′ r e t ec el k =
       rw (k, el)
-      (ap (λ (z : Config). carriedBy (acceptThen s (reconfigured s z)) l) ec ∙ ap (λ (p : Plan). carriedBy p l) (passed _ (acceptThen s (reconfigured s (writeAt (s .config) a v))) (tested e t) refl))
+      (ap (λ (z : Config). carriedBy (acceptThen s (reconfigured s z)) l) ec ∙ ap (λ (p : Plan). carriedBy p l)
+      (passed _ (acceptThen s (reconfigured s (writeAt (s .config) a v))) (tested e t) refl))
 
 -- ---- a decision
 
@@ -57,12 +59,14 @@ module _ (s : State) (b l : List ℕ) (z : Command) where
   decided-as y x e h = h ∙ ap (λ (c : Command). carriedBy (decide s c b) l) (sym e)
 
   -- a command of a channel is its channel's
-  pub acted-decided : (k : Channel) (o : K.Command k) (x : Carried) → z ≡ commandOf k o → x ≡ carriedBy (acted k s (actOf k (s .config) o b)) l → x ≡ carriedBy (decide s z b) l
+  pub acted-decided : (k : Channel) (o : K.Command k) (x : Carried) → z ≡ commandOf k o → x ≡ carriedBy (acted k s (actOf k (s .config) o b)) l
+      → x ≡ carriedBy (decide s z b) l
   unfolding decide
   acted-decided peripheral o x e h = decided-as (C.Peripheral o) x e h
   acted-decided wires o x e h = decided-as (C.Wires o) x e h
 
-  pub read-decided : (a v : ℕ) (r : Outgoing) → Packs s l → z ≡ C.GetConfiguration a → v ≡ readAt (s .config) a → r ≡ outgoing (show (B.Word v) s) → carried r l ≡ carriedBy (decide s z b) l
+  pub read-decided : (a v : ℕ) (r : Outgoing) → Packs s l → z ≡ C.GetConfiguration a → v ≡ readAt (s .config) a → r ≡ outgoing (show (B.Word v) s)
+      → carried r l ≡ carriedBy (decide s z b) l
   unfolding decide
   read-decided a v r h e ev k =
       stays-carried s l (show (B.Word v) s) r h refl k ∙ decided-as (C.GetConfiguration a) _ e (ap (λ (n : ℕ). carriedBy (show (B.Word n) s) l) ev)
@@ -96,7 +100,8 @@ module _ (s : State) (b l : List ℕ) where
       → carried r l ≡ carriedBy (exchange s b) l
   unfolding exchange
   exchange-silent on checked d n r h eo ec ed er k =
-      stays-carried s l (silent n s) r h refl (k ∙ ap refusedBy er) ∙ ap (λ (z : Decoded). carriedBy (byDecoded s b z) l) (sym er ∙ admitted on checked d eo ec ed)
+      stays-carried s l (silent n s) r h refl (k ∙ ap refusedBy er) ∙ ap (λ (z : Decoded). carriedBy (byDecoded s b z) l)
+      (sym er ∙ admitted on checked d eo ec ed)
 
   pub exchange-decided : (on : Channels) (checked : Bool) (d : Decoded) (o : Command) (x : Carried)
       → on ≡ channelsOf (s .config)
@@ -108,5 +113,6 @@ module _ (s : State) (b l : List ℕ) where
   unfolding exchange
   exchange-decided on checked d o x eo ec ed er k = k ∙ ap (λ (z : Decoded). carriedBy (byDecoded s b z) l) (sym er ∙ admitted on checked d eo ec ed)
 
-pub command-fits : (on : Channels) (checked : Bool) (b : List ℕ) (d : Decoded) (o : Command) → IsBytes b → d ≡ admit on checked b → d ≡ Known o → CommandFits o b
+pub command-fits : (on : Channels) (checked : Bool) (b : List ℕ) (d : Decoded) (o : Command) → IsBytes b → d ≡ admit on checked b → d ≡ Known o
+    → CommandFits o b
 command-fits on checked b d o h ed ek = admit-fits on checked b o h (sym ed ∙ ek)

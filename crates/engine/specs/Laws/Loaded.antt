@@ -96,10 +96,12 @@ unfolding unpacked
 set-there l c w index bit value e f = ap (λ (z : Config). W.setting z w index bit value) e ∙ ap (λ (z : Wires). W.setting (configIn l) z index bit value) f
 
 -- a change that is another, lifted; a state that is the bytes', configured or cleared
-pub lifted-by : (k : C.Channel) (l : List ℕ) {x y : C.Change k} {z : Carried} → z ≡ carriedBy (lift k (unpacked l) x) l → x ≡ y → z ≡ carriedBy (lift k (unpacked l) y) l
+pub lifted-by : (k : C.Channel) (l : List ℕ) {x y : C.Change k} {z : Carried} → z ≡ carriedBy (lift k (unpacked l) x) l → x ≡ y
+    → z ≡ carriedBy (lift k (unpacked l) y) l
 lifted-by k l e f = e ∙ ap (λ (c : C.Change k). carriedBy (lift k (unpacked l) c) l) f
 
-pub set-unpacked : (l : List ℕ) (a v : ℕ) {s : State} {z : Carried} → z ≡ carriedBy (setConfiguration s a v) l → s ≡ unpacked l → z ≡ carriedBy (setConfiguration (unpacked l) a v) l
+pub set-unpacked : (l : List ℕ) (a v : ℕ) {s : State} {z : Carried} → z ≡ carriedBy (setConfiguration s a v) l → s ≡ unpacked l
+    → z ≡ carriedBy (setConfiguration (unpacked l) a v) l
 set-unpacked l a v e f = e ∙ ap (λ (t : State). carriedBy (setConfiguration t a v) l) f
 
 pub reset-unpacked : (l : List ℕ) {s : State} {l′ : List ℕ} → l′ ≡ kept (reset008h s) l → s ≡ unpacked l → l′ ≡ kept (reset008h (unpacked l)) l
@@ -118,7 +120,8 @@ module _ (l : List ℕ) (x : PeripheralChange) (h : Loadable l) (f : Stays (unpa
   unfolding lift unpacked
   said l′ e = ap (λ (z : List ℕ). peripheralStatus (peripheralIn z)) e ∙ go (eqb (x .out .number) 0) refl
     where
-      go : (t : Bool) → eqb (x .out .number) 0 ≡ t → peripheralStatus (peripheralIn (pick t (put 12 (peripheralBytes (x .next)) l) l)) ≡ peripheralStatus (x .next)
+      go : (t : Bool) → eqb (x .out .number) 0 ≡ t
+          → peripheralStatus (peripheralIn (pick t (put 12 (peripheralBytes (x .next)) l) l)) ≡ peripheralStatus (x .next)
       go true k = status-stored (x .next) l (omega (arith, h .long))
       go false k = ap (λ (s : State). peripheralStatus (s .peripheral)) (sym (f k))
 

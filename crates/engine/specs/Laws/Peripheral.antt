@@ -47,11 +47,13 @@ pub as-change : (l : List ℕ) {x y : PeripheralChange} {z : Changed} → z ≡ 
 as-change l e f = e ∙ ap (λ (c : PeripheralChange). changedBy peripheral c l) f
 
 -- refused: no byte is stored
-pub refused-there : (l l′ : List ℕ) (p : Peripheral) (o : Out) {x : PeripheralChange} → change p fatal ≡ x → o ≡ fatal → l′ ≡ l → changedTo o l′ ≡ changedBy peripheral x l
+pub refused-there : (l l′ : List ℕ) (p : Peripheral) (o : Out) {x : PeripheralChange} → change p fatal ≡ x → o ≡ fatal → l′ ≡ l
+    → changedTo o l′ ≡ changedBy peripheral x l
 refused-there l l′ p o e k m = as-change l (rw (k, m)) e
 
 -- accepted: the whole part is stored, whatever was put to store it
-pub stored-there : (l l′ : List ℕ) (q : Peripheral) (o o′ : Out) {x : PeripheralChange} → eqb (o′ .number) 0 ≡ true → change q o′ ≡ x → o ≡ o′ → l′ ≡ put 12 (peripheralBytes q) l
+pub stored-there : (l l′ : List ℕ) (q : Peripheral) (o o′ : Out) {x : PeripheralChange} → eqb (o′ .number) 0 ≡ true → change q o′ ≡ x → o ≡ o′
+    → l′ ≡ put 12 (peripheralBytes q) l
     → changedTo o l′ ≡ changedBy peripheral x l
 stored-there l l′ q o o′ n e k m =
     as-change l (ap (λ (z : Out). changedTo z l′) k ∙ ap (changedTo o′) (subst (λ (t : Bool). l′ ≡ pick t (put 12 (peripheralBytes q) l) l) (sym n) m)) e
@@ -63,7 +65,8 @@ module _ (c : Config) (h : reachable c ≡ true) where
   payload-there = payload-block (payloadSize (c .r010)) (payload-legal (c .r010) (reachable-r010 c h))
 
   -- a request made of its registers has sizes
-  pub request-sizes : (q : Request) (kind : Kind) (address length tag bytes : ℕ) → q ≡ requestOf c kind address length tag bytes → Block (q .payload) × Block (q .readsize)
+  pub request-sizes : (q : Request) (kind : Kind) (address length tag bytes : ℕ) → q ≡ requestOf c kind address length tag bytes
+      → Block (q .payload) × Block (q .readsize)
   request-sizes q kind address length tag bytes e = (
     subst (λ (z : Request). Block (z .payload)) (sym e) payload-there,
     subst (λ (z : Request). Block (z .readsize)) (sym e) (read-block (readSize (c .r010)) (read-legal (c .r010) (reachable-r010 c h))),
@@ -168,7 +171,8 @@ module _ (p : Peripheral) where
   hand-none [] e = refl
   hand-none (c ∷ cs) e = let z : _≡_ {A = ℕ} 0 1 = cc in absurd (omega arith)
 
-  hand-one : (cs : List Completion) (c : Completion) → firstOf cs ≡ One c → change (withRequest p (handed (p .request))) (accept (B.Piece c) K.Nothing) ≡ handing p cs
+  hand-one : (cs : List Completion) (c : Completion) → firstOf cs ≡ One c
+      → change (withRequest p (handed (p .request))) (accept (B.Piece c) K.Nothing) ≡ handing p cs
   hand-one [] c e = let z : _≡_ {A = ℕ} 0 1 = cc in absurd (omega arith)
   hand-one (x ∷ cs) c e =
       let f : c ≡ x = cc in

@@ -42,7 +42,8 @@ module _ (k : Channel) (s : State) where
   acts-stay a (L.Acts.accepted q body kept e f) = subst (Stays s) (sym (lift-change k s q _)) (λ t. absurd (true≢false t))
 
   pub acting-stays : (a : Act k) (x : Change k) → x ≡ acting k (s .config) (part k s) a → Stays s (lift k s x)
-  acting-stays a x e = subst (λ (z : Change k). Stays s (lift k s z)) (sym e) (acts-stay a (H.acts k (s .config) (part k s) a _ (did k (s .config) (part k s) a)))
+  acting-stays a x e =
+      subst (λ (z : Change k). Stays s (lift k s z)) (sym e) (acts-stay a (H.acts k (s .config) (part k s) a _ (did k (s .config) (part k s) a)))
 
   settles-stay : (o : Board k) {x : Change k} → Settles k (part k s) o x → Stays s (lift k s x)
   settles-stay o (L.Settles.refused n l m r v) = subst (Stays s) (sym (lift-stays k s (number n))) (λ e. refl)
@@ -91,14 +92,16 @@ module _ (k : Channel) (s : State) (x : Change k) (l : List ℕ) (h : Packs s l)
       go true e = part-stored s l l (unchanged s l h) k (nextOf k x)
       go false e = unchanged s l h ∙ ap (λ (z : State). kept z l) (sym (f e))
 
-  pub lift-carried : (l′ : List ℕ) (r : Reply) → l′ ≡ storedBy k (outOf k x .number) (nextOf k x) l → r ≡ withStatus (outOf k x .say) (status (put k (nextOf k x) s))
+  pub lift-carried : (l′ : List ℕ) (r : Reply) → l′ ≡ storedBy k (outOf k x .number) (nextOf k x) l
+      → r ≡ withStatus (outOf k x .say) (status (put k (nextOf k x) s))
       → carried (record { number = outOf k x .number; reply = r; kept = outOf k x .kept }) l′ ≡ carriedBy (lift k s x) l
   unfolding lift
   lift-carried l′ r es er = rw (es ∙ change-stored, er)
 
 -- ---- configuration: its bytes, then those of each channel that has an enableEdge
 
-edge-stored : (k : Channel) (s : State) (l₀ l : List ℕ) (was is : Bool) → l ≡ kept s l₀ → edgeStored k was is (part k s) l ≡ kept (put k (enableEdge k was is (part k s)) s) l₀
+edge-stored : (k : Channel) (s : State) (l₀ l : List ℕ) (was is : Bool) → l ≡ kept s l₀
+    → edgeStored k was is (part k s) l ≡ kept (put k (enableEdge k was is (part k s)) s) l₀
 edge-stored peripheral s l₀ l was is e = picked-stored s l₀ l e peripheral (was && not is) (dropped (s .peripheral))
 edge-stored wires s l₀ l was is e = go (was && not is)
   where
@@ -128,7 +131,8 @@ pub record Configured (s : State) (c : Config) (l : List ℕ) (was is : Channels
   bytes : m ≡ kept t l
 
 module _ {s : State} {c : Config} {l : List ℕ} {was is : Channels} {m : List ℕ} where
-  pub configured-start : was ≡ channelsOf (s .config) → is ≡ channelsOf c → Packs s l → m ≡ B.put 0 (configBytes c) l → Configured s c l was is (each (λ k q. q) c s) m
+  pub configured-start : was ≡ channelsOf (s .config) → is ≡ channelsOf c → Packs s l → m ≡ B.put 0 (configBytes c) l
+      → Configured s c l was is (each (λ k q. q) c s) m
   configured-start ew ei h e = record { before = ew; after = ei; bytes = e ∙ config-stored s l l (unchanged s l h) c }
 
   pub configured-then : {t : State} {n : List ℕ} (k : Channel) → n ≡ edgeStored k (isOn k was) (isOn k is) (part k t) m → Configured s c l was is t m

@@ -29,7 +29,8 @@ changed : {p q : Wires} {a b : Out} → p ≡ q → a ≡ b → change p a ≡ c
 changed {p} {q} {a} {b} e f = ap (λ (z : Wires). change z a) e ∙ ap (change q) f
 
 module _ (c : Config) (w : Wires) where
-  pub put-over-count : (n count : ℕ) (pairs : List ℕ) (r : WiresChange) → count ≡ operatingCount (c .r020) → ltb count n ≡ true → r ≡ change w fatal → r ≡ putVwire c w n pairs
+  pub put-over-count : (n count : ℕ) (pairs : List ℕ) (r : WiresChange) → count ≡ operatingCount (c .r020) → ltb count n ≡ true → r ≡ change w fatal
+      → r ≡ putVwire c w n pairs
   unfolding putVwire
   put-over-count n count pairs r e h k = taken _ _ (ap (λ (z : ℕ). ltb z n) (sym e) ∙ h) k
 
@@ -48,7 +49,8 @@ module _ (c : Config) (w : Wires) where
   send-list [] h = absurd (omega arith)
   send-list (k ∷ ks) h = refl
 
-  pub send-none : (any : Bool) (r : WiresChange) → soundWires (on1 (c .r020)) w ≡ true → any ≡ anyPending w → not any ≡ true → r ≡ change w fatal → r ≡ getVwire c w
+  pub send-none : (any : Bool) (r : WiresChange) → soundWires (on1 (c .r020)) w ≡ true → any ≡ anyPending w → not any ≡ true → r ≡ change w fatal
+      → r ≡ getVwire c w
   unfolding getVwire
   send-none any r sd e h k =
       let z = sound-view (on1 (c .r020)) w sd in

@@ -22,17 +22,36 @@ returns-2 c = passed _ _ (le-ltb _ _ (c .before .if1 .left)) (taken _ _ (lt-ltb 
 
 returns-3 : tie.Need-returns-3
 unfolding answerCall P.settle
-returns-3 c = passed _ _ (le-ltb _ _ (c .before .before .before .before .if1 .left)) (passed _ _ (le-ltb _ _ (c .before .before .before .if2 .left)) (taken _ _ (ok-is _ _ (c .before .holds .ensures) (c .if3 .taken)) refl))
+returns-3 c =
+    passed _ _ (le-ltb _ _ (c .before .before .before .before .if1 .left))
+    (passed _ _ (le-ltb _ _ (c .before .before .before .if2 .left)) (taken _ _ (ok-is _ _ (c .before .holds .ensures) (c .if3 .taken)) refl))
 
 answer-requires : tie.Need-answer-requires
-answer-requires c κs = loadable (now (c .before .before .before .before .before .before .before .before .before .args .state)) _ (c .before .before .holds .ensures) (omega arith) (c .before .if3 .left)
+answer-requires c κs =
+    loadable (now (c .before .before .before .before .before .before .before .before .before .args .state)) _ (c .before .before .holds .ensures)
+    (omega arith) (c .before .if3 .left)
 
 keep-requires : tie.Need-keep-requires
-keep-requires c κs = let a = c .before .before .before .before .before .before .before .before .before .before .before .before .before .args in let l = now (a .state) in let h = loadable l _ (c .before .before .before .before .before .before .holds .ensures) (omega arith) (c .before .before .before .before .before .if3 .left) in kept-wider (c .before .before .before .answer .result .kept) (length (now (a .bytes))) 4096 (length (now (a .read-store))) (omega arith) (answer-fits (unpacked l) (a .serial) (a .success) l _ (now (a .bytes)) (c .before .before .before .answer .result) (h .good) (c .before .before .before .answer .ensures))
+keep-requires c κs =
+    let a = c .before .before .before .before .before .before .before .before .before .before .before .before .before .args in let l = now (a .state) in
+    let h = loadable l _ (c .before .before .before .before .before .before .holds .ensures) (omega arith)
+    (c .before .before .before .before .before .if3 .left) in
+    kept-wider (c .before .before .before .answer .result .kept) (length (now (a .bytes))) 4096 (length (now (a .read-store))) (omega arith)
+    (answer-fits (unpacked l) (a .serial) (a .success) l _ (now (a .bytes)) (c .before .before .before .answer .result) (h .good)
+    (c .before .before .before .answer .ensures))
 
 returns-4 : tie.Need-returns-4
 unfolding answerCall P.settle
-returns-4 c = passed _ _ (le-ltb _ _ (c .before .before .before .before .before .before .before .before .before .before .before .before .before .if1 .left)) (passed _ _ (le-ltb _ _ (c .before .before .before .before .before .before .before .before .before .before .before .before .if2 .left)) (passed _ _ (ok-is _ _ (c .before .before .before .before .before .before .before .before .before .before .holds .ensures) (c .before .before .before .before .before .before .before .before .before .if3 .left)) (kept-by (now (c .before .before .before .before .before .before .before .before .before .before .before .before .before .before .before .before .before .args .state)) _ (c .before .before .before .before .before .before .before .answer .result) _ (now (c .before .before .before .before .before .before .before .before .before .before .before .before .before .before .before .before .before .args .bytes)) _ _ (c .before .before .before .before .before .before .before .answer .ensures) (c .before .before .before .keep .ensures))))
+returns-4 c =
+    passed _ _ (le-ltb _ _ (c .before .before .before .before .before .before .before .before .before .before .before .before .before .if1 .left))
+    (passed _ _ (le-ltb _ _ (c .before .before .before .before .before .before .before .before .before .before .before .before .if2 .left))
+    (passed _ _ (ok-is _ _ (c .before .before .before .before .before .before .before .before .before .before .holds .ensures)
+    (c .before .before .before .before .before .before .before .before .before .if3 .left))
+    (kept-by (now
+    (c .before .before .before .before .before .before .before .before .before .before .before .before .before .before .before .before .before .args .state))
+    _ (c .before .before .before .before .before .before .before .answer .result) _
+    (now (c .before .before .before .before .before .before .before .before .before .before .before .before .before .before .before .before .before .args
+    .bytes)) _ _ (c .before .before .before .before .before .before .before .answer .ensures) (c .before .before .before .keep .ensures))))
 
 pub espi-answer-spec : {M : Type 1} → statement M
 espi-answer-spec =

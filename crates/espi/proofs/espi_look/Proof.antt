@@ -20,23 +20,47 @@ returns-2 c = passed _ _ (le-ltb _ _ (c .before .if1 .left)) (taken _ _ (lt-ltb 
 
 returns-3 : tie.Need-returns-3
 unfolding lookCall
-returns-3 c = passed _ _ (le-ltb _ _ (c .before .before .before .if1 .left)) (passed _ _ (le-ltb _ _ (c .before .before .if2 .left)) (taken _ _ (ok-is _ _ (c .before .holds .ensures) (c .if3 .taken)) refl))
+returns-3 c =
+    passed _ _ (le-ltb _ _ (c .before .before .before .if1 .left))
+    (passed _ _ (le-ltb _ _ (c .before .before .if2 .left)) (taken _ _ (ok-is _ _ (c .before .holds .ensures) (c .if3 .taken)) refl))
 
 returns-4 : tie.Need-returns-4
 unfolding lookCall
-returns-4 c = passed _ _ (le-ltb _ _ (c .before .before .before .before .before .before .if1 .left)) (passed _ _ (le-ltb _ _ (c .before .before .before .before .before .if2 .left)) (passed _ _ (ok-is _ _ (c .before .before .before .before .holds .ensures) (c .before .before .before .if3 .left)) (looked-by (now (c .before .before .before .before .before .before .before .before .before .args .state)) _ _ 23 _ _ (c .before .before .unpack .ensures) (c .enum-told .given .1) refl (sym (over-none _)))))
+returns-4 c =
+    passed _ _ (le-ltb _ _ (c .before .before .before .before .before .before .if1 .left))
+    (passed _ _ (le-ltb _ _ (c .before .before .before .before .before .if2 .left))
+    (passed _ _ (ok-is _ _ (c .before .before .before .before .holds .ensures) (c .before .before .before .if3 .left))
+    (looked-by (now (c .before .before .before .before .before .before .before .before .before .args .state)) _ _ 23 _ _ (c .before .before .unpack .ensures)
+    (c .enum-told .given .1) refl (sym (over-none _)))))
 
 returns-5 : tie.Need-returns-5
 unfolding lookCall
-returns-5 c = passed _ _ (le-ltb _ _ (c .before .before .before .before .before .before .before .before .before .before .before .if1 .left)) (passed _ _ (le-ltb _ _ (c .before .before .before .before .before .before .before .before .before .before .if2 .left)) (passed _ _ (ok-is _ _ (c .before .before .before .before .before .before .before .before .before .holds .ensures) (c .before .before .before .before .before .before .before .before .if3 .left)) (looked-by (now (c .before .before .before .before .before .before .before .before .before .before .before .before .before .before .args .state)) _ _ 0 _ _ (c .before .before .before .before .before .before .before .unpack .ensures) (c .before .before .before .before .before .n .given .1) refl (c .before .before .put-request .ensures))))
+returns-5 c =
+    passed _ _ (le-ltb _ _ (c .before .before .before .before .before .before .before .before .before .before .before .if1 .left))
+    (passed _ _ (le-ltb _ _ (c .before .before .before .before .before .before .before .before .before .before .if2 .left))
+    (passed _ _ (ok-is _ _ (c .before .before .before .before .before .before .before .before .before .holds .ensures)
+    (c .before .before .before .before .before .before .before .before .if3 .left))
+    (looked-by (now (c .before .before .before .before .before .before .before .before .before .before .before .before .before .before .args .state)) _ _ 0 _
+    _ (c .before .before .before .before .before .before .before .unpack .ensures) (c .before .before .before .before .before .n .given .1) refl
+    (c .before .before .put-request .ensures))))
 
 returns-6 : tie.Need-returns-6
 unfolding lookCall
-returns-6 c = passed _ _ (le-ltb _ _ (c .before .before .before .before .before .before .if1 .left)) (passed _ _ (le-ltb _ _ (c .before .before .before .before .before .if2 .left)) (passed _ _ (ok-is _ _ (c .before .before .before .before .holds .ensures) (c .before .before .before .if3 .left)) (looked-by (now (c .before .before .before .before .before .before .before .before .before .args .state)) _ _ 23 _ _ (c .before .before .unpack .ensures) (c .enum-told2 .given .1) refl (sym (over-none _)))))
+returns-6 c =
+    passed _ _ (le-ltb _ _ (c .before .before .before .before .before .before .if1 .left))
+    (passed _ _ (le-ltb _ _ (c .before .before .before .before .before .if2 .left))
+    (passed _ _ (ok-is _ _ (c .before .before .before .before .holds .ensures) (c .before .before .before .if3 .left))
+    (looked-by (now (c .before .before .before .before .before .before .before .before .before .args .state)) _ _ 23 _ _ (c .before .before .unpack .ensures)
+    (c .enum-told2 .given .1) refl (sym (over-none _)))))
 
 returns-7 : tie.Need-returns-7
 unfolding lookCall
-returns-7 c = passed _ _ (le-ltb _ _ (c .before .before .before .before .before .before .if1 .left)) (passed _ _ (le-ltb _ _ (c .before .before .before .before .before .if2 .left)) (passed _ _ (ok-is _ _ (c .before .before .before .before .holds .ensures) (c .before .before .before .if3 .left)) (looked-by (now (c .before .before .before .before .before .before .before .before .before .args .state)) _ _ 23 _ _ (c .before .before .unpack .ensures) (c .enum-told3 .given .1) refl (sym (over-none _)))))
+returns-7 c =
+    passed _ _ (le-ltb _ _ (c .before .before .before .before .before .before .if1 .left))
+    (passed _ _ (le-ltb _ _ (c .before .before .before .before .before .if2 .left))
+    (passed _ _ (ok-is _ _ (c .before .before .before .before .holds .ensures) (c .before .before .before .if3 .left))
+    (looked-by (now (c .before .before .before .before .before .before .before .before .before .args .state)) _ _ 23 _ _ (c .before .before .unpack .ensures)
+    (c .enum-told3 .given .1) refl (sym (over-none _)))))
 
 pub espi-look-spec : {M : Type 1} → statement M
 espi-look-spec =

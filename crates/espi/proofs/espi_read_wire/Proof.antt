@@ -21,14 +21,25 @@ returns-2 c = passed _ _ (le-ltb _ _ (c .before .before .if1 .left)) (taken _ _ 
 
 returns-3 : tie.Need-returns-3
 unfolding readWireCall
-returns-3 c = passed _ _ (le-ltb _ _ (c .before .before .before .before .if1 .left)) (passed _ _ (ok-is _ _ (c .before .before .before .holds .ensures) (c .before .before .if2 .left)) (wire-refused (unpacked (now (c .before .before .before .before .before .before .args .state)) .wires) (c .before .before .before .before .before .before .args .index) (c .before .before .before .before .before .before .args .bit) _ (c .before .defined-bit .ensures) (c .if3 .taken)))
+returns-3 c =
+    passed _ _ (le-ltb _ _ (c .before .before .before .before .if1 .left))
+    (passed _ _ (ok-is _ _ (c .before .before .before .holds .ensures) (c .before .before .if2 .left))
+    (wire-refused (unpacked (now (c .before .before .before .before .before .before .args .state)) .wires)
+    (c .before .before .before .before .before .before .args .index) (c .before .before .before .before .before .before .args .bit) _
+    (c .before .defined-bit .ensures) (c .if3 .taken)))
 
 read-requires : tie.Need-read-requires
 read-requires c κs = sym (c .before .before .defined-bit .ensures) ∙ not-false _ (c .before .if3 .left)
 
 returns-4 : tie.Need-returns-4
 unfolding readWireCall
-returns-4 c = passed _ _ (le-ltb _ _ (c .before .before .before .before .before .before .if1 .left)) (passed _ _ (ok-is _ _ (c .before .before .before .before .before .holds .ensures) (c .before .before .before .before .if2 .left)) (wire-by (now (c .before .before .before .before .before .before .before .before .args .state)) _ (c .before .before .before .before .before .before .before .before .args .index) (c .before .before .before .before .before .before .before .before .args .bit) _ _ (c .before .unpack .ensures) (c .before .before .before .defined-bit .ensures) (c .before .before .if3 .left) (c .read .ensures)))
+returns-4 c =
+    passed _ _ (le-ltb _ _ (c .before .before .before .before .before .before .if1 .left))
+    (passed _ _ (ok-is _ _ (c .before .before .before .before .before .holds .ensures) (c .before .before .before .before .if2 .left))
+    (wire-by (now (c .before .before .before .before .before .before .before .before .args .state)) _
+    (c .before .before .before .before .before .before .before .before .args .index)
+    (c .before .before .before .before .before .before .before .before .args .bit) _ _ (c .before .unpack .ensures)
+    (c .before .before .before .defined-bit .ensures) (c .before .before .if3 .left) (c .read .ensures)))
 
 pub espi-read-wire-spec : {M : Type 1} → statement M
 espi-read-wire-spec =

@@ -19,11 +19,16 @@ unfolding setWireCall W.settle
 returns-2 c = passed _ _ (le-ltb _ _ (c .before .before .before .if1 .left)) (taken _ _ (ok-is _ _ (c .before .holds .ensures) (c .if2 .taken)) refl)
 
 set-wire-requires : tie.Need-set-wire-requires
-set-wire-requires c κs = loadable (now (c .before .before .before .before .before .before .args .state)) _ (c .before .before .holds .ensures) (omega arith) (c .before .if2 .left)
+set-wire-requires c κs =
+    loadable (now (c .before .before .before .before .before .before .args .state)) _ (c .before .before .holds .ensures) (omega arith) (c .before .if2 .left)
 
 returns-3 : tie.Need-returns-3
 unfolding setWireCall W.settle
-returns-3 c = passed _ _ (le-ltb _ _ (c .before .before .before .before .before .before .before .before .if1 .left)) (passed _ _ (ok-is _ _ (c .before .before .before .before .before .before .holds .ensures) (c .before .before .before .before .before .if2 .left)) (settled-by (now (c .before .before .before .before .before .before .before .before .before .before .args .state)) _ (c .before .before .before .set-wire .result) _ (c .before .before .before .set-wire .ensures)))
+returns-3 c =
+    passed _ _ (le-ltb _ _ (c .before .before .before .before .before .before .before .before .if1 .left))
+    (passed _ _ (ok-is _ _ (c .before .before .before .before .before .before .holds .ensures) (c .before .before .before .before .before .if2 .left))
+    (settled-by (now (c .before .before .before .before .before .before .before .before .before .before .args .state)) _
+    (c .before .before .before .set-wire .result) _ (c .before .before .before .set-wire .ensures)))
 
 pub espi-set-wire-spec : {M : Type 1} → statement M
 espi-set-wire-spec =

@@ -14,7 +14,11 @@ returns c = taken _ _ (lt-ltb _ _ (c .if1 .taken)) refl
 
 returns-2 : tie.Need-returns-2
 unfolding startCall
-returns-2 c = passed _ _ (le-ltb _ _ (c .before .before .before .before .before .if1 .left)) (ap (done 0) (c .before .before .pack .ensures ∙ ap (λ (z : State). kept z (now (c .before .before .before .before .before .before .before .args .state))) (c .before .before .before .before .fresh .ensures)))
+returns-2 c =
+    passed _ _ (le-ltb _ _ (c .before .before .before .before .before .if1 .left))
+    (ap (done 0)
+    (c .before .before .pack .ensures ∙ ap (λ (z : State). kept z (now (c .before .before .before .before .before .before .before .args .state)))
+    (c .before .before .before .before .fresh .ensures)))
 
 pub espi-start-spec : {M : Type 1} → statement M
 espi-start-spec = tie.close (tie.spec returns (λ c κs. search needs) (λ c κs. search needs) (λ c. search needs) returns-2)

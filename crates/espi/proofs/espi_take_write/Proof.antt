@@ -20,18 +20,36 @@ returns-2 c = passed _ _ (le-ltb _ _ (c .before .if1 .left)) (taken _ _ (lt-ltb 
 
 returns-3 : tie.Need-returns-3
 unfolding takeWriteCall P.settle
-returns-3 c = passed _ _ (le-ltb _ _ (c .before .before .if1 .left)) (passed _ _ (le-ltb _ _ (c .before .if2 .left)) (taken _ _ (lt-ltb _ _ (c .if3 .taken)) refl))
+returns-3 c =
+    passed _ _ (le-ltb _ _ (c .before .before .if1 .left)) (passed _ _ (le-ltb _ _ (c .before .if2 .left)) (taken _ _ (lt-ltb _ _ (c .if3 .taken)) refl))
 
 returns-4 : tie.Need-returns-4
 unfolding takeWriteCall P.settle
-returns-4 c = passed _ _ (le-ltb _ _ (c .before .before .before .before .before .if1 .left)) (passed _ _ (le-ltb _ _ (c .before .before .before .before .if2 .left)) (passed _ _ (le-ltb _ _ (c .before .before .before .if3 .left)) (taken _ _ (ok-is _ _ (c .before .holds .ensures) (c .if4 .taken)) refl)))
+returns-4 c =
+    passed _ _ (le-ltb _ _ (c .before .before .before .before .before .if1 .left))
+    (passed _ _ (le-ltb _ _ (c .before .before .before .before .if2 .left))
+    (passed _ _ (le-ltb _ _ (c .before .before .before .if3 .left)) (taken _ _ (ok-is _ _ (c .before .holds .ensures) (c .if4 .taken)) refl)))
 
 take-write-requires : tie.Need-take-write-requires
-take-write-requires c κs = loadable (now (c .before .before .before .before .before .before .before .before .before .before .before .before .args .state)) _ (c .before .before .before .before .holds .ensures) (omega arith) (c .before .before .before .if4 .left)
+take-write-requires c κs =
+    loadable (now (c .before .before .before .before .before .before .before .before .before .before .before .before .args .state)) _
+    (c .before .before .before .before .holds .ensures) (omega arith) (c .before .before .before .if4 .left)
 
 returns-5 : tie.Need-returns-5
 unfolding takeWriteCall P.settle
-returns-5 c = passed _ _ (le-ltb _ _ (c .before .before .before .before .before .before .before .before .before .before .before .before .before .before .before .before .if1 .left)) (passed _ _ (le-ltb _ _ (c .before .before .before .before .before .before .before .before .before .before .before .before .before .before .before .if2 .left)) (passed _ _ (le-ltb _ _ (c .before .before .before .before .before .before .before .before .before .before .before .before .before .before .if3 .left)) (passed _ _ (ok-is _ _ (c .before .before .before .before .before .before .before .before .before .before .before .before .holds .ensures) (c .before .before .before .before .before .before .before .before .before .before .before .if4 .left)) (taken-by (now (c .before .before .before .before .before .before .before .before .before .before .before .before .before .before .before .before .before .before .before .before .args .state)) _ (c .before .before .before .before .before .before .before .take-write .result) _ _ _ _ (c .before .before .before .before .before .before .before .before .before .unpack .ensures) (c .before .before .before .before .before .before .before .take-write .ensures) (c .before .before .before .put-write .ensures)))))
+returns-5 c =
+    passed _ _ (le-ltb _ _
+    (c .before .before .before .before .before .before .before .before .before .before .before .before .before .before .before .before .if1 .left))
+    (passed _ _ (le-ltb _ _
+    (c .before .before .before .before .before .before .before .before .before .before .before .before .before .before .before .if2 .left))
+    (passed _ _ (le-ltb _ _ (c .before .before .before .before .before .before .before .before .before .before .before .before .before .before .if3 .left))
+    (passed _ _ (ok-is _ _ (c .before .before .before .before .before .before .before .before .before .before .before .before .holds .ensures)
+    (c .before .before .before .before .before .before .before .before .before .before .before .if4 .left))
+    (taken-by (now
+    (c .before .before .before .before .before .before .before .before .before .before .before .before .before .before .before .before .before .before .before
+    .before .args .state)) _ (c .before .before .before .before .before .before .before .take-write .result) _ _ _ _
+    (c .before .before .before .before .before .before .before .before .before .unpack .ensures)
+    (c .before .before .before .before .before .before .before .take-write .ensures) (c .before .before .before .put-write .ensures)))))
 
 pub espi-take-write-spec : {M : Type 1} → statement M
 espi-take-write-spec =

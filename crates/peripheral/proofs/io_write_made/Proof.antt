@@ -11,7 +11,8 @@ bytes-fit-requires : tie.Need-bytes-fit-requires
 bytes-fit-requires c κs = io-short (c .before .before .before .args .q) (admitted (c .before .before .io-made .ensures) (c .before .if1 .left))
 
 returns-2 : tie.Need-returns-2
-returns-2 c = rw (c .before .within .ensures, c .bytes-fit .ensures) (goes-on _ (admitted (c .before .before .before .io-made .ensures) (c .before .before .if1 .left)))
+returns-2 c =
+    rw (c .before .within .ensures, c .bytes-fit .ensures) (goes-on _ (admitted (c .before .before .before .io-made .ensures) (c .before .before .if1 .left)))
 
 pub io-write-made-spec : {M : Type 1} → statement M
 io-write-made-spec =

@@ -4,10 +4,16 @@ use Rattle.peripheral.proofs.put_left.Statement.{statement}
 use Rattle.peripheral.proofs.put_left.Tie as tie
 
 returns : tie.Need-returns
-returns c = left-last (c .before .before .before .before .before .before .before .before .before .args .q) (c .before .before .before .before .before .before .before .before .before .args .gone) _ _ _ (c .before .before .put-at .ensures) (c .before .before .before .before .before .before .if1 .taken) (c .before .before .before .before .before .np-bytes .ensures)
+returns c =
+    left-last (c .before .before .before .before .before .before .before .before .before .args .q)
+    (c .before .before .before .before .before .before .before .before .before .args .gone) _ _ _ (c .before .before .put-at .ensures)
+    (c .before .before .before .before .before .before .if1 .taken) (c .before .before .before .before .before .np-bytes .ensures)
 
 returns-2 : tie.Need-returns-2
-returns-2 c = left-more (c .before .before .before .before .before .before .before .before .before .args .q) (c .before .before .before .before .before .before .before .before .before .args .gone) _ _ _ (c .before .before .put-at2 .ensures) (c .before .before .before .before .before .before .if1 .left) (c .before .before .before .before .before .request-bytes .ensures)
+returns-2 c =
+    left-more (c .before .before .before .before .before .before .before .before .before .args .q)
+    (c .before .before .before .before .before .before .before .before .before .args .gone) _ _ _ (c .before .before .put-at2 .ensures)
+    (c .before .before .before .before .before .before .if1 .left) (c .before .before .before .before .before .request-bytes .ensures)
 
 pub put-left-spec : {M : Type 1} → statement M
 put-left-spec =

@@ -11,7 +11,9 @@ returns : tie.Need-returns
 returns c = stops _ (refused (c .before .request-made .ensures) (c .if1 .taken))
 
 sent-right-requires : tie.Need-sent-right-requires
-sent-right-requires c κs = let l = request-made (c .before .before .args .q) (admitted (c .before .request-made .ensures) (c .if1 .left)) .payload in record { least = omega (arith, l .least); divides = l .divides }
+sent-right-requires c κs =
+    let l = request-made (c .before .before .args .q) (admitted (c .before .request-made .ensures) (c .if1 .left)) .payload in
+    record { least = omega (arith, l .least); divides = l .divides }
 
 returns-2 : tie.Need-returns-2
 returns-2 c = c .sent-right .ensures ∙ goes-on _ (admitted (c .before .before .request-made .ensures) (c .before .if1 .left))

@@ -11,15 +11,21 @@ returns c = phase-at (c .before .before .before .before .args .b .now) _ 0 (c .b
 
 returns-2 : tie.Need-returns-2
 unfolding soundRequest
-returns-2 c = phase-at (c .before .before .before .before .before .before .before .before .args .b .now) _ 1 (c .before .before .before .before .before .match .keys2) (rw (c .request-made .ensures, c .before .request-in .ensures, c .before .before .unsent .ensures, c .before .before .before .get4 .ensures))
+returns-2 c =
+    phase-at (c .before .before .before .before .before .before .before .before .args .b .now) _ 1 (c .before .before .before .before .before .match .keys2)
+    (rw (c .request-made .ensures, c .before .request-in .ensures, c .before .before .unsent .ensures, c .before .before .before .get4 .ensures))
 
 returns-3 : tie.Need-returns-3
 unfolding soundRequest
-returns-3 c = phase-at (c .before .before .before .before .before .before .before .args .b .now) _ 2 (c .before .before .before .before .match .keys3) (rw (c .ready-made .ensures, c .before .get42 .ensures, c .before .before .request-in2 .ensures))
+returns-3 c =
+    phase-at (c .before .before .before .before .before .before .before .args .b .now) _ 2 (c .before .before .before .before .match .keys3)
+    (rw (c .ready-made .ensures, c .before .get42 .ensures, c .before .before .request-in2 .ensures))
 
 returns-4 : tie.Need-returns-4
 unfolding soundRequest
-returns-4 c = phase-at (c .before .before .before .before .before .before .before .before .args .b .now) _ 3 (c .before .before .before .before .before .match .keys4) (rw (c .request-made2 .ensures, c .before .request-in3 .ensures, c .before .before .unsent2 .ensures, c .before .before .before .get43 .ensures))
+returns-4 c =
+    phase-at (c .before .before .before .before .before .before .before .before .args .b .now) _ 3 (c .before .before .before .before .before .match .keys4)
+    (rw (c .request-made2 .ensures, c .before .request-in3 .ensures, c .before .before .unsent2 .ensures, c .before .before .before .get43 .ensures))
 
 returns-5 : tie.Need-returns-5
 returns-5 c = let m = c .match .rest in phase-rest (c .before .before .before .args .b .now) (m .0 .0 .0 .1) (m .0 .0 .1) (m .0 .1) (m .1)

@@ -11,13 +11,22 @@ returns : tie.Need-returns
 returns c = stops _ (refused (c .before .payload-legal .ensures) (c .if1 .taken))
 
 returns-2 : tie.Need-returns-2
-returns-2 c = stops _ (refused (c .before .read-legal .ensures) (c .if2 .taken)) ∙ goes-on _ (admitted (c .before .before .before .payload-legal .ensures) (c .before .before .if1 .left))
+returns-2 c =
+    stops _ (refused (c .before .read-legal .ensures) (c .if2 .taken)) ∙ goes-on _
+    (admitted (c .before .before .before .payload-legal .ensures) (c .before .before .if1 .left))
 
 made-as-requires : tie.Need-made-as-requires
-made-as-requires c κs = (payload-block (c .before .before .before .before .args .q .payload) (admitted (c .before .before .before .payload-legal .ensures) (c .before .before .if1 .left)), read-block (c .before .before .before .before .args .q .readsize) (admitted (c .before .read-legal .ensures) (c .if2 .left)))
+made-as-requires c κs = (
+  payload-block (c .before .before .before .before .args .q .payload)
+      (admitted (c .before .before .before .payload-legal .ensures) (c .before .before .if1 .left)),
+  read-block
+      (c .before .before .before .before .args .q .readsize) (admitted (c .before .read-legal .ensures) (c .if2 .left)),
+)
 
 returns-3 : tie.Need-returns-3
-returns-3 c = c .made-as .ensures ∙ goes-on _ (admitted (c .before .before .read-legal .ensures) (c .before .if2 .left)) ∙ goes-on _ (admitted (c .before .before .before .before .payload-legal .ensures) (c .before .before .before .if1 .left))
+returns-3 c =
+    c .made-as .ensures ∙ goes-on _ (admitted (c .before .before .read-legal .ensures) (c .before .if2 .left)) ∙ goes-on _
+    (admitted (c .before .before .before .before .payload-legal .ensures) (c .before .before .before .if1 .left))
 
 pub request-made-spec : {M : Type 1} → statement M
 request-made-spec =

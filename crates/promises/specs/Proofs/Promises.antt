@@ -235,7 +235,11 @@ pub read-answered : P.ReadAnswered
 read-answered v b r xs serial success d ys a is size =
     let k = demand3 .read (worldOf v) b r xs serial success d ys (answered-state a) is size in
     let e = got-at (after a) ys (a .handedSince) in
-    record { pieces = deliver-at (after a) ys (a .handedSince) _ _ (k .pieces); whole = λ n. ap D.joinedData e ∙ k .whole (ap length (sym e) ∙ n) }
+    record {
+      few = k .few;
+      pieces = deliver-at (after a) ys (a .handedSince) _ _ (k .pieces);
+      whole = λ n. ap D.joinedData e ∙ k .whole (ap length (sym e) ∙ n);
+    }
 
 pub failure-answered : P.FailureAnswered
 failure-answered v b r xs serial success d ys a bad =

@@ -111,6 +111,7 @@ pub record Delivers (N : ℕ) (body : ℕ → List ℕ) (v : ByteWorld) (cs : Li
   pub last : (c : Call) → handedOver c ≡ true → byteEvent (byteRun v cs) c ≡ gets → length (byteGot v cs) + 1 ≡ N → Over (byteStep (byteRun v cs) c)
 
 pub record HandsOver (A L P tag : ℕ) (d : List ℕ) (v : ByteWorld) (cs : List Call) : Type 0 where
+  pub few : (1 ≤ blocks A L P) × (blocks A L P ≤ 64)
   pub pieces : Delivers (blocks A L P) (pieceBody A L P tag d) v cs
   pub whole : length (byteGot v cs) ≡ blocks A L P → joinedData (byteGot v cs) ≡ d
 

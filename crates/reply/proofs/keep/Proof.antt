@@ -10,7 +10,10 @@ use Rattle.reply.proofs.keep.Statement.{statement}
 use Rattle.reply.proofs.keep.Tie as tie
 
 keep-data-requires : tie.Need-keep-data-requires
-keep-data-requires c κs = let a = c .before .before .before .before .before .before .args in let f = subst (λ (z : Kept). KeptFits z (length (now (a .src))) (length (now (a .dst)))) (c .before .before .k .given .1) (c .before .before .before .before .before .before .pre) in (f .most, f .there)
+keep-data-requires c κs =
+    let a = c .before .before .before .before .before .before .args in
+    let f = subst (λ (z : Kept). KeptFits z (length (now (a .src))) (length (now (a .dst)))) (c .before .before .k .given .1)
+    (c .before .before .before .before .before .before .pre) in (f .most, f .there)
 
 returns : tie.Need-returns
 returns c = by-kept _ _ _ _ _ (c .enum-told .given .1) (sym (over-none _))

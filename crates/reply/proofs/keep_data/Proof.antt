@@ -8,7 +8,9 @@ use Rattle.reply.proofs.keep_data.Statement.{statement}
 use Rattle.reply.proofs.keep_data.Tie as tie
 
 returns : tie.Need-returns
-returns c = let a = c .before .before .before .before .before .before .before .args in data-by (now (a .dst)) _ (now (a .src)) _ (a .at) (a .n) (omega arith) (tail-lent (a .at) (now (a .src))) (c .before .before .copy-in .ensures)
+returns c =
+    let a = c .before .before .before .before .before .before .before .args in
+    data-by (now (a .dst)) _ (now (a .src)) _ (a .at) (a .n) (omega arith) (tail-lent (a .at) (now (a .src))) (c .before .before .copy-in .ensures)
 
 pub keep-data-spec : {M : Type 1} → statement M
 keep-data-spec =

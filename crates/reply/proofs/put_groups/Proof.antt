@@ -42,40 +42,66 @@ element-copy-out-put-pair : tie.Need-element-copy-out-put-pair Inv-loop μ-loop
 element-copy-out-put-pair c = let l = c .before .before .before .before .before .before .loop in omega (arith, up-group (l .g .group) (l .inv .0) .upto)
 
 put-pair-requires : tie.Need-put-pair-requires Inv-loop μ-loop
-put-pair-requires c κs = let s = c .before .before .before .before .before .before .before .before .before .before .before .before .before .before .before .before .before in
+put-pair-requires c κs =
+    let s = c .before .before .before .before .before .before .before .before .before .before .before .before .before .before .before .before .before in
     let l = c .before .before .before .before .before .before .before .loop in (
-      omega (arith, s .pre .0, l .inv .1, l .inv .2 .end, pairs-small (s .args .t3) (s .args .p) (c .before .before .before .before .before .before .before .before .go-round .result) (c .before .before .before .before .before .before .before .before .go-round .ensures) (s .pre .1 .most)),
+      omega (
+        arith,
+        s .pre .0,
+        l .inv .1,
+        l .inv .2 .end,
+        pairs-small (s .args .t3) (s .args .p)
+            (c .before .before .before .before .before .before .before .before .go-round .result)
+            (c .before .before .before .before .before .before .before .before .go-round .ensures) (s .pre .1 .most),
+      ),
       l .inv .0,
       s .pre .1 .small (l .g .group) (l .inv .0),
     )
 
 past-requires : tie.Need-past-requires Inv-loop μ-loop
-past-requires c κs = let l = c .before .before .before .before .before .before .before .before .before .before .loop in (l .inv .0, goes-on (l .g) (c .before .before .before .before .before .before .before .if1 .taken) .left)
+past-requires c κs =
+    let l = c .before .before .before .before .before .before .before .before .before .before .loop in
+    (l .inv .0, goes-on (l .g) (c .before .before .before .before .before .before .before .if1 .taken) .left)
 
 loop-less : tie.Need-loop-less Inv-loop μ-loop
 loop-less c = let l = c .before .before .before .before .before .before .before .before .before .before .before .loop in
-    let w = c .before .before .before .before .before .before .before .before .before .before .before .before .before .before .before .before .before .before .before .before .before .args .t3 in
-    gone-less w (l .g) _ (l .inv .0) (goes-on (l .g) (c .before .before .before .before .before .before .before .before .if1 .taken) .left) (past-at w (l .g) _ refl (c .past .ensures))
+    let w = c .before .before .before .before .before .before .before .before .before .before .before .before .before .before .before .before .before .before
+    .before .before .before .args .t3 in
+    gone-less w (l .g) _ (l .inv .0) (goes-on (l .g) (c .before .before .before .before .before .before .before .before .if1 .taken) .left)
+    (past-at w (l .g) _ refl (c .past .ensures))
 
 loop-again : tie.Need-loop-again Inv-loop μ-loop
-loop-again c = let s = c .before .before .before .before .before .before .before .before .before .before .before .before .before .before .before .before .before .before .before .before .before in
+loop-again c =
+    let s = c .before .before .before .before .before .before .before .before .before .before .before .before .before .before .before .before .before .before
+    .before .before .before in
     let l = c .before .before .before .before .before .before .before .before .before .before .before .loop in
     let w = s .args .t3 in
     let m = goes-on (l .g) (c .before .before .before .before .before .before .before .before .if1 .taken) .left in
     let e = past-at w (l .g) _ refl (c .past .ensures) in
     let q = pair-is w (l .g) _ (l .inv .0) refl in
     let n = c .before .before .before .put-pair .ensures in
-    let fit = pairs-small w (s .args .p) (c .before .before .before .before .before .before .before .before .before .before .before .before .go-round .result) (c .before .before .before .before .before .before .before .before .before .before .before .before .go-round .ensures) (s .pre .1 .most) in
-    let room : l .at ≤ length (l .reply) = omega (arith, s .pre .0, l .inv .1, l .inv .2 .end, fit, c .before .before .before .before .before .before .before .before .before .before .before .before .before .before .before .reply .given) in (
+    let fit = pairs-small w (s .args .p) (c .before .before .before .before .before .before .before .before .before .before .before .before .go-round .result)
+    (c .before .before .before .before .before .before .before .before .before .before .before .before .go-round .ensures) (s .pre .1 .most) in
+    let room : l .at ≤ length (l .reply) = omega (
+      arith,
+      s .pre .0,
+      l .inv .1,
+      l .inv .2 .end,
+      fit,
+      c .before .before .before .before .before .before .before .before .before .before .before .before
+          .before .before .before .reply .given,
+    ) in (
       ap (λ (g : Going). isUp (g .group)) e ∙ step w (l .g) (l .inv .0) m .up,
       search needs,
-      written-next w (l .g) _ (l .at) _ _ _ _ _ (l .inv .0) m room (n .0 ∙ ap (λ (us : List ℕ). put (l .at) us (l .reply)) q) (n .1 ∙ ap (λ (us : List ℕ). l .at + length us) q) e (l .inv .2),
+      written-next w (l .g) _ (l .at) _ _ _ _ _ (l .inv .0) m room (n .0 ∙ ap (λ (us : List ℕ). put (l .at) us (l .reply)) q)
+          (n .1 ∙ ap (λ (us : List ℕ). l .at + length us) q) e (l .inv .2),
     )
 
 returns : tie.Need-returns Inv-loop μ-loop
 returns c = let s = c .before .before .before .before .before .before .before .before .before .before .before .before .before in
     let l = c .before .before .before .loop in
-    let f = written-first (s .args .t3) (s .args .p) (c .before .before .before .before .go-round .result) (s .args .code) _ _ (c .before .before .before .before .go-round .ensures) (c .before .before .before .before .before .before .before .before .put-at .ensures) in
+    let f = written-first (s .args .t3) (s .args .p) (c .before .before .before .before .go-round .result) (s .args .code) _ _
+    (c .before .before .before .before .go-round .ensures) (c .before .before .before .before .before .before .before .before .put-at .ensures) in
     written-whole (s .args .t3) (s .args .p) (l .g) (s .args .code) (l .at) _ _ (s .pre .1 .most) (full (s .args .t3) (l .g) (c .if1 .left))
     (record { rest = l .inv .2 .rest ∙ f .rest; end = l .inv .2 .end ∙ f .end })
 

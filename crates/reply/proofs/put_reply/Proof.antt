@@ -12,7 +12,13 @@ use Rattle.reply.proofs.put_reply.Statement.{statement}
 use Rattle.reply.proofs.put_reply.Tie as tie
 
 say-requires : tie.Need-say-requires
-say-requires c κs = (c .before .before .before .before .before .before .before .pre .0, c .before .before .before .before .before .before .before .pre .1, subst (λ (z : Reply). ReplyFits z (wiresOf (c .before .before .before .before .before .before .before .args .w))) (c .before .before .before .r .given .1) (c .before .before .before .before .before .before .before .pre .2))
+say-requires c κs = (
+  c .before .before .before .before .before .before .before .pre .0,
+  c .before .before .before .before .before .before .before .pre .1,
+  subst
+      (λ (z : Reply). ReplyFits z (wiresOf (c .before .before .before .before .before .before .before .args .w))) (c .before .before .before .r .given .1)
+      (c .before .before .before .before .before .before .before .pre .2),
+)
 
 returns : tie.Need-returns
 unfolding replyBytes
@@ -20,7 +26,9 @@ returns c = by-reply _ _ _ _ _ _ _ (c .enum-told .given .1) (sym (over-none _), 
 
 returns-2 : tie.Need-returns-2
 unfolding replyBytes
-returns-2 c = by-reply _ _ _ _ _ _ _ (c .before .before .before .before .before .before .r .given .1) (rw (c .before .before .before .response-byte .ensures) at (c .before .before .say .ensures))
+returns-2 c =
+    by-reply _ _ _ _ _ _ _ (c .before .before .before .before .before .before .r .given .1)
+    (rw (c .before .before .before .response-byte .ensures) at (c .before .before .say .ensures))
 
 pub put-reply-spec : {M : Type 1} → statement M
 put-reply-spec =

@@ -11,7 +11,10 @@ returns : tie.Need-returns
 returns c = sym (over-none _) ∙ ap (λ (z : Write). over (takeReport z) (now (c .before .before .before .args .report))) (sym (c .enum-told .given .1))
 
 returns-2 : tie.Need-returns-2
-returns-2 c = c .before .before .put-posted .ensures ∙ ap (λ (z : Write). over (takeReport z) (now (c .before .before .before .before .before .before .before .before .args .report))) (sym (c .before .before .before .before .before .w .given .1))
+returns-2 c =
+    c .before .before .put-posted .ensures ∙ ap
+    (λ (z : Write). over (takeReport z) (now (c .before .before .before .before .before .before .before .before .args .report)))
+    (sym (c .before .before .before .before .before .w .given .1))
 
 pub put-write-spec : {M : Type 1} → statement M
 put-write-spec =

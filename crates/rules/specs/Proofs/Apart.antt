@@ -222,7 +222,8 @@ module _ (x : Channel) (w v : World) (h : Alike x w v) where
 
     -- its change is the same in both
     acting-alike : (o : Command k) (b : List ℕ)
-        → acting k (w .state .config) (part k (w .state)) (actOf k (w .state .config) o b) ≡ acting k (v .state .config) (part k (v .state)) (actOf k (v .state .config) o b)
+        → acting k (w .state .config) (part k (w .state)) (actOf k (w .state .config) o b) ≡ acting k (v .state .config) (part k (v .state))
+        (actOf k (v .state .config) o b)
     acting-alike o b =
         ap (λ (c : Config). acting k c (part k (w .state)) (actOf k c o b)) (h .state .config)
         ∙ ap (λ (p : Part k). acting k (v .state .config) p (actOf k (v .state .config) o b)) (h .state .parts k other)
@@ -237,12 +238,14 @@ module _ (x : Channel) (w v : World) (h : Alike x w v) where
     unfolding served seen
     settled-together o q out n =
         subst (λ (p : Plan). Together x (served k w o p) (served k v o (lift k (v .state) (change k q out)))) (sym (lift-change k (w .state) q out))
-        (subst (λ (p : Plan). Together x (served k w o (planned (put k q (w .state)) out)) (served k v o p)) (sym (lift-change k (v .state) q out)) both-settled)
+        (subst (λ (p : Plan). Together x (served k w o (planned (put k q (w .state)) out)) (served k v o p)) (sym (lift-change k (v .state) q out))
+        both-settled)
       where
         both-settled : Together x (served k w o (planned (put k q (w .state)) out)) (served k v o (planned (put k q (v .state)) out))
         both-settled =
             record {
-              alike = ap (λ (p : Part k). record { number = out .number; value = valueOf k p o; report = reportOf k p o; reply = [] }) (h .state .parts k other);
+              alike =
+                  ap (λ (p : Part k). record { number = out .number; value = valueOf k p o; report = reportOf k p o; reply = [] }) (h .state .parts k other);
               next = record {
                 state = put-alike x k q (w .state) (v .state) (h .state);
                 stores = λ y f. owns y .answered (keptBytes (out .kept) (given k o)) (w .write) (w .read) (v .write) (v .read) (h .stores y f);
@@ -330,7 +333,8 @@ module _ (k : Channel) (w : World) where
       }
     where
       long : ltb (length (over (keptBytes (outOf k c .kept) b) (w .write))) writeLength ≡ ltb (length (w .write)) writeLength
-      long = over-long _ (w .write) writeLength (middle (ltb (length r) replyLength) (ltb (length (w .write)) writeLength) (ltb (length (w .read)) readLength) s)
+      long =
+          over-long _ (w .write) writeLength (middle (ltb (length r) replyLength) (ltb (length (w .write)) writeLength) (ltb (length (w .read)) readLength) s)
 
       kept-own : {p : Part k} {a : Act k} {c : Change k} → Acts k p a c → ownKept k (outOf k c .kept) ≡ true
       kept-own {p = p} L.Acts.refused = ap (λ (out : Out). ownKept k (out .kept)) (out-change k p _) ∙ owns k .nothing

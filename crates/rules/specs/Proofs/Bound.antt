@@ -164,7 +164,8 @@ module _ (w : World) (sound : Sound (w .state)) (g : ℕ) (below : g < senders) 
   moves : {k : WireEvent} → wireEvent w c ≡ k → WireMove w c (step w c) k → isEnd k ≡ false → Moves machine senders g w c
   moves q (still e) n = stays (ap isGets q) (ap (λ (v : Wires). senderOf (v .place)) e) (rw e marked)
   moves q (put b r x e) n =
-      stays (ap isGets q) (ap (λ (v : Wires). senderOf (v .place)) e ∙ ap senderOf (put-place (wiresOf w) (pairs b))) (rw (e, put-marks (wiresOf w) (pairs b)) marked)
+      stays (ap isGets q) (ap (λ (v : Wires). senderOf (v .place)) e ∙ ap senderOf (put-place (wiresOf w) (pairs b)))
+      (rw (e, put-marks (wiresOf w) (pairs b)) marked)
   moves q (sent k ks e f h) n =
       let s = wires-sound w sound in
       let l = G.sent (wiresOf w) (countOf w) in
@@ -177,17 +178,20 @@ module _ (w : World) (sound : Sound (w .state)) (g : ℕ) (below : g < senders) 
   moves q (set i bit value x y e) n = stays (ap isGets q) (ap (λ (v : Wires). senderOf (v .place)) e) (rw e (marked-set i bit value))
   moves q (enabled b r x e f) n =
       let u = sender-group g below in
-      absurd (true≢false (sym (wires-sound w sound .marks (groupAt g) (omega (arith, u .from)) (omega (arith, u .upto)) marked .1) ∙ switched-off (w .state) b e))
+      absurd (true≢false
+      (sym (wires-sound w sound .marks (groupAt g) (omega (arith, u .from)) (omega (arith, u .upto)) marked .1) ∙ switched-off (w .state) b e))
   moves q (disabled e) n = absurd (true≢false n)
   moves q (wiped e) n = absurd (true≢false n)
   moves q (platformWiped e) n = absurd (true≢false n)
 
-all-move : (cs : List Call) (w : World) (g : ℕ) → g < senders → Sound (w .state) → allHanded cs ≡ true → unended wires w cs ≡ true → AllMove machine senders g w cs
+all-move : (cs : List Call) (w : World) (g : ℕ) → g < senders → Sound (w .state) → allHanded cs ≡ true → unended wires w cs ≡ true
+    → AllMove machine senders g w cs
 unfolding allHanded
 all-move [] w g b s h q = over
 all-move (c ∷ cs) w g b s h q =
     calls (λ m. moves w s g b c m refl (wire-view w c) (no-end w c (head-unended wires w c cs q)))
-    (all-move cs (step w c .next) g b (sound-step w c s (and-left (handedOver c) (allHanded cs) h)) (and-right (handedOver c) (allHanded cs) h) (tail-unended wires w c cs q))
+    (all-move cs (step w c .next) g b (sound-step w c s (and-left (handedOver c) (allHanded cs) h)) (and-right (handedOver c) (allHanded cs) h)
+    (tail-unended wires w c cs q))
 
 -- ---- so its bound is that of the machine
 

@@ -42,7 +42,8 @@ command-row : (k : Channel) (s : State) (b : List ℕ) (o : Command k) (x : Chan
 command-row peripheral s b o x e d = P.command-row (s .config) (s .peripheral) b d (reads s b (C.Peripheral o) e)
 command-row wires s b o x e d = W.command-row d (reads s b (C.Wires o) e)
 
-board-row : (k : Channel) (c : Config) (p : Part k) (o : Board k) (x : Change k) → Settled k c p o x → Becomes k (boardPart k c p o) (boardRead k o) (given k o) x
+board-row : (k : Channel) (c : Config) (p : Part k) (o : Board k) (x : Change k) → Settled k c p o x
+    → Becomes k (boardPart k c p o) (boardRead k o) (given k o) x
 board-row peripheral c p o x d = P.board-row d
 board-row wires c p o x d = W.board-row d
 

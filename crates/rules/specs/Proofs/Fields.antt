@@ -21,11 +21,13 @@ one Q op k q else = go (eqb op k) refl
     go false e = else e
 
 -- four values from a multiple of 4 on, without three of them
-no-short : (a : Access) (width : ℕ) (writes : Bool) (op q : ℕ) (rest : Listed) → eqb op (4 * q) ≡ false → eqb op (4 * q + 1) ≡ false → eqb op (4 * q + 3) ≡ false
+no-short : (a : Access) (width : ℕ) (writes : Bool) (op q : ℕ) (rest : Listed) → eqb op (4 * q) ≡ false → eqb op (4 * q + 1) ≡ false
+    → eqb op (4 * q + 3) ≡ false
     → Unlisted ≡ rest → Unlisted ≡ pick (eqb (op / 4) q) (short a width writes (op % 4)) rest
 no-short a n w op q rest e0 e1 e3 r =
     pick-ind (λ (l : Listed). Unlisted ≡ l) (eqb (op / 4) q)
-    (λ e. let two : op % 4 ≡ 2 = omega (arith, eqb-true (op / 4) q e, eqb-false op (4 * q) e0, eqb-false op (4 * q + 1) e1, eqb-false op (4 * q + 3) e3) in sym (ap (short a n w) two))
+    (λ e. let two : op % 4 ≡ 2 = omega (arith, eqb-true (op / 4) q e, eqb-false op (4 * q) e0, eqb-false op (4 * q + 1) e1, eqb-false op (4 * q + 3) e3) in
+    sym (ap (short a n w) two))
     (λ _. r)
 
 -- what holds at each listed opcode and at every other byte holds at all
@@ -52,9 +54,11 @@ by-opcode Q q00 q01 q02 q04 q05 q21 q22 q25 qFF q40 q41 q43 q44 q45 q47 q48 q49 
 -- ---- the opcodes of a kind
 
 pub by-posted : (Q : ℕ → Type 0) → Q 0x00 → Q 0x4C → Q 0x4D → Q 0x4F → (op : ℕ) → isPosted op ≡ true → Q op
-by-posted Q a b c d op h = one Q op 0x00 a λ e0. one Q op 0x4C b λ e1. one Q op 0x4D c λ e2. one Q op 0x4F d λ e3. absurd (true≢false (sym h ∙ simp (e0, e1, e2, e3)))
+by-posted Q a b c d op h =
+    one Q op 0x00 a λ e0. one Q op 0x4C b λ e1. one Q op 0x4D c λ e2. one Q op 0x4F d λ e3. absurd (true≢false (sym h ∙ simp (e0, e1, e2, e3)))
 
-pub by-asked : (Q : ℕ → Type 0) → Q 0x02 → Q 0x40 → Q 0x41 → Q 0x43 → Q 0x44 → Q 0x45 → Q 0x47 → Q 0x48 → Q 0x49 → Q 0x4B → (op : ℕ) → isNonPosted op ≡ true → Q op
+pub by-asked : (Q : ℕ → Type 0) → Q 0x02 → Q 0x40 → Q 0x41 → Q 0x43 → Q 0x44 → Q 0x45 → Q 0x47 → Q 0x48 → Q 0x49 → Q 0x4B → (op : ℕ) → isNonPosted op ≡ true
+    → Q op
 by-asked Q a b c d e f g i j k op h =
     one Q op 0x02 a λ e0. one Q op 0x40 b λ e1. one Q op 0x41 c λ e2. one Q op 0x43 d λ e3. one Q op 0x44 e λ e4. one Q op 0x45 f λ e5. one Q op 0x47 g λ e6.
     one Q op 0x48 i λ e7. one Q op 0x49 j λ e8. one Q op 0x4B k λ e9. absurd (true≢false (sym h ∙ simp (e0, e1, e2, e3, e4, e5, e6, e7, e8, e9)))

@@ -46,7 +46,8 @@ body-length (B.Groups p) w reads f = omega (arith, packet-length w p, f .most)
 pub reply-length : (r : Reply) (w : Wires) (reads : List ℕ) → ReplyFits r w → length (replyBytes r w reads) ≤ 263
 unfolding replyBytes
 reply-length Silent w reads f = omega arith
-reply-length (Said response body status) w reads f = omega (arith, closed-length (responseByte response ∷ bodyBytes body w reads) status, body-length body w reads f)
+reply-length (Said response body status) w reads f =
+    omega (arith, closed-length (responseByte response ∷ bodyBytes body w reads) status, body-length body w reads f)
 
 -- ---- an exchange's plan
 
@@ -61,7 +62,8 @@ lift-fits k s x m f = record { reply = with-status (outOf k x .say) _ (s .wires)
 module _ (s : State) (h : sound s ≡ true) where
   acts-fit : (b : List ℕ) (k : Channel) (o : Command k) (x : Change k) → N.Admits s b (N.commandOf k o)
       → Did k (s .config) (part k s) (actOf k (s .config) o b) x → OutFits (length b) (s .wires) (outOf k x)
-  acts-fit b peripheral o x e d = P₁.acts-fit (length b) (s .wires) (sound-config s h) (sound-request s h) d (P₁.data-there (D.reads s b (N.commandOf peripheral o) e))
+  acts-fit b peripheral o x e d =
+      P₁.acts-fit (length b) (s .wires) (sound-config s h) (sound-request s h) d (P₁.data-there (D.reads s b (N.commandOf peripheral o) e))
   acts-fit b wires o x e d = W.fits (length b) (sound-wires s h) d
 
   planned-fits : {b : List ℕ} {p : Plan} → Planned s b p → PlanFits (length b) (s .wires) p

@@ -44,7 +44,8 @@ put-both Q peripheral p q s t h g = by-channel (λ y. Q y (part y (put periphera
 put-both Q wires p q s t h g = by-channel (λ y. Q y (part y (put wires p s)) (part y (put wires q t))) (g peripheral) h
 
 -- of one state: what holds of a new part and of every part before holds of every part after
-pub put-each : (Q : (j : Channel) → Part j → Type 0) (k : Channel) (q : Part k) (s : State) → Q k q → ((j : Channel) → Q j (part j s)) → (j : Channel) → Q j (part j (put k q s))
+pub put-each : (Q : (j : Channel) → Part j → Type 0) (k : Channel) (q : Part k) (s : State) → Q k q → ((j : Channel) → Q j (part j s)) → (j : Channel)
+    → Q j (part j (put k q s))
 put-each Q k q s h e = put-both (λ (j : Channel) (a b : Part j). Q j a) k q q s s h e
 
 pub part-each : (f : (k : Channel) → Part k → Part k) (c : Config) (s : State) (k : Channel) → part k (each f c s) ≡ f k (part k s)
@@ -52,7 +53,8 @@ part-each f c s peripheral = refl
 part-each f c s wires = refl
 
 -- every part by a function that gives it the same, under the same configuration
-pub each-as : (f g : (k : Channel) → Part k → Part k) (c d : Config) (s : State) → c ≡ d → ((k : Channel) → f k (part k s) ≡ g k (part k s)) → each f c s ≡ each g d s
+pub each-as : (f g : (k : Channel) → Part k → Part k) (c d : Config) (s : State) → c ≡ d → ((k : Channel) → f k (part k s) ≡ g k (part k s))
+    → each f c s ≡ each g d s
 each-as f g c d s e h = rw (e, h peripheral, h wires)
 
 -- ---- which channel: told by its number

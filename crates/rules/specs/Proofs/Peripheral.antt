@@ -2,6 +2,7 @@
 pub mod Apart
 pub mod Effects
 pub mod SoundMeans
+pub mod Makes
 pub mod WholeFirstApplies
 pub mod WholeRefusals
 pub mod Fits
@@ -10,6 +11,7 @@ pub mod Shape
 pub mod Sound
 pub mod Rows
 pub mod Status
+pub mod Steps
 use Prim.Native.Nat.{ℕ}
 use mathlib.Core.Bool.{Bool, true, false, _&&_, not}
 use mathlib.Core.List.{List, [], _∷_}
@@ -77,7 +79,8 @@ module _ (p : Peripheral) (serial success : ℕ) (d : List ℕ) where
   abbrev Told : PeripheralChange → Type 0
   Told = Settled p (answer serial success d)
 
-  answered-settled : (q : Request) (t : Bool) → succeeded success ≡ t → p .request ≡ Waiting q → serial ≡ p .serial → length d ≡ bytesFor q t → Told (P.answered p q t)
+  answered-settled : (q : Request) (t : Bool) → succeeded success ≡ t → p .request ≡ Waiting q → serial ≡ p .serial → length d ≡ bytesFor q t
+      → Told (P.answered p q t)
   answered-settled q true e h n l = succeeds h n e l
   answered-settled q false e h n l = fails h n e l
 

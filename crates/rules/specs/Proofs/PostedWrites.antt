@@ -186,7 +186,8 @@ empty-run w (c ∷ cs) h e = empty-run (step w c .next) cs (empty-by w c h (head
 store-run : (w : World) (xs : List Call) → without posts w xs ≡ true → writeHandedOn w xs → run w xs .write ≡ w .write
 unfolding run storeHandedOn
 store-run w [] e h = refl
-store-run w (c ∷ cs) e h = store-run (step w c .next) cs (tail-without posts w c cs e) (h .1) ∙ store-by w c (head-without posts w c cs e) (h .0) (write-view w c)
+store-run w (c ∷ cs) e h =
+    store-run (step w c .next) cs (tail-without posts w c cs e) (h .1) ∙ store-by w c (head-without posts w c cs e) (h .0) (write-view w c)
 
 -- ---- the take
 

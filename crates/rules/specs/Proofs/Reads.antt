@@ -2,6 +2,7 @@
 use Prim.Native.Nat.{ℕ, _+_, _-_, _/_, _≤_}
 use mathlib.Core.Bool.{Bool, true, false, _||_, true≢false}
 use mathlib.Core.List.{List, [], _∷_}
+use mathlib.Core.Logic.{_↔_}
 use mathlib.Core.Path.{_≡_, refl, sym, ap, subst, _∙_}
 use native.Mathlib.Nat.{mul-comm}
 use native.Mathlib.Omega.{arith}
@@ -18,6 +19,7 @@ use Rattle.command.specs.Needs.{cycleListed}
 use Rattle.command.specs.Decode as D
 use Rattle.command.specs.Decode.{commandOf, registerData}
 use Rattle.command.specs.Facts.{CommandLength, Decodes, admit-decodes, admit-length}
+use Rattle.command.specs.declared.Row.{Row}
 use Rattle.command.specs.declared.Command.{Command}
 use Rattle.command.specs.declared.Listed.{Listed}
 use Rattle.command.specs.declared.Listed.the-variants.{As, Unlisted}
@@ -27,10 +29,33 @@ use Rattle.rules.specs.Rules.Peripheral as P
 use Rattle.rules.specs.Rules.Peripheral.{requestOf, bytesOf}
 use Rattle.rules.specs.Rules.Wires as W
 use Rattle.rules.specs.Rules.Exchange.{channelsOf}
+use Rattle.rules.specs.Statements.Fields.{isListed}
 use Rattle.rules.specs.Statements.Fields.{byte, isPosted, isNonPosted, highFirst, lowFirst, cycleWidth, accessAddress, accessLength, accessTag, dataFrom, requestKind, ioBytes, groups}
-use Rattle.rules.specs.Statements.Reads.{Peripheral, posts, asks, Wires, puts, ReadAs, Reads}
+use Rattle.rules.specs.Statements.Reads.{OpcodesListed, Peripheral, posts, asks, Wires, puts, ReadAs, Reads}
 use Rattle.rules.specs.Statements.Reads as S
 use Rattle.rules.specs.Proofs.Fields.{by-opcode, one}
+
+-- ---- opcodes
+
+abbrev isRow : Listed → Bool
+isRow Unlisted = false
+isRow (As q) = true
+
+listed-row : (op : ℕ) → isListed op ≡ isRow (rowOf op)
+listed-row =
+    by-opcode (λ (op : ℕ). isListed op ≡ isRow (rowOf op))
+    refl refl refl refl refl refl refl refl refl
+    refl refl refl refl refl refl refl refl refl refl refl refl
+    (λ op l u. l ∙ sym (ap isRow u))
+
+row-there : (t : Bool) (l : Listed) → t ≡ isRow l → (t ≡ true) ↔ ((q : Row) × (l ≡ As q))
+row-there t Unlisted e = (λ h. absurd (true≢false (sym h ∙ e)), λ p. absurd (true≢false (sym (ap isRow (p .1)))))
+row-there t (As q) e = (λ h. (q, refl), λ p. e)
+
+pub opcodes-listed : OpcodesListed
+opcodes-listed op = row-there (isListed op) (rowOf op) (listed-row op)
+
+-- ---- numbers
 
 data-as : (b : List ℕ) → registerData b ≡ lowFirst 4 3 b
 data-as b = omega arith
@@ -93,7 +118,8 @@ module _ (c : Config) (b : List ℕ) where
 
 module _ (c : Config) (r : List ℕ) where
   abbrev OnRow : ℕ → Listed → Type 0
-  OnRow op (As q) = cycleListed (q .cycle) (getD r 0 0) ≡ true → CommandLength (commandOf q (op ∷ r)) (length (op ∷ r)) → ReadAs c (op ∷ r) (commandOf q (op ∷ r))
+  OnRow op (As q) =
+      cycleListed (q .cycle) (getD r 0 0) ≡ true → CommandLength (commandOf q (op ∷ r)) (length (op ∷ r)) → ReadAs c (op ∷ r) (commandOf q (op ∷ r))
   OnRow op Unlisted = Unit {0}
 
   abbrev At : ℕ → Type 0
@@ -138,10 +164,13 @@ module _ (c : Config) (r : List ℕ) where
       (λ op _ u. subst (OnRow op) (sym u) tt)
 
 pub reads : Reads
-reads s b o e = by-bytes b (admit-decodes (channelsOf (s .config)) (crcChecked (s .config .r008)) b o e) (admit-length (channelsOf (s .config)) (crcChecked (s .config .r008)) b o e)
+reads s b o e =
+    by-bytes b (admit-decodes (channelsOf (s .config)) (crcChecked (s .config .r008)) b o e)
+    (admit-length (channelsOf (s .config)) (crcChecked (s .config .r008)) b o e)
   where
     by-bytes : (l : List ℕ) → Decodes (channelsOf (s .config)) l o → CommandLength o (length l) → ReadAs (s .config) l o
     by-bytes [] d n = absurd (omega (arith, d .passes .some))
     by-bytes (op ∷ r) d n =
         subst (ReadAs (s .config) (op ∷ r)) (sym (d .same))
-        (subst (OnRow (s .config) r op) (d .passes .row) (at-opcode (s .config) r op) (d .listed) (subst (λ (z : Command). CommandLength z (length (op ∷ r))) (d .same) n))
+        (subst (OnRow (s .config) r op) (d .passes .row) (at-opcode (s .config) r op) (d .listed)
+        (subst (λ (z : Command). CommandLength z (length (op ∷ r))) (d .same) n))

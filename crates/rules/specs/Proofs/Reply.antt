@@ -31,8 +31,13 @@ closed-length m t = simp length-append (omega arith)
 pub status-bits : (s : State)
     → (bit (pcFree (s .peripheral .write)) ≤ 1) × (bit (npFree (s .peripheral .request)) ≤ 1)
     × (bit (pcAvail (s .peripheral .request)) ≤ 1) × (bit (anyPending (s .wires)) ≤ 1)
-status-bits s =
-    (bit-below (pcFree (s .peripheral .write)), bit-below (npFree (s .peripheral .request)), bit-below (pcAvail (s .peripheral .request)), bit-below (anyPending (s .wires)))
+status-bits s = (
+  bit-below (pcFree (s .peripheral .write)),
+  bit-below (npFree (s .peripheral .request)),
+  bit-below (pcAvail (s .peripheral .request)),
+  bit-below
+      (anyPending (s .wires)),
+)
 
 -- it has two bytes
 pub status-small : (s : State) → status s < 65536

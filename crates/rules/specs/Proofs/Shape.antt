@@ -64,7 +64,9 @@ replies-have-shape w h b reply =
     })
   where
     long : shortStores reply w ≡ false → readLength ≤ length (w .read)
-    long e = ltb-false (length (w .read)) readLength (third (ltb (length reply) replyLength) (ltb (length (w .write)) writeLength) (ltb (length (w .read)) readLength) e)
+    long e =
+        ltb-false (length (w .read)) readLength
+        (third (ltb (length reply) replyLength) (ltb (length (w .write)) writeLength) (ltb (length (w .read)) readLength) e)
       where
         third : (x y z : Bool) → x || (y || z) ≡ false → z ≡ false
         third true y z e = absurd (true≢false e)

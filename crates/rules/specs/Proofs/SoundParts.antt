@@ -59,11 +59,14 @@ pub with-part : (k : Channel) {s : State} (q : Part k) → Parts s → PartOk k 
 with-part k {s} q h e =
     whole (record {
       config = subst ConfigOk (sym (put-config k q s)) (h .config);
-      each = λ j. subst (λ (c : Config). PartOk j (on j c) (part j (put k q s))) (sym (put-config k q s)) (put-each (λ j p. PartOk j (on j (s .config)) p) k q s e (h .each) j);
+      each =
+          λ j. subst (λ (c : Config). PartOk j (on j c) (part j (put k q s))) (sym (put-config k q s))
+          (put-each (λ j p. PartOk j (on j (s .config)) p) k q s e (h .each) j);
     })
 
 -- every part changed, under a new configuration
-pub with-each : {s : State} (f : (k : Channel) → Part k → Part k) (c : Config) → ConfigOk c → ((k : Channel) → PartOk k (on k c) (f k (part k s))) → Sound (each f c s)
+pub with-each : {s : State} (f : (k : Channel) → Part k → Part k) (c : Config) → ConfigOk c → ((k : Channel) → PartOk k (on k c) (f k (part k s)))
+    → Sound (each f c s)
 with-each {s} f c h e = whole (record { config = h; each = λ k. subst (PartOk k (on k c)) (sym (part-each f c s k)) (e k) })
 
 -- ---- the configuration with 008h, or 010h, as at reset

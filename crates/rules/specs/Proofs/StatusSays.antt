@@ -80,7 +80,8 @@ module _ (s : State) (b store : List ℕ) where
   abbrev Shown : Plan → Type 0
   Shown p = replyBytes (p .reply) (s .wires) store ≢ [] → statusIn (replyBytes (p .reply) (s .wires) store) ≡ statusShown (byte b 0) s (p .next)
 
-  said : (say : Say) (t : State) → replyBytes (withStatus say (status t)) (s .wires) store ≢ [] → statusIn (replyBytes (withStatus say (status t)) (s .wires) store) ≡ status t
+  said : (say : Say) (t : State) → replyBytes (withStatus say (status t)) (s .wires) store ≢ []
+      → statusIn (replyBytes (withStatus say (status t)) (s .wires) store) ≡ status t
   unfolding replyBytes
   said Y.Silent t some = absurd (some refl)
   said (Y.Said response body) t some = status-in _ t

@@ -36,13 +36,16 @@ bodyIn w body = bodyBytes body (w .state .wires) (w .read)
 -- a body of a channel's own reads none but its part and its stores, data of its own goes to none but these, and its calls ask for none but these
 pub record Owns (k : Channel) : Type 0 where
   pub nothing : ownKept k K.Nothing ≡ true
-  pub bytes : (body : Body) (w v : World) → ownBody k body ≡ true → part k (w .state) ≡ part k (v .state) → SameStores k (w .write) (w .read) (v .write) (v .read) → bodyIn w body ≡ bodyIn v body
+  pub bytes : (body : Body) (w v : World) → ownBody k body ≡ true → part k (w .state) ≡ part k (v .state)
+      → SameStores k (w .write) (w .read) (v .write) (v .read) → bodyIn w body ≡ bodyIn v body
   -- the same data laid over a store of two worlds
   pub written : (d write read write′ read′ : List ℕ) → SameStores k write read write′ read′ → SameStores k (over d write) read (over d write′) read′
   pub answered : (d write read write′ read′ : List ℕ) → SameStores k write read write′ read′ → SameStores k write (over d read) write′ (over d read′)
-  pub lackWritten : (kept : Kept) (b write read write′ read′ : List ℕ) → ownKept k kept ≡ true → SameStores k write read write′ read′ → SameLack write read write′ read′
+  pub lackWritten : (kept : Kept) (b write read write′ read′ : List ℕ) → ownKept k kept ≡ true → SameStores k write read write′ read′
+      → SameLack write read write′ read′
       → SameLack (over (keptBytes kept b) write) read (over (keptBytes kept b) write′) read′
-  pub lackAnswered : (kept : Kept) (b write read write′ read′ : List ℕ) → ownKept k kept ≡ true → SameStores k write read write′ read′ → SameLack write read write′ read′
+  pub lackAnswered : (kept : Kept) (b write read write′ read′ : List ℕ) → ownKept k kept ≡ true → SameStores k write read write′ read′
+      → SameLack write read write′ read′
       → SameLack write (over (keptBytes kept b) read) write′ (over (keptBytes kept b) read′)
   pub shortAlike : (w v : World) (o : Board k) → SameStores k (w .write) (w .read) (v .write) (v .read) → shortFor k o w ≡ shortFor k o v
   -- what a call of the board keeps goes to a read store that was long enough
@@ -56,11 +59,13 @@ kept-none : (Q : (List ℕ → List ℕ) → Type 0) (kept : Kept) (b : List ℕ
 unfolding over
 kept-none Q kept b e q = subst (λ (z : Kept). Q (over (keptBytes z b))) (sym e) q
 
-pub kept-other : (Q : (List ℕ → List ℕ) → Type 0) (k : Channel) → same peripheral k ≡ false → (kept : Kept) (b : List ℕ) → ownKept k kept ≡ true → Q (λ l. l) → Q (over (keptBytes kept b))
+pub kept-other : (Q : (List ℕ → List ℕ) → Type 0) (k : Channel) → same peripheral k ≡ false → (kept : Kept) (b : List ℕ) → ownKept k kept ≡ true → Q (λ l. l)
+    → Q (over (keptBytes kept b))
 kept-other Q k e kept b o = kept-none Q kept b (own-other k e kept o)
 
 module _ (k : Channel) (other : same peripheral k ≡ false) (none : (write read : List ℕ) → storesOf k write read ≡ []) (keeps : ownKept k K.Nothing ≡ true)
-    (bytes : (body : Body) (w v : World) → ownBody k body ≡ true → part k (w .state) ≡ part k (v .state) → bodyIn w body ≡ bodyIn v body) (free : (o : Board k) (w : World) → shortFor k o w ≡ false)
+    (bytes : (body : Body) (w v : World) → ownBody k body ≡ true → part k (w .state) ≡ part k (v .state) → bodyIn w body ≡ bodyIn v body)
+    (free : (o : Board k) (w : World) → shortFor k o w ≡ false)
   where
     pub storeless : Owns k
     storeless =

@@ -20,6 +20,91 @@ use Rattle.rules.specs.Rules.Step.{performed, served, step, run}
 use Rattle.rules.specs.Statements.Vectors.{rows, Holds}
 
 pub rows-hold : Holds rows
-unfolding rows step run performed served over crc crcFrom crcByte shifts crcBit sizeOf after turn sizes putPairs sentFrom afterSent pairBytes markOf nextSize nextMark allFF admit upward handed status lift P.post P.ask P.getPc P.answerTo P.taken P.settle W.putVwire W.getVwire W.setting W.settle E.setConfiguration E.decide E.exchange closed replyBytes
-rows-hold =
-    (refl, (refl, (refl, (refl, (refl, (refl, (refl, (refl, (refl, (refl, (refl, (refl, (refl, (refl, (refl, (refl, (refl, (refl, (refl, (refl, (refl, (refl, (refl, (refl, (refl, (refl, (refl, (refl, (refl, (refl, (refl, (refl, (refl, (refl, (refl, (refl, (refl, (refl, (refl, (refl, tt))))))))))))))))))))))))))))))))))))))))
+unfolding rows step run performed served over crc crcFrom crcByte shifts crcBit sizeOf after turn sizes putPairs sentFrom afterSent pairBytes
+    markOf nextSize nextMark allFF admit upward handed status lift P.post P.ask P.getPc P.answerTo P.taken P.settle
+    W.putVwire W.getVwire W.setting W.settle E.setConfiguration E.decide E.exchange closed replyBytes
+rows-hold = (
+  refl,
+  (
+    refl,
+    (
+      refl,
+      (
+        refl,
+        (
+          refl,
+          (
+            refl,
+            (
+              refl,
+              (
+                refl,
+                (
+                  refl,
+                  (
+                    refl,
+                    (
+                      refl,
+                      (
+                        refl,
+                        (
+                          refl,
+                          (
+                            refl,
+                            (
+                              refl,
+                              (
+                                refl,
+                                (
+                                  refl,
+                                  (
+                                    refl,
+                                    (
+                                      refl,
+                                      (
+                                        refl,
+                                        (
+                                          refl,
+                                          (
+                                            refl,
+                                            (
+                                              refl,
+                                              (
+                                                refl,
+                                                (
+                                                  refl,
+                                                  (
+                                                    refl,
+                                                    (
+                                                      refl,
+                                                      (
+                                                        refl,
+                                                        (refl, (refl, (refl, (refl, (refl, (refl, (refl, (refl, (refl, (refl, (refl, (refl, tt)))))))))))),
+                                                      ),
+                                                    ),
+                                                  ),
+                                                ),
+                                              ),
+                                            ),
+                                          ),
+                                        ),
+                                      ),
+                                    ),
+                                  ),
+                                ),
+                              ),
+                            ),
+                          ),
+                        ),
+                      ),
+                    ),
+                  ),
+                ),
+              ),
+            ),
+          ),
+        ),
+      ),
+    ),
+  ),
+)

@@ -156,7 +156,8 @@ module _ (w : World) where
     acted-beside b r x p =
         seen idle (plain-event (w .state) b r _ p)
         (stays (ap (λ (q : Peripheral). q .request) (kept-part x)) (ap (λ (q : Peripheral). q .serial) (kept-part x)) refl
-        (subst (λ (q : Peripheral). Shown (q .request) (replyBytes (withStatus (outOf k x .say) (status (put k (nextOf k x) (w .state)))) (w .state .wires) (w .read))) (kept-part x)
+        (subst (λ (q : Peripheral). Shown (q .request)
+        (replyBytes (withStatus (outOf k x .say) (status (put k (nextOf k x) (w .state)))) (w .state .wires) (w .read))) (kept-part x)
         (shown (put k (nextOf k x) (w .state)) (outOf k x .say) w)))
 
     board-event : (o : Board k) (x : Outcome) → eventOf (w .state) (board k o) x ≡ idle
@@ -199,7 +200,8 @@ module _ (w : World) where
       dropped (ap (λ (t : Bool). pick t (F.dropped (w .state .peripheral)) (w .state .peripheral)) e) refl
       (shown (w .state) (S.Said Accept B.Nothing) w)
   written-seen b r c false e =
-      let kept : reconfigured (w .state) c .peripheral ≡ w .state .peripheral = ap (λ (t : Bool). pick t (F.dropped (w .state .peripheral)) (w .state .peripheral)) e in
+      let kept : reconfigured (w .state) c .peripheral ≡ w .state .peripheral = ap
+      (λ (t : Bool). pick t (F.dropped (w .state .peripheral)) (w .state .peripheral)) e in
       stays (ap (λ (q : Peripheral). q .request) kept) (ap (λ (q : Peripheral). q .serial) kept) refl (shown (w .state) (S.Said Accept B.Nothing) w)
 
   set-seen : (b r : List ℕ) (a v : ℕ) → Writes b a v → Plans b r (acceptThen (w .state) (reconfigured (w .state) (writeAt (w .state .config) a v)))

@@ -43,14 +43,18 @@ module _ (st : List ℕ) (long : ltb (length st) stateLength ≡ false) (ok : no
       subst (λ (k : ℕ). ExchangeRefusal k st reply write (exchangePlanned p st command reply write read))
       (let r = replyBytes (p .reply) (unpacked st .wires) read in sym (ap (λ (k : ℕ). numberOf (word k (length r))) e ∙ number-word 0 (length r) refl)) tt
   planned-refuses command reply write read (suc zero) p e h =
-      subst (λ (x : Plan). ExchangeRefusal (numberOf (exchangePlanned x st command reply write read .word)) st reply write (exchangePlanned x st command reply write read)) (sym h)
+      subst (λ (x : Plan). ExchangeRefusal (numberOf (exchangePlanned x st command reply write read .word)) st reply write
+      (exchangePlanned x st command reply write read)) (sym h)
       (rw same)
   planned-refuses command reply write read (suc (suc zero)) p e h =
-      subst (λ (x : Plan). ExchangeRefusal (numberOf (exchangePlanned x st command reply write read .word)) st reply write (exchangePlanned x st command reply write read)) (sym h)
+      subst (λ (x : Plan). ExchangeRefusal (numberOf (exchangePlanned x st command reply write read .word)) st reply write
+      (exchangePlanned x st command reply write read)) (sym h)
       (rw same)
   planned-refuses command reply write read (suc (suc (suc n))) p e h =
-      subst (λ (x : Plan). ExchangeRefusal (numberOf (exchangePlanned x st command reply write read .word)) st reply write (exchangePlanned x st command reply write read)) (sym (h .0))
-      (subst (λ (k : ℕ). ExchangeRefusal k st reply write (X.exchanged (word (suc (suc (suc n))) 0) (kept (unpacked st) st) reply write)) (sym (number-word (suc (suc (suc n))) 0 (h .1)))
+      subst (λ (x : Plan). ExchangeRefusal (numberOf (exchangePlanned x st command reply write read .word)) st reply write
+      (exchangePlanned x st command reply write read)) (sym (h .0))
+      (subst (λ (k : ℕ). ExchangeRefusal k st reply write (X.exchanged (word (suc (suc (suc n))) 0) (kept (unpacked st) st) reply write))
+      (sym (number-word (suc (suc (suc n))) 0 (h .1)))
       (rw (same, add-zero)))
 
 -- a board call's refused plan gives its number alone, and the bytes as they were
@@ -70,15 +74,18 @@ module _ (st : List ℕ) (long : ltb (length st) stateLength ≡ false) (ok : no
   stored-refuses bytes store (suc zero) p e h ne = absurd h
   stored-refuses bytes store (suc (suc zero)) p e h ne = absurd h
   stored-refuses bytes store (suc (suc (suc n))) p e h ne =
-      subst (λ (x : Plan). X.stored (x .number) (kept (x .next) st) (over (keptBytes (x .kept) bytes) store) ≡ X.stored (numberOf (x .number)) st store) (sym (h .0))
+      subst (λ (x : Plan). X.stored (x .number) (kept (x .next) st) (over (keptBytes (x .kept) bytes) store) ≡ X.stored (numberOf (x .number)) st store)
+      (sym (h .0))
       (rw (same st long ok, number-small (suc (suc (suc n))) (h .1), over-none))
 
   -- a refused call leaves its report too
-  pub report-refuses : (k : Channel) (o : Board k) (report : List ℕ) {x : Change k} → Settles k (part k (unpacked st)) o x → numberOf (lift k (unpacked st) x .number) ≢ 0
+  pub report-refuses : (k : Channel) (o : Board k) (report : List ℕ) {x : Change k} → Settles k (part k (unpacked st)) o x
+      → numberOf (lift k (unpacked st) x .number) ≢ 0
       → X.stored (lift k (unpacked st) x .number) (kept (lift k (unpacked st) x .next) st) (over (reportOf k (part k (unpacked st)) o) report)
       ≡ X.stored (numberOf (lift k (unpacked st) x .number)) st report
   report-refuses k o report (L.Settles.refused n l m r v) ne =
-      subst (λ (p : Plan). X.stored (p .number) (kept (p .next) st) (over (reportOf k (part k (unpacked st)) o) report) ≡ X.stored (numberOf (p .number)) st report)
+      subst (λ (p : Plan). X.stored (p .number) (kept (p .next) st) (over (reportOf k (part k (unpacked st)) o) report) ≡ X.stored (numberOf (p .number)) st
+      report)
       (sym (lift-stays k (unpacked st) (number n))) (rw (same st long ok, r, over-none, number-small n (lt-ltb n 256 m)))
   report-refuses k o report (L.Settles.accepted q keeps e) ne = absurd (ne (ap (λ (p : Plan). numberOf (p .number)) (lift-change k (unpacked st) q _)))
 

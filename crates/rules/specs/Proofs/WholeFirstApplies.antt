@@ -1,13 +1,14 @@
 -- P6 proved of the nine calls over lent bytes.
-use Prim.Native.Nat.{ℕ, _%_}
-use mathlib.Core.Bool.{not}
+use Prim.Native.Nat.{ℕ, _%_, _≤_}
+use mathlib.Core.Bool.{Bool, true, false, not, true≢false}
 use mathlib.Core.List.{List}
-use mathlib.Core.Path.{_≡_, refl}
+use mathlib.Core.Path.{_≡_, refl, sym, _∙_}
 use lib.Dec.{ltb}
 use lib.ListN.{length}
-use borrow.Author.Tests.{not-false, ltb-false}
+use borrow.Author.Tests.{not-false, not-true, ltb-false}
+use Rattle.state.specs.declared.State.{State}
 use Rattle.state.specs.Layout.{stateLength, unpacked, holds}
-use Rattle.state.specs.Packing.{holds-sound}
+use Rattle.state.specs.Packing.{packed-holds, packed-found, holds-bytes, holds-sound}
 use Rattle.rules.specs.Rules.Reset.{Reset, espiReset, platformReset}
 use Rattle.rules.specs.Rules.Peripheral.{look, answer, takeWrite}
 use Rattle.rules.specs.Rules.Wires.{setWire, readWire}
@@ -15,16 +16,34 @@ use Rattle.rules.specs.Rules.Exchange as E
 use Rattle.rules.specs.Rules.Step.{replyLength, writeLength, readLength}
 use Rattle.rules.specs.Rules.Calls.{word, Done, Exchanged, startCall, resetCall, espiResetCall, platformResetCall, exchangeCall, exchangePlanned}
 use Rattle.rules.specs.Statements.Rows.{firstOf}
-use Rattle.rules.specs.Statements.FirstApplies.{commandRows, exchangeRows, startRows, resetRows, FirstApplies}
+use Rattle.rules.specs.Statements.FirstApplies.{Packs, Packing, commandRows, exchangeRows, startRows, resetRows, FirstApplies}
 use Rattle.rules.specs.Proofs.Rows.{first, read-off}
 use Rattle.rules.specs.Proofs.FirstApplies.{command-number}
 use Rattle.rules.specs.Proofs.WholeRows.{in-word}
 use Rattle.rules.specs.Proofs.Peripheral.WholeFirstApplies as P
 use Rattle.rules.specs.Proofs.Wires.WholeFirstApplies as W
 
+-- ---- what the loader's test finds
+
+packing : (st : List ℕ) → stateLength ≤ length st → Packing st
+packing st h =
+    record {
+      none = (λ e s p. true≢false (sym (packed-holds s st (p .sound) (p .bytes)) ∙ not-true (holds st) e), go (holds st) refl);
+      some = λ e. found (not-false (holds st) e);
+      alone = λ s p. sym (packed-found s st (p .sound) (p .bytes));
+    }
+  where
+    found : holds st ≡ true → Packs st (unpacked st)
+    found e = record { sound = holds-sound st h e; bytes = holds-bytes st h e }
+
+    go : (t : Bool) → holds st ≡ t → ((s : State) → Packs st s → ⊥) → not t ≡ true
+    go true e n = absurd (n (unpacked st) (found e))
+    go false e n = refl
+
 -- ---- the exchange, start and the resets
 
-exchange-first : (st command reply write read : List ℕ) → exchangeCall st command reply write read .word % 256 ≡ firstOf (exchangeRows st command reply write read)
+exchange-first : (st command reply write read : List ℕ)
+    → exchangeCall st command reply write read .word % 256 ≡ firstOf (exchangeRows st command reply write read)
 unfolding exchangeCall exchangePlanned
 exchange-first st command reply write read =
     let f : Exchanged → ℕ = λ x. x .word % 256 in
@@ -50,6 +69,7 @@ pub first-applies : FirstApplies
 unfolding espiResetCall platformResetCall
 first-applies =
     record {
+      packing = packing;
       exchange = λ st command reply write read. first refl (exchange-first st command reply write read);
       start = λ st. first refl (start-first st);
       espiReset = λ st. first refl (reset-first espiReset st);

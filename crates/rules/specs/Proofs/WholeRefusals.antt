@@ -45,7 +45,8 @@ reset-refuses : (r : Reset) (st : List ℕ) → numberOf (resetCall r st .word) 
 unfolding resetCall
 reset-refuses r st =
     let Q : Done → Type 0 = λ x. numberOf (x .word) ≢ 0 → x ≡ done (numberOf (x .word)) st in
-    pick-ind Q (ltb (length st) stateLength) {x = done 10 st} (λ _ _. refl) λ _. pick-ind Q (not (holds st)) {x = done 11 st} (λ _ _. refl) λ _ ne. absurd (ne refl)
+    pick-ind Q (ltb (length st) stateLength) {x =
+    done 10 st} (λ _ _. refl) λ _. pick-ind Q (not (holds st)) {x = done 11 st} (λ _ _. refl) λ _ ne. absurd (ne refl)
 
 start-refuses : (st : List ℕ) → numberOf (startCall st .word) ≢ 0 → startCall st ≡ done (numberOf (startCall st .word)) st
 unfolding startCall
@@ -91,7 +92,8 @@ exchange-bytes st command reply write read =
     let Q = ExchangePast command st reply write in
     let p = E.exchange (unpacked st) command in
     let r = replyBytes (p .reply) (unpacked st .wires) read in
-    let v : word (p .number) (length r) / 256 ≡ length r = value-word (p .number) (length r) (planned-small (p .number) (unpacked st) p (exchange-turned (unpacked st) command)) in
+    let v : word (p .number) (length r) / 256 ≡ length r = value-word (p .number) (length r)
+    (planned-small (p .number) (unpacked st) p (exchange-turned (unpacked st) command)) in
     pick-ind Q (ltb (length st) stateLength) (λ _. as-it-was 10)
     λ _. pick-ind Q (ltb (length reply) replyLength) (λ _. as-it-was 10)
     λ _. pick-ind Q (ltb (length write) writeLength) (λ _. as-it-was 10)

@@ -91,7 +91,7 @@ set-of w i bit value o s t e =
     }
 
 -- what an accepted call of the board did
-abbrev BoardDid : Config → Wires → W₀.Board → Wires → Type 0
+abbrev pub BoardDid : Config → Wires → W₀.Board → Wires → Type 0
 BoardDid c v (W₀.setWire index bit value) u = (settable index bit value ≡ true) × (u ≡ G.setWire (on wires c) v index bit value)
 BoardDid c v (W₀.readWire index bit) u = W₀.valueOf v (W₀.readWire index bit) ≡ G.readWire v index bit
 
@@ -102,7 +102,7 @@ board-did (W.noWire e) n = absurd (omega arith)
 board-did (W.read e) n = rw e
 
 module _ (w : World) (o : W₀.Board) (n : step w (board wires o) .number ≡ 0) where
-  board-law : BoardDid (w .state .config) (wiresOf w) o (W₀.settle (w .state .config) (wiresOf w) o .next)
+  pub board-law : BoardDid (w .state .config) (wiresOf w) o (W₀.settle (w .state .config) (wiresOf w) o .next)
   unfolding served lift
   board-law = board-did (D.settled wires (w .state .config) (wiresOf w) o) (sym (ap (λ (q : Outcome). q .number) (board-long wires w o refl)) ∙ n)
 
@@ -184,7 +184,8 @@ never-nil : (xs : List ℕ) (y : ℕ) → [] ≡ xs ++ (y ∷ []) → ⊥
 never-nil [] y e = let z : _≡_ {A = ℕ} 0 1 = cc in omega arith
 never-nil (x ∷ xs) y e = let z : _≡_ {A = ℕ} 0 1 = cc in omega arith
 
-alone : {ks : List ℕ} (v : Wires) (k last : ℕ) → k < senders → AllBelow senders ks → groupAt k ∷ up ks ≡ last ∷ [] → afterSent (G.leftBy v k) ks .place ≡ nextUp last
+alone : {ks : List ℕ} (v : Wires) (k last : ℕ) → k < senders → AllBelow senders ks → groupAt k ∷ up ks ≡ last ∷ []
+    → afterSent (G.leftBy v k) ks .place ≡ nextUp last
 unfolding up afterSent
 alone v k last h none e = let q : groupAt k ≡ last = cc in next-up k h ∙ ap nextUp q
 alone v k last h (more x xs) e = let z : _≡_ {A = ℕ} 0 1 = cc in absurd (omega arith)
@@ -258,7 +259,8 @@ module _ (w : World) (s : Sound (w .state)) (i : ℕ) (from : 2 ≤ i) (upto : i
       (eqb-true _ _ (and-right (not (on wires (w .state .config))) _ is)) (not-true _ (and-left (not (on wires (w .state .config))) _ is))
       (eqb-false _ _
       (not-true _
-      (and-right (not (rowAt (i - 2) .down)) _ (sym (K.remarked-mark true (wiresOf w) (wiresOf w .place) i from upto) ∙ sym (ap (λ (y : Wires). markAt y i) f) ∙ t))))
+      (and-right (not (rowAt (i - 2) .down)) _
+      (sym (K.remarked-mark true (wiresOf w) (wiresOf w .place) i from upto) ∙ sym (ap (λ (y : Wires). markAt y i) f) ∙ t))))
   raised-by c o (disabled e) t = absurd (same-off o _ e (K.remarked-mark false (wiresOf w) 4 i from upto) t)
   raised-by c o (wiped e) t = absurd (same-off o _ e (K.remarked-mark false (wiresOf w) 4 i from upto) t)
   raised-by c o (platformWiped e) t = absurd (same-off o _ e (platform-off (wiresOf w) i off) t)
@@ -274,6 +276,8 @@ wire-steps =
       put = λ w b r s e n. put-of w b r (step w (exchange b r)) s (seen-as w (exchange b r) (command-event w b r 0x04 puts e refl refl _ (eq-eqb _ 0 n)));
       set = set-step;
       read = read-step;
-      get = λ w b r s e n. got-of w (exchange b r) (step w (exchange b r)) s (seen-as w (exchange b r) (command-event w b r 0x05 gets e refl refl _ (eq-eqb _ 0 n)));
+      get =
+          λ w b r s e n. got-of w (exchange b r) (step w (exchange b r)) s
+          (seen-as w (exchange b r) (command-event w b r 0x05 gets e refl refl _ (eq-eqb _ 0 n)));
       raised = λ w c i s from upto off t. raised-by w s i from upto off c (step w c) (wire-view w c) t;
     }

@@ -55,7 +55,8 @@ module _ (s : State) (c : Call) (o : Outcome) where
 
   accepted-wire : accepted o ≡ true → ending wires s c ≡ false → wireEventOf s c o ≡ acceptedWire s c
   unfolding wireEventOf
-  accepted-wire e f = ap (λ (t : Bool). pick (t && ending wires s c) ends (pick t (acceptedWire s c) idle)) e ∙ ap (λ (t : Bool). pick t ends (acceptedWire s c)) f
+  accepted-wire e f =
+      ap (λ (t : Bool). pick (t && ending wires s c) ends (pick t (acceptedWire s c) idle)) e ∙ ap (λ (t : Bool). pick t ends (acceptedWire s c)) f
 
   quiet-wire : ending wires s c ≡ false → acceptedWire s c ≡ idle → wireEventOf s c o ≡ idle
   quiet-wire f g = go (accepted o) refl
@@ -179,7 +180,8 @@ module _ (w : World) where
       let v = wiresOf w in
       let t = status (N.put wires (afterSent v (k ∷ ks)) (w .state)) in
       as-is (command-event b r 0x05 gets h refl refl _ refl)
-      (sent k ks e (ap (afterSent v) (sym e)) (ap (λ (l : List ℕ). closed (0x08 ∷ packetBytes v (packetOf v l)) t) (sym e) ∙ ap (λ (l : List ℕ). closed (0x08 ∷ l) t) (sent-bytes v (countOf w))))
+      (sent k ks e (ap (afterSent v) (sym e))
+      (ap (λ (l : List ℕ). closed (0x08 ∷ packetBytes v (packetOf v l)) t) (sym e) ∙ ap (λ (l : List ℕ). closed (0x08 ∷ l) t) (sent-bytes v (countOf w))))
 
   settled-seen : {o : W₀.Board} {x : WiresChange} → W.Settled (w .state .config) (wiresOf w) o x
       → Seen (board wires o) (served wires w o (lift wires (w .state) x))
@@ -208,7 +210,9 @@ module _ (w : World) where
   any-settled : (k : Channel) (o : Board k) (x : Change k) → Settled k (w .state .config) (part k (w .state)) o x
       → Seen (board k o) (served k w o (lift k (w .state) x))
   any-settled =
-      own-or-other wires (λ (k : Channel). (o : Board k) (x : Change k) → Settled k (w .state .config) (part k (w .state)) o x → Seen (board k o) (served k w o (lift k (w .state) x)))
+      own-or-other wires
+      (λ (k : Channel). (o : Board k) (x : Change k) → Settled k (w .state .config) (part k (w .state)) o x → Seen (board k o)
+      (served k w o (lift k (w .state) x)))
       (λ o x d. settled-seen d)
       (λ k n o x d. as-is (quiet-wire (w .state) (board k o) _ refl (board-other k n o)) (still (settled-wires k n o x)))
 

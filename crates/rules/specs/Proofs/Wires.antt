@@ -35,7 +35,8 @@ unfolding W.putVwire W.getVwire
 did c w (puts n pairs) = pick-ind (Did c w (puts n pairs)) (ltb (operatingCount (c .r020)) n) overCount put
 did c w gets = send-did c w (sent w (operatingCount (c .r020))) refl
 
-read-settled : (c : Config) (w : Wires) (index bit : ℕ) (t : Bool) → definedBit index bit ≡ t → Settled c w (readWire index bit) (W.change w (number (pick t 0 22)))
+read-settled : (c : Config) (w : Wires) (index bit : ℕ) (t : Bool) → definedBit index bit ≡ t
+    → Settled c w (readWire index bit) (W.change w (number (pick t 0 22)))
 read-settled c w index bit true e = read e
 read-settled c w index bit false e = noWire e
 

@@ -86,7 +86,8 @@ byte-words =
       get = λ w c. (λ e. let x = event-was w c gets e (λ d. true≢false (cc)) (λ d. true≢false (cc)) in (x .0, get-of (x .1)), λ x. get-is w c (x .0) (x .1));
       ask = λ w c. (λ e. let x = event-was w c asks e (λ d. true≢false (cc)) (λ d. true≢false (cc)) in (x .0, ask-of (x .1)), λ x. ask-is w c (x .0) (x .1));
       held = λ w b r e. record { request = _; waits = asked-as (view-as w (exchange b r) e); asks = as-read (w .state .config) b };
-      tell = λ w c. (λ e. let x = event-was w c tells e (λ d. true≢false (cc)) (λ d. true≢false (cc)) in (x .0, tell-of (x .1)), λ x. tell-is w c (x .0) (x .1));
+      tell =
+          λ w c. (λ e. let x = event-was w c tells e (λ d. true≢false (cc)) (λ d. true≢false (cc)) in (x .0, tell-of (x .1)), λ x. tell-is w c (x .0) (x .1));
       end = λ w c. (λ e. sym (end-is w c) ∙ ap isEnd e, ended-event w c);
       ends = λ k w c. (ends-of k w c, λ x. and-true (number-is w c (x .0)) (ending-is k (w .state) c (x .1)));
     }

@@ -19,10 +19,12 @@ use Rattle.rules.specs.declared.Plan.{Plan}
 
 -- ---- configuration: each channel gets the enableEdge of its enable bit
 
+-- each channel by what its enable bit was and is: "Disabling channel 0" (01, Requests, answers, pieces), "Disabling channel 1", "Enabling it from
+-- disabled" (01, Wires)
 abbrev pub reconfigured : State → Config → State
 reconfigured s c = each (λ k. enableEdge k (on k (s .config)) (on k c)) c s
 
--- 2, "forbidden configuration value"
+-- 2, "forbidden configuration value"; else "A write takes effect after its own reply" (01, Replies and refusals; Registers and status)
 unfoldable pub setConfiguration : State → ℕ → ℕ → Plan
 setConfiguration s a v = pick (forbiddenAt a v) (nonFatal s) (acceptThen s (reconfigured s (writeAt (s .config) a v)))
 
@@ -38,15 +40,18 @@ configReset start c = freshConfig
 configReset espiReset c = freshConfig
 configReset platformReset c = record { r008 = c .r008; r010 = fresh010; r020 = c .r020 }
 
+-- the configuration and each channel, by their own rule for this reset (01, Requests, answers, pieces; Wires)
 abbrev pub wasReset : Reset → State → State
 wasReset r s = each (λ k. reset k r) (configReset r (s .config)) s
 
 -- ---- the decision
 
--- a command of a channel
+-- a command of a channel: what its rule makes of its part, lifted into the whole (docs/DECISIONS.md, 30)
 abbrev pub acted : (k : Channel) → State → Act k → Plan
 acted k s a = lift k s (acting k (s .config) (part k s) a)
 
+-- an admitted command by its opcode (01, Commands): the two channels', GET_CONFIGURATION, SET_CONFIGURATION, GET_STATUS, RESET; what is left of the
+-- order, "credit (1), size (1), 2", comes in its own rule (01, Replies and refusals)
 unfoldable pub decide : State → Command → List ℕ → Plan
 decide s (C.Peripheral o) b = acted peripheral s (actOf peripheral (s .config) o b)
 decide s (C.Wires o) b = acted wires s (actOf wires (s .config) o b)
@@ -55,14 +60,18 @@ decide s (C.SetConfiguration a v) b = setConfiguration s a v
 decide s C.GetStatus b = show B.Nothing s
 decide s C.Reset b = quietly (reset008h s)
 
--- ---- the exchange: "A decode that gives no command ends the exchange at once"
+-- ---- the exchange
 
+-- which channels are on: "channel disabled" is 14 (01, Replies and refusals)
 abbrev pub channelsOf : Config → Channels
 channelsOf c = record { peripheral = on peripheral c; wires = on wires c }
 
+-- "A decode that gives no command ends the exchange at once" (01, Replies and refusals)
 abbrev pub byDecoded : State → List ℕ → Decoded → Plan
 byDecoded s b (Refused n) = silent n s
 byDecoded s b (Known o) = decide s o b
 
+-- "One exchange is the whole command phase of one Chip Select# assertion" (01, What the engine covers), of a sound state: the order of refusals from
+-- "empty (12)" on (01, Replies and refusals), the CRC "checked only while register 008h bit 31 is 1" (01, Commands)
 unfoldable pub exchange : State → List ℕ → Plan
 exchange s b = byDecoded s b (admit (channelsOf (s .config)) (crcChecked (s .config .r008)) b)

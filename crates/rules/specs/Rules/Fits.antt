@@ -1,4 +1,5 @@
--- What the lent slices must hold for a plan to be carried out: a piece's data in the read store and the reply, a packet over sound wires, the kept data in its source and its store.
+-- What the lent slices must hold for a plan to be carried out: a piece's data in the read store and the reply, a packet over sound wires, the kept
+-- data in its source and its store.
 use Prim.Native.Nat.{ℕ, _+_, _≤_}
 use Rattle.wires.specs.Sending.{PacketFits}
 use Rattle.wires.specs.declared.Wires.{Wires}
@@ -15,38 +16,43 @@ use Rattle.rules.specs.declared.Out.{Out}
 use Rattle.rules.specs.declared.Plan.{Plan}
 use Rattle.rules.specs.Rules.Step.{writeLength, readLength}
 
--- within a reply's 256 data bytes, and within the read store
+-- within a reply's 256 data bytes, and within the read store: "reply at least 263 bytes", "read store at least 4,096" (01, What the engine covers)
 pub record PieceFits (c : Completion) : Type 0 where
   pub most : c .length ≤ 256
   pub end : c .from + c .length ≤ readLength
 
+-- .. of a body: "data goes into the reply from its fifth byte on" (01, What form each place takes)
 abbrev pub BodyFits : Body → Wires → Type 0
 BodyFits B.Nothing w = Unit {0}
 BodyFits (B.Word v) w = Unit {0}
 BodyFits (B.Piece c) w = PieceFits c
 BodyFits (B.Groups p) w = PacketFits w p
 
+-- .. of a reply, or none (01, Replies and refusals)
 abbrev pub ReplyFits : Reply → Wires → Type 0
 ReplyFits Silent w = Unit {0}
 ReplyFits (Said response body status) w = BodyFits body w
 
--- n bytes from a place on, out of m bytes, into a store of at least `room`
+-- n bytes from a place on, out of m bytes, into a store of at least `room` ("a lent store too short" is 10; 01, Replies and refusals)
 pub record DataFits (at n m room : ℕ) : Type 0 where
   pub there : at + n ≤ m
   pub most : n ≤ room
 
+-- .. of the kept data, or none (01, Requests, answers, pieces)
 abbrev pub KeptFits : Kept → ℕ → ℕ → Type 0
 KeptFits K.Nothing m room = Unit {0}
 KeptFits (K.Data at n) m room = DataFits at n m room
 
--- what goes out of a channel's change; the data of an exchange goes to the write store
+-- what goes out of a channel's change: response and body (01, Replies and refusals)
 abbrev pub SayFits : Say → Wires → Type 0
 SayFits Y.Silent w = Unit {0}
 SayFits (Y.Said response body) w = BodyFits body w
 
+-- .. and its data; that of an exchange goes to the write store: "write store at least 256" (01, What the engine covers)
 abbrev pub OutFits : ℕ → Wires → Out → Type 0
 OutFits m w out = SayFits (out .say) w × KeptFits (out .kept) m writeLength
 
+-- both, of a plan (01, What the engine covers: "Stores lent to a call")
 pub record PlanFits (m : ℕ) (w : Wires) (p : Plan) : Type 0 where
   pub reply : ReplyFits (p .reply) w
   pub kept : KeptFits (p .kept) m writeLength

@@ -21,6 +21,7 @@ responseByte Fatal = 0x03
 abbrev pub fatal : Out
 fatal = record { number = fatalError; say = Said Fatal B.Nothing; kept = K.Nothing }
 
+-- number "0", "accepted or deferred": here ACCEPT (01, Replies and refusals)
 abbrev pub accept : Body → Kept → Out
 accept body kept = record { number = 0; say = Said Accept body; kept = kept }
 
@@ -28,10 +29,10 @@ accept body kept = record { number = 0; say = Said Accept body; kept = kept }
 abbrev pub defer : Out
 defer = record { number = 0; say = Said Defer B.Nothing; kept = K.Nothing }
 
--- a board call has no reply: "a refused one yields only its number"
+-- a board call has no reply: "a refused one yields only its number" (01, Replies and refusals)
 abbrev pub number : ℕ → Out
 number n = record { number = n; say = Silent; kept = K.Nothing }
 
--- accepted, and its data kept
+-- a board call that is accepted, number 0, and its data kept: an answer's (01, Requests, answers, pieces: "Success copies exactly L bytes")
 abbrev pub keep : Kept → Out
 keep kept = record { number = 0; say = Silent; kept = kept }

@@ -75,6 +75,8 @@ pub record Delivers (N : ℕ) (body : ℕ → List ℕ) (w : World) (cs : List C
 
 -- a read of L bytes at A with this tag under payload size P, answered with d
 pub record HandsOver (A L P tag : ℕ) (d : List ℕ) (w : World) (cs : List Call) : Type 0 where
+  -- N is "1 to 64"
+  pub few : (1 ≤ blocks A L P) × (blocks A L P ≤ 64)
   pub pieces : Delivers (blocks A L P) (pieceBody A L P tag d) w cs
   -- joined, the data of the N completions is the whole answer
   pub whole : length (got w cs) ≡ blocks A L P → joinedData (got w cs) ≡ d

@@ -8,20 +8,20 @@ use Rattle.rules.specs.Rules.Channel.{Channel, peripheral, wires, on}
 use Rattle.rules.specs.Rules.Step.{World, Call, reset, exchange, board, short, lend, Outcome, step}
 use Rattle.rules.specs.Statements.Fields.{byte, registerAt, registerValue}
 
--- number 0
+-- number 0: "accepted or deferred" (01, Replies and refusals)
 abbrev pub accepted : Outcome → Bool
 accepted o = eqb (o .number) 0
 
--- bit 0 of the register at this address enables the channel
+-- bit 0 of the register at this address enables the channel (01, Registers and status: "bit 0 (enable)"; 004, table 21)
 abbrev pub enablesAt : Channel → ℕ → Bool
 enablesAt peripheral a = eqb a 0x010
 enablesAt wires a = eqb a 0x020
 
--- a disabling: SET_CONFIGURATION of that register, bit 0 of the value being 0 while the register's is 1
+-- a disabling: SET_CONFIGURATION of that register, bit 0 of the value being 0 while the register's is 1 (docs/DECISIONS.md, 20)
 abbrev pub disables : Channel → State → List ℕ → Bool
 disables k s b = eqb (byte b 0) 0x22 && (enablesAt k (registerAt b) && (on k (s .config) && eqb (registerValue b % 2) 0))
 
--- "a start, an eSPI reset, a platform reset or a disabling of [the] channel"
+-- "a start, an eSPI reset, a platform reset or a disabling of [the] channel" (demand 3; 01, Wires: "a start, such a reset or a disabling")
 abbrev pub ending : Channel → State → Call → Bool
 ending k s (reset r) = true
 ending k s (exchange command reply) = disables k s command
@@ -29,14 +29,15 @@ ending k s (board j o) = false
 ending k s (short state c) = false
 ending k s (lend write read) = false
 
--- "refused ones apart"
+-- "refused ones apart" (demand 3)
 abbrev pub endsWith : Channel → State → Call → Outcome → Bool
 endsWith k s c o = accepted o && ending k s c
 
+-- .. of a call on a world: an ending event of it, "refused ones apart" (demand 3)
 abbrev pub ends : Channel → World → Call → Bool
 ends k w c = endsWith k (w .state) c (step w c)
 
--- no such event in the run
+-- no such event in the run: "Until a start, .." (demand 3)
 unfoldable pub unended : Channel → World → List Call → Bool
 unended k w [] = true
 unended k w (c ∷ cs) = not (ends k w c) && unended k (step w c .next) cs

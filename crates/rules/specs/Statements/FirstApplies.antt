@@ -1,15 +1,18 @@
 -- P6. "The first that applies counts" (01, Replies and refusals): for each call a list of rows, in document 01's order and words; the call's
--- number is that of the first row that applies, and 0 exactly where none does. No row is a test of the engine's definitions. A channel's
--- own rows are its Rows.
-use Prim.Native.Nat.{ℕ, _%_}
-use mathlib.Core.Bool.{Bool, _&&_, _||_, not}
+-- number is that of the first row that applies, and 0 exactly where none does. One row is a test of the engine's definitions: 11's is the
+-- loader's, and `Packing` says beside it what that means. A channel's own rows are its Rows.
+use Prim.Native.Nat.{ℕ, _%_, _≤_}
+use mathlib.Core.Bool.{Bool, true, false, _&&_, _||_, not}
 use mathlib.Core.List.{List, [], _∷_, _++_}
+use mathlib.Core.Logic.{_↔_}
+use mathlib.Core.Path.{_≡_}
 use lib.Dec.{eqb, ltb}
-use lib.ListN.{length}
+use lib.ListN.{length, take}
 use Rattle.registers.specs.Registers.{bits}
 use Rattle.registers.specs.declared.Config.{Config}
 use Rattle.state.specs.declared.State.{State}
-use Rattle.state.specs.Layout.{stateLength, unpacked, holds}
+use Rattle.state.specs.Layout.{stateLength, packed, unpacked, holds}
+use Rattle.state.specs.Sound.{Sound}
 use Rattle.rules.specs.Rules.Peripheral.{look, answer, takeWrite}
 use Rattle.rules.specs.Rules.Wires.{setWire, readWire}
 use Rattle.rules.specs.Rules.Channel.{Channel, peripheral, wires, Part, Board, part}
@@ -47,6 +50,17 @@ tooShort store least = row 10 (ltb (length store) least)
 -- "bytes that pack no state are 11"
 abbrev pub packsNone : List ℕ → Row
 packsNone st = row 11 (not (holds st))
+
+-- the first bytes are those of this sound state
+pub record Packs (st : List ℕ) (s : State) : Type 0 where
+  pub sound : Sound s
+  pub bytes : take stateLength st ≡ packed s
+
+-- row 11 applies exactly where they are no sound state's; where it does not they are one's, and the rows after it read that one
+pub record Packing (st : List ℕ) : Type 0 where
+  pub none : (packsNone st .applies ≡ true) ↔ ((s : State) → Packs st s → ⊥)
+  pub some : packsNone st .applies ≡ false → Packs st (unpacked st)
+  pub alone : (s : State) → Packs st s → s ≡ unpacked st
 
 -- ---- 12 to 16
 
@@ -154,7 +168,10 @@ readRows st index bit = tooShort st stateLength ∷ ownRows wires st (readWire i
 -- ---- the statement; the number is in the word's bits 7:0
 
 pub record FirstApplies : Type 0 where
-  pub exchange : (st command reply write read : List ℕ) → First (exchangeCall st command reply write read .word % 256) (exchangeRows st command reply write read)
+  -- of any numbers, as many as a state has at least: fewer are 10
+  pub packing : (st : List ℕ) → stateLength ≤ length st → Packing st
+  pub exchange : (st command reply write read : List ℕ)
+      → First (exchangeCall st command reply write read .word % 256) (exchangeRows st command reply write read)
   pub start : (st : List ℕ) → First (startCall st .word % 256) (startRows st)
   pub espiReset : (st : List ℕ) → First (espiResetCall st .word % 256) (resetRows st)
   pub platformReset : (st : List ℕ) → First (platformResetCall st .word % 256) (resetRows st)

@@ -2,8 +2,10 @@
 -- this law and unfold no decision.
 pub mod Effects
 pub mod SoundMeans
+pub mod Makes
 pub mod Rows
 pub mod Status
+pub mod Steps
 use Prim.Native.Nat.{ℕ}
 use mathlib.Core.Bool.{Bool, true, false, _&&_}
 use mathlib.Core.List.{List, [], _∷_}

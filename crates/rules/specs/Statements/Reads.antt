@@ -2,9 +2,13 @@
 use Prim.Native.Nat.{ℕ, _+_, _≤_}
 use mathlib.Core.Bool.{true}
 use mathlib.Core.List.{List}
+use mathlib.Core.Logic.{_↔_}
 use mathlib.Core.Path.{_≡_}
 use lib.ListN.{length}
 use Rattle.registers.specs.declared.Config.{Config}
+use Rattle.command.specs.Rows.{rowOf}
+use Rattle.command.specs.declared.Row.{Row}
+use Rattle.command.specs.declared.Listed.the-variants.{As}
 use Rattle.command.specs.declared.Command.{Command}
 use Rattle.command.specs.declared.Command.the-variants as C
 use Rattle.peripheral.specs.declared.Request.{Request}
@@ -13,7 +17,12 @@ use Rattle.rules.specs.Rules.Peripheral as P
 use Rattle.rules.specs.Rules.Peripheral.{requestOf}
 use Rattle.rules.specs.Rules.Wires as W
 use Rattle.rules.specs.Statements.Cases.{Admits}
+use Rattle.rules.specs.Statements.Fields.{isListed}
 use Rattle.rules.specs.Statements.Fields.{byte, isPosted, isNonPosted, accessAddress, accessLength, accessTag, dataFrom, requestKind, ioBytes, groups, pairs, registerAt, registerValue}
+
+-- the decoder has a row for exactly the opcodes that are listed, of all numbers
+abbrev pub OpcodesListed : Type 0
+OpcodesListed = (op : ℕ) → (isListed op ≡ true) ↔ ((q : Row) × (rowOf op ≡ As q))
 
 -- the request that a command makes: what its bytes ask, "with its tag, payload and read sizes then in force"
 abbrev pub requestIn : Config → List ℕ → Request

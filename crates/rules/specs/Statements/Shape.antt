@@ -16,20 +16,20 @@ use Rattle.rules.specs.Statements.Fields.{byte, isNonPosted}
 use Rattle.rules.specs.Statements.Refusals.{isExchange}
 use Rattle.rules.specs.Rules.Step.{World, Call, exchange, Outcome, step, replyLength}
 
--- with the CRC of all before it
+-- "CRC over all before it" (01, Replies and refusals)
 abbrev pub withCrc : List ℕ → List ℕ
 withCrc m = m ++ (crc m ∷ [])
 
--- response byte, body, status low byte first, CRC
+-- "Reply: response byte .., body, status low byte first, CRC" (01, Replies and refusals)
 abbrev pub replyOf : ℕ → List ℕ → ℕ → List ℕ
 replyOf code body word = withCrc ((code ∷ body) ++ (word % 256 ∷ word / 256 % 256 ∷ []))
 
--- "ACCEPT 08h, DEFER 01h": "Accepting it replies DEFER"
+-- "ACCEPT 08h, DEFER 01h": "Accepting it replies DEFER" (01, Replies and refusals; Requests, answers, pieces)
 abbrev pub acceptCode : ℕ → ℕ
 acceptCode op = pick (isNonPosted op) 0x01 0x08
 
 -- the length of the body by its command: a completion's 3-byte header says how many data bytes follow, a wire packet's first byte the count
--- of groups less one, GET_CONFIGURATION has a register, all others nothing
+-- of groups less one, GET_CONFIGURATION has a register, all others nothing (01, Replies and refusals: "The body of a completion"; 004, 3.7 and 4.2.2)
 abbrev pub bodyLength : ℕ → List ℕ → ℕ
 bodyLength op body =
     pick (eqb op 0x01) (3 + (byte body 1 % 16 * 256 + byte body 2))
@@ -37,40 +37,43 @@ bodyLength op body =
     (pick (eqb op 0x21) 4
     0))
 
--- "A write takes effect after its own reply, whose .. status [is] the old one. All other replies show the status after the command"
+-- "A write takes effect after its own reply, whose .. status are the old ones. All other replies show the status after the command"
+-- (01, Registers and status)
 abbrev pub statusShown : ℕ → State → State → ℕ
 statusShown op before after = pick (eqb op 0x22) (status before) (status after)
 
--- the reply of an accepted command
+-- the reply of an accepted command: 0, "as the rules say" (01, Replies and refusals)
 pub record Replied (op : ℕ) (before after : State) (reply : List ℕ) : Type 0 where
   pub body : List ℕ
   pub bytes : reply ≡ replyOf (acceptCode op) body (statusShown op before after)
   pub ofKind : length body ≡ bodyLength op body
   pub small : length reply ≤ replyLength
 
--- "RESET 0 bytes"
+-- "RESET 0 bytes" (01, Replies and refusals); every other has a reply
 pub record AcceptedReply (op : ℕ) (before after : State) (reply : List ℕ) : Type 0 where
   pub reset : op ≡ 0xFF → reply ≡ []
   pub replied : op ≢ 0xFF → Replied op before after reply
 
--- by the number: 0, 1 "FATAL, 4 bytes", 2 "NON_FATAL, 4 bytes", all others none
+-- by the number: 0, 1 "FATAL, 4 bytes", 2 "NON_FATAL, 4 bytes", all others none (01, Replies and refusals)
 abbrev pub Shape : ℕ → ℕ → State → State → List ℕ → Type 0
 Shape zero op before after reply = AcceptedReply op before after reply
 Shape (suc zero) op before after reply = reply ≡ replyOf 0x03 [] (status before)
 Shape (suc (suc zero)) op before after reply = reply ≡ replyOf 0x02 [] (status before)
 Shape (suc (suc (suc n))) op before after reply = reply ≡ []
 
+-- .. of an exchange's outcome, its opcode and the states before and after (01, Replies and refusals)
 abbrev pub shapeOf : World → List ℕ → Outcome → Type 0
 shapeOf w b o = Shape (o .number) (byte b 0) (w .state) (o .next .state) (o .reply)
 
--- the value of an exchange is its reply's length
+-- the value of an exchange is its reply's length (01, What each contract must settle: "result")
 pub record ExchangeShape (w : World) (b : List ℕ) (o : Outcome) : Type 0 where
   pub shape : shapeOf w b o
   pub value : o .value ≡ length (o .reply)
 
+-- so every exchange of a sound state (demand 2: "the reply bytes, CRC, status word")
 abbrev pub RepliesHaveShape : Type 0
 RepliesHaveShape = (w : World) → Sound (w .state) → (b reply : List ℕ) → ExchangeShape w b (step w (exchange b reply))
 
--- no other call has a reply
+-- no other call has a reply: a board call "yields only its number" or a report (01, Replies and refusals)
 abbrev pub OnlyExchangesReply : Type 0
 OnlyExchangesReply = (w : World) (c : Call) → isExchange c ≡ false → step w c .reply ≡ []

@@ -95,6 +95,7 @@ pub record WireSteps : Type 0 where
   pub put : (w : World) (b r : List ℕ) → Sound (w .state) → byte b 0 ≡ 0x04 → step w (exchange b r) .number ≡ 0 → Put w (step w (exchange b r) .next) (pairs b)
   pub set : (w : World) (i bit value : ℕ) → Sound (w .state) → step w (setsWire i bit value) .number ≡ 0
       → Set w (step w (setsWire i bit value) .next) i bit value
+  -- so that `wireOf` is what the board reads; `WireReads` has that value by what came since a reset
   pub read : (w : World) (i bit : ℕ) → step w (readsWire i bit) .number ≡ 0 → step w (readsWire i bit) .value ≡ wireOf w i bit
   pub get : (w : World) (b r : List ℕ) → Sound (w .state) → byte b 0 ≡ 0x05 → step w (exchange b r) .number ≡ 0 → SomeGot w (step w (exchange b r))
   pub raised : (w : World) (c : Call) (i : ℕ) → Sound (w .state) → 2 ≤ i → i ≤ 7 → markAt (wiresOf w) i ≡ false → markAt (wiresOf (step w c .next)) i ≡ true

@@ -26,7 +26,8 @@ pub data WireMove (w : World) (c : Call) (o : Outcome) : WireEvent → Type 0 wh
   put : (b r : List ℕ) → c ≡ exchange b r → wiresOf (o .next) ≡ putPairs (wiresOf w) (pairs b) → WireMove w c o puts
   sent : (k : ℕ) (ks : List ℕ) → G.sent (wiresOf w) (countOf w) ≡ k ∷ ks
       → wiresOf (o .next) ≡ afterSent (wiresOf w) (G.sent (wiresOf w) (countOf w))
-      → o .reply ≡ closed (0x08 ∷ (length (G.sent (wiresOf w) (countOf w)) - 1) ∷ pairBytes (wiresOf w) (G.sent (wiresOf w) (countOf w))) (status (o .next .state))
+      → o .reply ≡ closed (0x08 ∷ (length (G.sent (wiresOf w) (countOf w)) - 1) ∷ pairBytes (wiresOf w) (G.sent (wiresOf w) (countOf w)))
+      (status (o .next .state))
       → WireMove w c o gets
   set : (i bit value : ℕ) → c ≡ setsWire i bit value → settable i bit value ≡ true
       → wiresOf (o .next) ≡ G.setWire (on wires (w .state .config)) (wiresOf w) i bit value → WireMove w c o sets

@@ -12,7 +12,8 @@ returns c =
     configured-done
     (configured-then K.wires (w .store-edge2 .ensures)
     (configured-then K.peripheral (p .store-edge .ensures)
-    (configured-start (r .before .before .before .channels .ensures) (r .before .before .channels2 .ensures) (r .before .before .before .before .before .pre) (r .pack .ensures))))
+    (configured-start (r .before .before .before .channels .ensures) (r .before .before .channels2 .ensures) (r .before .before .before .before .before .pre)
+    (r .pack .ensures))))
 
 pub reconfigure-spec : {M : Type 1} → statement M
 reconfigure-spec =

@@ -9,7 +9,12 @@ use Rattle.engine.proofs.configuration.reset_008.Statement.{statement}
 use Rattle.engine.proofs.configuration.reset_008.Tie as tie
 
 returns : tie.Need-returns
-returns c = let a = c .before .before .before .before .before .before .before .before .before .args in cleared-by (a .s) (now (a .state)) _ (c .before .before .before .before .before .before .before .before .before .pre) (c .before .before .pack .ensures ∙ ap (λ (z : Reg008). put 0 (configBytes (record { r008 = z; r010 = a .s .config .r010; r020 = a .s .config .r020 })) (now (a .state))) (c .before .before .before .before .fresh .ensures))
+returns c =
+    let a = c .before .before .before .before .before .before .before .before .before .args in
+    cleared-by (a .s) (now (a .state)) _ (c .before .before .before .before .before .before .before .before .before .pre)
+    (c .before .before .pack .ensures ∙ ap
+    (λ (z : Reg008). put 0 (configBytes (record { r008 = z; r010 = a .s .config .r010; r020 = a .s .config .r020 })) (now (a .state)))
+    (c .before .before .before .before .fresh .ensures))
 
 pub reset-008-spec : {M : Type 1} → statement M
 reset-008-spec = tie.close (tie.spec (λ c κs. search needs) (λ c κs. search needs) (λ c. search needs) returns)

@@ -9,10 +9,15 @@ use Rattle.engine.proofs.peripheral_channel.answered.Statement.{stateme
 use Rattle.engine.proofs.peripheral_channel.answered.Tie as tie
 
 returns : tie.Need-returns
-returns c = let a = c .before .before .before .before .args in changed (c .before .with-request .ensures) (c .keep .ensures ∙ ap (λ (z : ℕ). keep (K.Data 0 z)) (c .before .before .answer-length .ensures)) ∙ ap (answered (a .p) (a .q)) (sym (c .before .before .before .if1 .taken))
+returns c =
+    let a = c .before .before .before .before .args in
+    changed (c .before .with-request .ensures) (c .keep .ensures ∙ ap (λ (z : ℕ). keep (K.Data 0 z)) (c .before .before .answer-length .ensures)) ∙ ap
+    (answered (a .p) (a .q)) (sym (c .before .before .before .if1 .taken))
 
 returns-2 : tie.Need-returns-2
-returns-2 c = let a = c .before .before .before .args in changed (c .before .with-request2 .ensures) (c .keep2 .ensures) ∙ ap (answered (a .p) (a .q)) (sym (c .before .before .if1 .left))
+returns-2 c =
+    let a = c .before .before .before .args in
+    changed (c .before .with-request2 .ensures) (c .keep2 .ensures) ∙ ap (answered (a .p) (a .q)) (sym (c .before .before .if1 .left))
 
 pub answered-spec : {M : Type 1} → statement M
 answered-spec =

@@ -9,7 +9,11 @@ use Rattle.engine.proofs.peripheral_channel.store_edge.Statement.{state
 use Rattle.engine.proofs.peripheral_channel.store_edge.Tie as tie
 
 returns : tie.Need-returns
-returns c = taken _ _ (c .before .before .before .before .before .if1 .taken) (c .before .before .pack .ensures ∙ ap (λ (z : Peripheral). putPart peripheral z (now (c .before .before .before .before .before .before .before .args .state))) (c .before .before .before .before .dropped .ensures))
+returns c =
+    taken _ _ (c .before .before .before .before .before .if1 .taken)
+    (c .before .before .pack .ensures ∙ ap
+    (λ (z : Peripheral). putPart peripheral z (now (c .before .before .before .before .before .before .before .args .state)))
+    (c .before .before .before .before .dropped .ensures))
 
 returns-2 : tie.Need-returns-2
 returns-2 c = passed _ _ (c .if1 .left) refl

@@ -11,7 +11,9 @@ returns c = c .refused .ensures ∙ ap (taking (c .before .before .before .args 
 
 returns-2 : tie.Need-returns-2
 unfolding taken
-returns-2 c = changed (c .before .emptied .ensures) (c .keep .ensures) ∙ ap (taking (c .before .before .before .before .args .p)) (sym (c .before .before .enum-told2 .given .1))
+returns-2 c =
+    changed (c .before .emptied .ensures) (c .keep .ensures) ∙ ap (taking (c .before .before .before .before .args .p))
+    (sym (c .before .before .enum-told2 .given .1))
 
 pub taken-spec : {M : Type 1} → statement M
 taken-spec =

@@ -9,10 +9,18 @@ use Rattle.engine.proofs.wires_channel.store_edge.Statement.{statement}
 use Rattle.engine.proofs.wires_channel.store_edge.Tie as tie
 
 returns : tie.Need-returns
-returns c = taken _ _ (c .before .before .before .before .before .if1 .taken) (c .before .before .pack .ensures ∙ ap (λ (z : Wires). putPart wires z (now (c .before .before .before .before .before .before .before .args .state))) (c .before .before .before .before .disabled .ensures))
+returns c =
+    taken _ _ (c .before .before .before .before .before .if1 .taken)
+    (c .before .before .pack .ensures ∙ ap (λ (z : Wires). putPart wires z (now (c .before .before .before .before .before .before .before .args .state)))
+    (c .before .before .before .before .disabled .ensures))
 
 returns-2 : tie.Need-returns-2
-returns-2 c = passed _ _ (c .before .before .before .before .before .before .if1 .left) (taken _ _ (c .before .before .before .before .before .if2 .taken) (c .before .before .pack2 .ensures ∙ ap (λ (z : Wires). putPart wires z (now (c .before .before .before .before .before .before .before .before .args .state))) (c .before .before .before .before .enabled .ensures)))
+returns-2 c =
+    passed _ _ (c .before .before .before .before .before .before .if1 .left)
+    (taken _ _ (c .before .before .before .before .before .if2 .taken)
+    (c .before .before .pack2 .ensures ∙ ap
+    (λ (z : Wires). putPart wires z (now (c .before .before .before .before .before .before .before .before .args .state)))
+    (c .before .before .before .before .enabled .ensures)))
 
 returns-3 : tie.Need-returns-3
 returns-3 c = passed _ _ (c .before .if1 .left) (passed _ _ (c .if2 .left) refl)

@@ -4,7 +4,8 @@ use Rattle.peripheral.proofs.Peripheral.holds.Statement.{statement}
 use Rattle.peripheral.proofs.Peripheral.holds.Tie as tie
 
 returns : tie.Need-returns
-returns c = let a = c .before .before .before .before .before .args in holds-by (a .on) (a .b .now) _ _ (c .before .request-holds .ensures) (c .write-holds .ensures)
+returns c =
+    let a = c .before .before .before .before .before .args in holds-by (a .on) (a .b .now) _ _ (c .before .request-holds .ensures) (c .write-holds .ensures)
 
 pub holds-spec : {M : Type 1} → statement M
 holds-spec =

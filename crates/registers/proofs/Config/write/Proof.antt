@@ -13,10 +13,13 @@ returns-2 : tie.Need-returns-2
 returns-2 c = passed _ _ (ne-eqb _ _ (c .before .before .if1 .left)) (taken _ _ (eq-eqb _ _ (c .before .if2 .taken)) (rw (c .write2 .ensures)))
 
 returns-3 : tie.Need-returns-3
-returns-3 c = passed _ _ (ne-eqb _ _ (c .before .before .before .if1 .left)) (passed _ _ (ne-eqb _ _ (c .before .before .if2 .left)) (taken _ _ (eq-eqb _ _ (c .before .if3 .taken)) (rw (c .write3 .ensures))))
+returns-3 c =
+    passed _ _ (ne-eqb _ _ (c .before .before .before .if1 .left))
+    (passed _ _ (ne-eqb _ _ (c .before .before .if2 .left)) (taken _ _ (eq-eqb _ _ (c .before .if3 .taken)) (rw (c .write3 .ensures))))
 
 returns-4 : tie.Need-returns-4
-returns-4 c = passed _ _ (ne-eqb _ _ (c .before .before .if1 .left)) (passed _ _ (ne-eqb _ _ (c .before .if2 .left)) (passed _ _ (ne-eqb _ _ (c .if3 .left)) refl))
+returns-4 c =
+    passed _ _ (ne-eqb _ _ (c .before .before .if1 .left)) (passed _ _ (ne-eqb _ _ (c .before .if2 .left)) (passed _ _ (ne-eqb _ _ (c .if3 .left)) refl))
 
 pub write-spec : {M : Type 1} → statement M
 write-spec =

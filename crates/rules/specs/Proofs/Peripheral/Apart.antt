@@ -53,11 +53,15 @@ pub owns : Owns peripheral
 owns =
     record {
       nothing = refl;
-      bytes = λ body w v o p e. own-bytes body (w .state .wires) (v .state .wires) (w .read) o ∙ ap (λ (l : List (List ℕ)). bodyBytes body (v .state .wires) (getD l 1 [])) e;
+      bytes =
+          λ body w v o p e. own-bytes body (w .state .wires) (v .state .wires) (w .read) o ∙ ap
+          (λ (l : List (List ℕ)). bodyBytes body (v .state .wires) (getD l 1 [])) e;
       written = λ d write read write′ read′ e. ap (λ (l : List (List ℕ)). over d (getD l 0 []) ∷ getD l 1 [] ∷ []) e;
       answered = λ d write read write′ read′ e. ap (λ (l : List (List ℕ)). getD l 0 [] ∷ over d (getD l 1 []) ∷ []) e;
-      lackWritten = λ kept b write read write′ read′ o e h reply. ap (λ (l : List (List ℕ)). lacks reply (over (keptBytes kept b) (getD l 0 [])) (getD l 1 [])) e;
-      lackAnswered = λ kept b write read write′ read′ o e h reply. ap (λ (l : List (List ℕ)). lacks reply (getD l 0 []) (over (keptBytes kept b) (getD l 1 []))) e;
+      lackWritten =
+          λ kept b write read write′ read′ o e h reply. ap (λ (l : List (List ℕ)). lacks reply (over (keptBytes kept b) (getD l 0 [])) (getD l 1 [])) e;
+      lackAnswered =
+          λ kept b write read write′ read′ o e h reply. ap (λ (l : List (List ℕ)). lacks reply (getD l 0 []) (over (keptBytes kept b) (getD l 1 []))) e;
       shortAlike = short-alike;
       room = λ w c p o x d s. room w d s;
     }

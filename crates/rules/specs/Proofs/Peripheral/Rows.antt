@@ -58,7 +58,7 @@ avail-as (Ready q k) = refl
 avail-as (Failed q) = refl
 
 -- "does not cross a block" as the size test has it
-fits-within : (A L B : ℕ) → 1 ≤ L → 0 < B → within A L B ≡ fitsSize A L B
+pub fits-within : (A L B : ℕ) → 1 ≤ L → 0 < B → within A L B ≡ fitsSize A L B
 fits-within A L B hl hb = go (leb (A % B + L) B) refl
   where
     whole : A / B * B + A % B ≡ A

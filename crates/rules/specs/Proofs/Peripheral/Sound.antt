@@ -157,7 +157,8 @@ module _ {on : Bool} {p : Peripheral} (h : PeripheralOk on p) where
 
   -- a held request stays held
   pub phase-ok : (n : Np) → npFree n ≡ npFree (p .request) → RequestOk n → PeripheralOk on (withRequest p n)
-  phase-ok n e r = record { off = subst (λ (t : Bool). on || (pcFree (p .write) && t) ≡ true) (sym e) (h .off); request = r; write = h .write; serial = h .serial }
+  phase-ok n e r =
+      record { off = subst (λ (t : Bool). on || (pcFree (p .write) && t) ≡ true) (sym e) (h .off); request = r; write = h .write; serial = h .serial }
 
   pub emptied-ok : PeripheralOk on (emptied p)
   emptied-ok = record { off = or-second on (pcFree (p .write)) (npFree (p .request)) (h .off); request = h .request; write = empty-ok; serial = h .serial }

@@ -78,7 +78,7 @@ made q e f =
       asKind = made-as (q .kind) q (and-right (readLegal (q .readsize)) _ e₁);
     }
 
-made-test : (q : Request) → Made q → requestMade q ≡ true
+pub made-test : (q : Request) → Made q → requestMade q ≡ true
 made-test q m = and-true (code-payload _ (m .payload)) (and-true (code-read _ (m .readsize)) (as-made (q .kind) q (m .asKind)))
 
 request-made : (n : Np) → soundRequest n ≡ true → fitsRequest n ≡ true → RequestMade n
@@ -95,7 +95,7 @@ write-made (Held w) e f =
     let m = held-write w e in
     record { payload = payload-code (w .payload) (and-left (payloadLegal (w .payload)) _ e); address = ltb-true _ _ f; least = m .least; inBlock = m .inBlock }
 
-write-test : (w : Write) → WriteMade w → soundWrite w ≡ true
+pub write-test : (w : Write) → WriteMade w → soundWrite w ≡ true
 unfolding soundWrite
 write-test Empty m = refl
 write-test (Held w) m = and-true (code-payload _ (m .payload)) (and-true (le-leb _ _ (m .least)) (le-leb _ _ (m .inBlock)))

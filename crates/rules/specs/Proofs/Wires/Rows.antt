@@ -121,7 +121,7 @@ Defined i bit = definedBit i bit ≡ wireDefined i bit
 past-bits : (i bit : ℕ) → Defined i (suc (suc (suc (suc bit))))
 past-bits i bit = no-bit i (suc (suc (suc (suc bit)))) (omega arith) ∙ sym (no-wire i (suc (suc (suc (suc bit)))) (omega arith))
 
-defined-as : (i bit : ℕ) → Defined i bit
+pub defined-as : (i bit : ℕ) → Defined i bit
 defined-as i bit =
     by-index (λ (k : ℕ). Defined k bit) refl refl
     (by-bit (Defined 2) refl refl refl refl (past-bits 2) bit) (by-bit (Defined 3) refl refl refl refl (past-bits 3) bit)

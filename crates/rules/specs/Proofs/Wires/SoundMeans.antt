@@ -47,7 +47,8 @@ module _ (w : Wires) (i : ℕ) (g : isGroup i ≡ true) where
       record { four = c .small; undefined = λ bit h u. c .undefined-off bit h (undefined-bit bit h u) }
 
   group-test : GroupRight w i → onlyDefined w i ≡ true
-  group-test r = clean-test defined (levelAt w i) defined-small (record { small = r .four; undefined-off = λ bit h z. r .undefined bit h (bit-undefined bit z) })
+  group-test r =
+      clean-test defined (levelAt w i) defined-small (record { small = r .four; undefined-off = λ bit h z. r .undefined bit h (bit-undefined bit z) })
 
 is-group : (i : ℕ) → 2 ≤ i → i ≤ 7 → isGroup i ≡ true
 is-group i l u = and-true (le-leb 2 i l) (le-leb i 7 u)

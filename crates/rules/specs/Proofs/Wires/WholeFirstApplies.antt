@@ -32,6 +32,7 @@ module _ (st : List ℕ) where
   unfolding readWireCall
   read-first index bit =
       let f : ℕ → ℕ = λ x. x % 256 in
-      let n = ap (λ (x : WiresChange). x .out .number) (sym (read-is c (unpacked st .wires) index bit)) ∙ settle-number wires c (unpacked st .wires) (readWire index bit) in
+      let n = ap (λ (x : WiresChange). x .out .number) (sym (read-is c (unpacked st .wires) index bit)) ∙ settle-number wires c (unpacked st .wires)
+      (readWire index bit) in
       read-off f (ltb (length st) stateLength) (λ _. refl)
       λ _. read-off f (not (holds st)) (λ _. refl) λ _. in-word _ (boardRows wires (unpacked st .wires) (readWire index bit)) refl n _

@@ -21,24 +21,26 @@ use Rattle.rules.specs.Statements.Sizes.{payloadOf, readSizeOf}
 
 -- ---- credit
 
+-- "posted write while one is held" (01, Replies and refusals)
 abbrev pub writeHeld : Write → Bool
 writeHeld Empty = false
 writeHeld (Held w) = true
 
+-- "non-posted while one is held": in each phase, "until its last completion is sent" (01, Replies and refusals; Requests, answers, pieces)
 abbrev pub requestHeld : Np → Bool
 requestHeld Free = false
 requestHeld (Waiting q) = true
 requestHeld (Ready q sent) = true
 requestHeld (Failed q) = true
 
--- a completion is ready once the request is answered
+-- "a completion is ready" once the request is answered (01, Registers and status)
 abbrev pub completionReady : Np → Bool
 completionReady Free = false
 completionReady (Waiting q) = false
 completionReady (Ready q sent) = true
 completionReady (Failed q) = true
 
--- "posted write while one is held, non-posted while one is held, GET_PC with no completion ready"
+-- "posted write while one is held, non-posted while one is held, GET_PC with no completion ready" (01, Replies and refusals, 1)
 abbrev pub creditRows : Peripheral → List ℕ → List Row
 creditRows p b =
     row 1 (isPosted (byte b 0) && writeHeld (p .write))
@@ -48,11 +50,11 @@ creditRows p b =
 
 -- ---- size
 
--- "at most the .. size and does not cross a block of that size": its first and last byte lie in one block
+-- "at most the .. size and does not cross a block of that size": its first and last byte lie in one block (01, Size rules)
 abbrev pub fitsSize : ℕ → ℕ → ℕ → Bool
 fitsSize address length size = leb length size && eqb (address / size) ((address + length - 1) / size)
 
--- "a write's data ..", "a read's length ..", "(an I/O write as a write)"
+-- "a write's data ..", "a read's length ..", "(an I/O write as a write)" (01, Size rules)
 abbrev pub sizeRows : Config → List ℕ → List Row
 sizeRows c b =
     row 1 ((isPosted (byte b 0) || isIoWrite (byte b 0)) && not (fitsSize (accessAddress b) (accessLength b) (payloadOf c)))
@@ -61,19 +63,20 @@ sizeRows c b =
 
 -- ---- the board's calls
 
--- "Success copies exactly L bytes .. (0 for an I/O write); failure has 0"; `success` 0 is a failure
+-- "Success copies exactly L bytes .. (0 for an I/O write)" (01, Requests, answers, pieces)
 abbrev pub successBytes : Kind → ℕ → ℕ
 successBytes MemoryRead L = L
 successBytes IoRead L = L
 successBytes IoWrite L = 0
 
+-- .. "failure has 0"; `success` 0 is a failure (01, Requests, answers, pieces)
 abbrev pub bytesWanted : Np → ℕ → ℕ
 bytesWanted Free success = 0
 bytesWanted (Waiting q) success = pick (eqb success 0) 0 (successBytes (q .kind) (q .length))
 bytesWanted (Ready q sent) success = 0
 bytesWanted (Failed q) success = 0
 
--- "no unanswered request to look at"; "no unanswered request with this serial", "byte count wrong"; "no write to take"
+-- "no unanswered request to look at"; "no unanswered request with this serial", "byte count wrong"; "no write to take" (01, Replies and refusals)
 abbrev pub boardRows : Peripheral → Board → List Row
 boardRows p (look report) = row 23 (not (unanswered (p .request))) ∷ []
 boardRows p (answer serial success bytes) =

@@ -18,11 +18,11 @@ use Rattle.rules.specs.Statements.Sizes.{isEnabled}
 
 -- ---- commands
 
--- the senders that go
+-- the senders that go: "min(pending, operating count) groups" (01, Wires)
 abbrev pub groupsSent : Config → Wires → List ℕ
 groupsSent c v = sent v (bits 21 16 (c .r020 .value) + 1)
 
--- "PUT_VWIRE applies pairs in order"; GET_VWIRE: "their pending marks go", and the place follows the last one sent
+-- "PUT_VWIRE applies pairs in order"; GET_VWIRE: "their pending marks go", and the place follows the last one sent (01, Wires)
 abbrev pub commandPart : Config → Wires → List ℕ → Wires
 commandPart c v b =
     pick (eqb (byte b 0) 0x04) (putPairs v (pairs b))
@@ -31,27 +31,29 @@ commandPart c v b =
 
 -- ---- the board's calls
 
--- "a real change while channel 1 is enabled makes it pending"; reading a wire changes nothing
+-- "a real change while channel 1 is enabled makes it pending"; reading a wire changes nothing (01, Wires)
 abbrev pub boardPart : Config → Wires → Board → Wires
 boardPart c v (setWire index bit value) = withWire (isEnabled wires c) v index bit value
 boardPart c v (readWire index bit) = v
 
 -- ---- resets and configuration
 
+-- "A reset group is not pending", "Disabling channel 1 drops pending marks": none of the six is (01, Wires)
 abbrev pub noneMarked : List Bool
 noneMarked = false ∷ false ∷ false ∷ false ∷ false ∷ false ∷ []
 
--- groups 2 to 7
+-- groups 2 to 7: "Ch", "0h", "7h" and "6h" of 4 to 7 (01, Wires); 2 and 3 are 0 (004, tables 9 and 10)
 abbrev pub tableValues : List ℕ
 tableValues = 0x0 ∷ 0x0 ∷ 0xC ∷ 0x0 ∷ 0x7 ∷ 0x6 ∷ []
 
--- "eSPI reset also resets all .. groups"; "Platform reset also resets .. wire groups 6 and 7"; "A reset group is not pending"
+-- "eSPI reset also resets all .. groups"; "Platform reset also resets .. wire groups 6 and 7" (01, Requests, answers, pieces); "A reset group is not
+-- pending" (01, Wires)
 abbrev pub resetPart : Reset → Wires → Wires
 resetPart start v = record { level = tableValues; pending = noneMarked; place = 4 }
 resetPart espiReset v = record { level = tableValues; pending = noneMarked; place = 4 }
 resetPart platformReset v = record { level = set (set (v .level) 4 0x7) 5 0x6; pending = set (set (v .pending) 4 false) 5 false; place = 4 }
 
--- "makes each up group pending that differs from its reset value"
+-- "makes each up group pending that differs from its reset value" (01, Wires)
 abbrev pub differing : Wires → List Bool
 differing v =
     false ∷ false

@@ -11,30 +11,30 @@ use Rattle.rules.specs.Rules.Wires.{Board, setWire, readWire}
 use Rattle.rules.specs.Statements.Fields.{byte, groups}
 use Rattle.rules.specs.Statements.Rows.{Row, row}
 
--- the marks of groups 4, 5 and 6; group 2 stands first
+-- the marks of groups 4, 5 and 6; group 2 stands first ("up groups alone are pending", 01, Sound state)
 abbrev pub groupPending : Wires → Bool
 groupPending w = getD (w .pending) 2 false || (getD (w .pending) 3 false || getD (w .pending) 4 false)
 
--- "GET_VWIRE with nothing pending"
+-- "GET_VWIRE with nothing pending" (01, Replies and refusals, 1)
 abbrev pub creditRows : Wires → List ℕ → List Row
 creditRows w b = row 1 (eqb (byte b 0) 0x05 && not (groupPending w)) ∷ []
 
--- "PUT_VWIRE over the operating count is 1"
+-- "PUT_VWIRE over the operating count is 1" (01, Size rules)
 abbrev pub sizeRows : Config → List ℕ → List Row
 sizeRows c b = row 1 (eqb (byte b 0) 0x04 && ltb (bits 21 16 (c .r020 .value) + 1) (groups b)) ∷ []
 
--- the defined bits of the table: 2, 3 and 7 have 7h, 4 has Dh, 5 and 6 have Fh
+-- the defined bits of the table: 2, 3 and 7 have 7h, 4 has Dh, 5 and 6 have Fh (01, Wires; 004, tables 9 to 14)
 abbrev pub wireDefined : ℕ → ℕ → Bool
 wireDefined index bit =
     (eqb index 2 || (eqb index 3 || eqb index 7)) && ltb bit 3
     || (eqb index 4 && (eqb bit 0 || (eqb bit 2 || eqb bit 3))
     || (eqb index 5 || eqb index 6) && ltb bit 4)
 
--- the board's: a defined bit of 4, 5 or 6
+-- the board's: a defined bit of 4, 5 or 6, the groups that go "up" (01, Wires)
 abbrev pub wireOfBoard : ℕ → ℕ → Bool
 wireOfBoard index bit = (eqb index 4 || (eqb index 5 || eqb index 6)) && wireDefined index bit
 
--- "set: wire not the board's, or value above 1; read: no such defined wire"
+-- "set: wire not the board's, or value above 1; read: no such defined wire" (01, Replies and refusals, 22)
 abbrev pub boardRows : Board → List Row
 boardRows (setWire index bit value) = row 22 (not (wireOfBoard index bit) || ltb 1 value) ∷ []
 boardRows (readWire index bit) = row 22 (not (wireDefined index bit)) ∷ []

@@ -47,7 +47,8 @@ loop-again c =
     let a = c .before .before .before .before .before .before .args in (
       omega arith,
       ap (λ (w : Wires). putPairs w (drop ((l .i + 1) * 2) (take (a .n * 2) (a .pairs .now)))) (c .put-pair .ensures)
-          ∙ pairs-next (l .next) (a .pairs .now) (a .n) (l .i) (c .before .before .before .loop-test .taken) (c .before .before .before .before .before .before .pre)
+          ∙ pairs-next (l .next) (a .pairs .now) (a .n) (l .i) (c .before .before .before .loop-test .taken)
+          (c .before .before .before .before .before .before .pre)
           ∙ l .inv .1,
     )
 

@@ -11,7 +11,8 @@ use Rattle.wires.proofs.Wires.remarked.Statement.{statement}
 use Rattle.wires.proofs.Wires.remarked.Tie as tie
 
 abbrev Inv-loop : tie.InvT-loop
-Inv-loop on place self next₀ i₀ next i = (i ≤ 6) × (next .level ≡ self .level) × (next .pending ≡ paste (self .pending) 0 (remarked on self place .pending) i) × (0 < i → next .place ≡ place)
+Inv-loop on place self next₀ i₀ next i =
+    (i ≤ 6) × (next .level ≡ self .level) × (next .pending ≡ paste (self .pending) 0 (remarked on self place .pending) i) × (0 < i → next .place ≡ place)
 
 abbrev μ-loop : tie.MeasureT-loop
 μ-loop on place self next₀ i₀ next i = 6 - i
@@ -53,7 +54,8 @@ loop-again : tie.Need-loop-again Inv-loop μ-loop
 loop-again c = let l = c .before .before .before .before .loop in
     let s = c .before .before .before .before .before in
     let w : length (s .args .t1 .pending) ≡ 6 = search needs in
-    let n = remarked-next (s .args .on) (s .args .t1) (l .next) (s .args .place) (l .i) (c .before .before .before .loop-test .taken) w (l .inv .1) (l .inv .2) in (
+    let n = remarked-next (s .args .on) (s .args .t1) (l .next) (s .args .place) (l .i) (c .before .before .before .loop-test .taken) w (l .inv .1)
+    (l .inv .2) in (
       omega arith,
       ap (λ (v : Wires). v .level) (c .with .ensures) ∙ n .0,
       ap (λ (v : Wires). v .pending) (c .with .ensures) ∙ n .1,

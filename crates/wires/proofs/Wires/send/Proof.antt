@@ -20,7 +20,9 @@ abbrev μ-loop : tie.MeasureT-loop
 μ-loop capacity self place next₀ g₀ next g = g .left
 
 loop-holds : tie.Need-loop-holds Inv-loop μ-loop
-loop-holds c = let w = c .before .args .t1 in gone-first w (c .before .args .capacity) _ (place-group (w .place) (c .before .pre .0) (c .before .pre .1)) (c .go-round .ensures)
+loop-holds c =
+    let w = c .before .args .t1 in
+    gone-first w (c .before .args .capacity) _ (place-group (w .place) (c .before .pre .0) (c .before .pre .1)) (c .go-round .ensures)
 
 row-of-requires : tie.Need-row-of-requires Inv-loop μ-loop
 row-of-requires c κs = c .before .before .loop .inv .up
@@ -35,7 +37,8 @@ loop-less : tie.Need-loop-less Inv-loop μ-loop
 loop-less c = let s = c .before .before .before .before .before .before .before in
     let l = s .before .before .before .loop in
     let w = s .before .before .before .before .before .args .t1 in
-    gone-less w (l .g) _ (l .inv .up) (s .before .if1 .taken) (past-at w (l .g) _ (s .row-of .ensures .0) (c .before .before .before .before .before .past .ensures))
+    gone-less w (l .g) _ (l .inv .up) (s .before .if1 .taken)
+    (past-at w (l .g) _ (s .row-of .ensures .0) (c .before .before .before .before .before .past .ensures))
 
 loop-again : tie.Need-loop-again Inv-loop μ-loop
 loop-again c = let s = c .before .before .before .before .before .before .before in
@@ -46,7 +49,8 @@ loop-again c = let s = c .before .before .before .before .before .before .before
     gone-on _ _ (l .inv) (s .before .if1 .taken) e
     (ap (λ (v : Wires). afterSent v (turnOf w (past w (l .g))))
     (c .with .ensures ∙ ap₂ (λ (i : ℕ) (h : Going). withGroup (l .next) (l .g .group) (getD (l .next .level) i 0) false (h .group)) r e)
-    ∙ left-taken w (l .g) (l .inv .up) (s .before .if1 .taken) (l .next) (takes-at w (l .g) r (c .before .before .before .before .takes .ensures) (c .before .before .before .if2 .taken)))
+    ∙ left-taken w (l .g) (l .inv .up) (s .before .if1 .taken) (l .next)
+    (takes-at w (l .g) r (c .before .before .before .before .takes .ensures) (c .before .before .before .if2 .taken)))
 
 loop-less-2 : tie.Need-loop-less-2 Inv-loop μ-loop
 loop-less-2 c = let s = c .before .before .before .before in
@@ -72,7 +76,8 @@ returns c = let w = c .before .before .before .before .before .args .t1 in
     let l = c .before .before .before .loop in
     let z : l .g .left ≡ 0 = omega (arith, c .before .if1 .left) in
     let count : n - l .g .room ≡ sizes senderSize (sent w n) = omega (arith, l .inv .room, sizes-over w (l .g) z) in
-    ap₂ (λ (k : ℕ) (v : Wires). record { packet = record { place = w .place; count = k }; next = v }) count (sym (left-over w (l .g) (l .next) z) ∙ l .inv .rest)
+    ap₂ (λ (k : ℕ) (v : Wires). record { packet = record { place = w .place; count = k }; next = v }) count
+    (sym (left-over w (l .g) (l .next) z) ∙ l .inv .rest)
 
 pub send-spec : {M : Type 1} → statement M
 send-spec =

@@ -1,0 +1,296 @@
+-- What a read yields by history: each accepted call by its row of effects, each packet and setting by P19; then by induction over the run.
+use Prim.Native.Nat.{ℕ, _-_, _/_, _%_, _^_, _≤_}
+use mathlib.Core.Bool.{Bool, true, false, _&&_, _||_, true≢false}
+use mathlib.Core.List.{List, [], _∷_, _++_}
+use mathlib.Core.Logic.{⊎-elim}
+use mathlib.Core.Path.{_≡_, refl, sym, ap, subst, _∙_}
+use native.Mathlib.Omega.{arith}
+use lib.Dec.{eqb, ltb}
+use lib.ListN.{getD, set, length-set}
+use lib.Seq.{getD-set-same, getD-set-other}
+use borrow.Author.Tests.{eqb-true, eqb-false, eq-eqb, ne-eqb}
+use Rattle.base.specs.Pick.{pick, pick-ind, and-left, and-right, or-either}
+use Rattle.wires.specs.Table.{rowAt, isGroup}
+use Rattle.wires.specs.Groups.{levelAt, isDown, definedBit, putPairs, afterSent, platformWires, wholeWires}
+use Rattle.wires.specs.Kept.{whole-level}
+use Rattle.wires.specs.Rows.{DefinedBit, defined-bit, settable-bit}
+use Rattle.wires.specs.Sent.{sent-levels}
+use Rattle.wires.specs.Changes.{lastNamed}
+use Rattle.wires.specs.declared.Wires.{Wires}
+use Rattle.state.specs.Facts.{fresh-sound}
+use Rattle.state.specs.Sound.{Sound}
+use Rattle.rules.specs.Rules.Reset.{Reset, start, espiReset, platformReset}
+use Rattle.rules.specs.Rules.Wires as W
+use Rattle.rules.specs.Rules.Channel.{peripheral, wires}
+use Rattle.rules.specs.Rules.Step.{World, Call, reset, exchange, board, short, lend, Outcome, step, run, served, handedOver, allHanded}
+use Rattle.rules.specs.Statements.Fields.{byte, pairs, registerAt, registerValue}
+use Rattle.rules.specs.Statements.Sizes.{isOf, isEnabled}
+use Rattle.rules.specs.Statements.Effects.{switched, enabledAfter, exchangeEffect, effect}
+use Rattle.rules.specs.Statements.Events.{accepted}
+use Rattle.rules.specs.Statements.Requests.{without}
+use Rattle.rules.specs.Statements.WireEvents.{wiresOf}
+use Rattle.rules.specs.Statements.WireView.{setsWire}
+use Rattle.rules.specs.Statements.WireSteps.{wireOf}
+use Rattle.rules.specs.Statements.Wires.Effects.{groupsSent, tableValues}
+use Rattle.rules.specs.Statements.Wires.Rows.{wireDefined, wireOfBoard}
+use Rattle.rules.specs.Statements.WireReads.{wireDown, resetLevel, resetsGroup, resetsBy, along, packetIn, settingIn, packets, settings}
+use Rattle.rules.specs.Statements.WireReads.{through, lastPut, lastSet, valueRead, ReadAfter, SoundBefore, WireReads}
+use Rattle.rules.specs.Proofs.Cases.{board-long}
+use Rattle.rules.specs.Proofs.Events.{head-without, tail-without}
+use Rattle.rules.specs.Proofs.Effects.{effects, after-call}
+use Rattle.rules.specs.Proofs.Sound.{sound-step}
+use Rattle.rules.specs.Proofs.Reads.{one-of}
+use Rattle.rules.specs.Proofs.WireView.{wires-whole}
+use Rattle.rules.specs.Proofs.WireSteps.{wire-steps, board-law}
+use Rattle.rules.specs.Proofs.Wires.Rows.{defined-as}
+
+-- ---- over a run
+
+through-both : {A : Type 0} (f : A → ℕ → ℕ) (xs ys : List A) (old : ℕ) → through f (xs ++ ys) old ≡ through f ys (through f xs old)
+unfolding through
+through-both f [] ys old = refl
+through-both f (x ∷ xs) ys old = through-both f xs ys (f x old)
+
+-- a level that each call takes on by what it gave
+module _ {A : Type 0} (g : World → Call → List A) (f : A → ℕ → ℕ) (level : World → ℕ) (p : World → Call → Bool)
+    (one : (w : World) (c : Call) → Sound (w .state) → p w c ≡ false → level (step w c .next) ≡ through f (g w c) (level w)) where
+  taken-on : (cs : List Call) (w : World) → Sound (w .state) → allHanded cs ≡ true → without p w cs ≡ true
+      → level (run w cs) ≡ through f (along g w cs) (level w)
+  unfolding run along through allHanded
+  taken-on [] w s h q = refl
+  taken-on (c ∷ cs) w s h q =
+      taken-on cs (step w c .next) (sound-step w c s (and-left (handedOver c) _ h)) (and-right (handedOver c) _ h) (tail-without p w c cs q)
+      ∙ ap (through f (along g (step w c .next) cs)) (one w c s (head-without p w c cs q))
+      ∙ sym (through-both f (g w c) (along g (step w c .next) cs) (level w))
+
+-- ---- the wires of the table
+
+-- a defined wire of a group that goes down, or of one that does not
+record Wire (down : Bool) (i bit : ℕ) : Type 0 where
+  way : isDown i ≡ down
+  defined : definedBit i bit ≡ true
+
+one-of-three : (Q : ℕ → Type 0) (i a b c : ℕ) → Q a → Q b → Q c → eqb i a || (eqb i b || eqb i c) ≡ true → Q i
+one-of-three Q i a b c qa qb qc e =
+    ⊎-elim (λ h. subst Q (sym (eqb-true i a h)) qa) (λ h. one-of Q i b c qb qc h) (or-either (eqb i a) (eqb i b || eqb i c) e)
+
+down-wire : (i bit : ℕ) → wireDown i bit ≡ true → Wire true i bit
+down-wire i bit e =
+    record {
+      way = one-of-three (λ (k : ℕ). isDown k ≡ true) i 2 3 7 refl refl refl (and-left (eqb i 2 || (eqb i 3 || eqb i 7)) (ltb bit 3) e);
+      defined = defined-as i bit ∙ ap (λ (t : Bool). t || (eqb i 4 && (eqb bit 0 || (eqb bit 2 || eqb bit 3)) || (eqb i 5 || eqb i 6) && ltb bit 4)) e;
+    }
+
+up-wire : (i bit : ℕ) → wireOfBoard i bit ≡ true → Wire false i bit
+up-wire i bit e =
+    let group = eqb i 4 || (eqb i 5 || eqb i 6) in
+    record {
+      way = one-of-three (λ (k : ℕ). isDown k ≡ false) i 4 5 6 refl refl refl (and-left group (wireDefined i bit) e);
+      defined = defined-as i bit ∙ and-right group (wireDefined i bit) e;
+    }
+
+-- ---- a read yields the level
+
+read-level : (w : World) (i bit : ℕ) → definedBit i bit ≡ true → valueRead w i bit ≡ wireOf w i bit
+unfolding served
+read-level w i bit e = ap (λ (q : Outcome). q .value) (board-long wires w (W.readWire i bit) refl) ∙ ap (λ (t : Bool). pick t (wireOf w i bit) 0) e
+
+-- ---- one call
+
+edge-level : (was is : Bool) (v : Wires) → switched wires was is v .level ≡ v .level
+edge-level true true v = refl
+edge-level true false v = refl
+edge-level false true v = refl
+edge-level false false v = refl
+
+-- a command of the channel that is no PUT_VWIRE
+get-level : (op : ℕ) (v u : Wires) (ks : List ℕ) → eqb op 0x04 ≡ false → pick (eqb op 0x04) u (pick (eqb op 0x05) (afterSent v ks) v) .level ≡ v .level
+get-level op v u ks e =
+    ap (λ (t : Bool). pick t u (pick (eqb op 0x05) (afterSent v ks) v) .level) e
+    ∙ pick-ind (λ (x : Wires). x .level ≡ v .level) (eqb op 0x05) (λ _. sent-levels v ks) (λ _. refl)
+
+module _ (w : World) where
+  -- the levels are as they were
+  abbrev Kept : World → Type 0
+  Kept v = wiresOf v .level ≡ wiresOf w .level
+
+  other-command : (b : List ℕ) → eqb (byte b 0) 0x04 ≡ false → Kept (exchangeEffect w (byte b 0) b)
+  other-command b e =
+      let op = byte b 0 in
+      let v = wiresOf w in
+      pick-ind Kept (isOf peripheral op) (λ _. refl)
+      (λ _. pick-ind Kept (isOf wires op) (λ _. get-level op v (putPairs v (pairs b)) (groupsSent (w .state .config) v) e)
+      (λ _. pick-ind Kept (eqb op 0x22)
+      (λ _. edge-level (isEnabled wires (w .state .config)) (enabledAfter wires (w .state .config) (registerAt b) (registerValue b)) v)
+      (λ _. pick-ind Kept (eqb op 0xFF) (λ _. refl) (λ _. refl))))
+
+  refused : (c : Call) → accepted (step w c) ≡ false → Kept (step w c .next)
+  refused c e = after-call Kept w c refl (λ n. absurd (true≢false (sym (eq-eqb (step w c .number) 0 n) ∙ e)))
+
+module _ (w : World) (i bit : ℕ) (from : 2 ≤ i) where
+  kept-wire : (v : World) → wiresOf v .level ≡ wiresOf w .level → wireOf v i bit ≡ wireOf w i bit
+  kept-wire v e = ap (λ (l : List ℕ). getD l (i - 2) 0 / 2 ^ bit % 2) e
+
+  same-wire : (v : World) → levelAt (wiresOf v) i ≡ levelAt (wiresOf w) i → wireOf v i bit ≡ wireOf w i bit
+  same-wire v e = ap (λ (x : ℕ). x / 2 ^ bit % 2) e
+
+  reset-wire : (r : Reset) → resetsGroup i r ≡ false → wireOf (effect w (reset r)) i bit ≡ wireOf w i bit
+  reset-wire start e = absurd (true≢false e)
+  reset-wire espiReset e = absurd (true≢false e)
+  reset-wire platformReset e =
+      let l = wiresOf w .level in
+      same-wire (effect w (reset platformReset))
+      (getD-set-other (set l 4 0x7) 5 (i - 2) 0x6 0 (λ q. not-either (eqb i 6) (eqb i 7) e .1 (eq-eqb i 7 (omega arith)))
+      ∙ getD-set-other l 4 (i - 2) 0x7 0 (λ q. not-either (eqb i 6) (eqb i 7) e .0 (eq-eqb i 6 (omega arith))))
+    where
+      not-either : (a b : Bool) → a || b ≡ false → (a ≡ true → ⊥) × (b ≡ true → ⊥)
+      not-either true b h = absurd (true≢false h)
+      not-either false true h = absurd (true≢false h)
+      not-either false false h = ((λ q. true≢false (sym q)), (λ q. true≢false (sym q)))
+
+  -- a call whose row leaves the wire
+  by-row : (c : Call) → step w c .number ≡ 0 → wireOf (effect w c) i bit ≡ wireOf w i bit → wireOf (step w c .next) i bit ≡ wireOf w i bit
+  by-row c n e = ap (λ (v : World). wireOf v i bit) (effects w c n) ∙ e
+
+  by-command : (b r : List ℕ) → step w (exchange b r) .number ≡ 0 → eqb (byte b 0) 0x04 ≡ false
+      → wireOf (step w (exchange b r) .next) i bit ≡ wireOf w i bit
+  by-command b r n e = by-row (exchange b r) n (kept-wire (exchangeEffect w (byte b 0) b) (other-command w b e))
+
+-- ---- a down wire: packets alone change it
+
+module _ (w : World) (s : Sound (w .state)) (i bit : ℕ) (d : Wire true i bit) where
+  abbrev from : 2 ≤ i
+  from = defined-bit i bit (d .defined) .from
+
+  put-down : (b r : List ℕ) → step w (exchange b r) .number ≡ 0
+      → wireOf (step w (exchange b r) .next) i bit ≡ lastPut i bit (packetIn (exchange b r)) (wireOf w i bit)
+  unfolding through
+  put-down b r n = go (eqb (byte b 0) 0x04) refl
+    where
+      go : (t : Bool) → eqb (byte b 0) 0x04 ≡ t → wireOf (step w (exchange b r) .next) i bit ≡ lastPut i bit (pick t (pairs b ∷ []) []) (wireOf w i bit)
+      go true e = wire-steps .put w b r s (eqb-true (byte b 0) 0x04 e) n .bits i bit (d .way) (d .defined)
+      go false e = by-command w i bit from b r n e
+
+  -- a wire that the board sets is none
+  set-down : (j k v : ℕ) → step w (setsWire j k v) .number ≡ 0 → wireOf (step w (setsWire j k v) .next) i bit ≡ wireOf w i bit
+  set-down j k v n =
+      same-wire w i bit from (step w (setsWire j k v) .next)
+      (wire-steps .set w j k v s n .otherGroups i from
+      (λ e. true≢false (sym (and-right (isGroup i) (rowAt (i - 2) .down) (d .way)) ∙ ap (λ (x : ℕ). rowAt (x - 2) .down) e
+      ∙ settable-bit j k v (board-law w (W.setWire j k v) n .0) .up)))
+
+  accepted-down : (c : Call) → resetsBy i c ≡ false → step w c .number ≡ 0 → wireOf (step w c .next) i bit ≡ lastPut i bit (packetIn c) (wireOf w i bit)
+  unfolding through
+  accepted-down (reset r) e n = by-row w i bit from (reset r) n (reset-wire w i bit from r e)
+  accepted-down (exchange b r) e n = put-down b r n
+  accepted-down (board peripheral o) e n = by-row w i bit from (board peripheral o) n refl
+  accepted-down (board wires (W.setWire j k v)) e n = set-down j k v n
+  accepted-down (board wires (W.readWire j k)) e n = by-row w i bit from (board wires (W.readWire j k)) n refl
+  accepted-down (short state c) e n = by-row w i bit from (short state c) n refl
+  accepted-down (lend write read) e n = by-row w i bit from (lend write read) n refl
+
+-- ---- an up wire: the board's settings alone change it
+
+module _ (w : World) (s : Sound (w .state)) (i bit : ℕ) (u : Wire false i bit) where
+  abbrev its : DefinedBit i bit
+  its = defined-bit i bit (u .defined)
+
+  put-up : (b r : List ℕ) → step w (exchange b r) .number ≡ 0 → wireOf (step w (exchange b r) .next) i bit ≡ wireOf w i bit
+  put-up b r n = go (eqb (byte b 0) 0x04) refl
+    where
+      go : (t : Bool) → eqb (byte b 0) 0x04 ≡ t → wireOf (step w (exchange b r) .next) i bit ≡ wireOf w i bit
+      go true e =
+          same-wire w i bit (its .from) (step w (exchange b r) .next)
+          (wire-steps .put w b r s (eqb-true (byte b 0) 0x04 e) n .otherGroups i (its .from) (u .way))
+      go false e = by-command w i bit (its .from) b r n e
+
+  module _ (j k v : ℕ) (n : step w (setsWire j k v) .number ≡ 0) where
+    abbrev after : World
+    after = step w (setsWire j k v) .next
+
+    -- a wire of its group
+    set-own : (t : Bool) → j ≡ i → eqb bit k ≡ t → wireOf after i bit ≡ pick t v (wireOf w i bit)
+    set-own t e h =
+        subst (λ (x : ℕ). wireOf after x bit ≡ pick t v (wireOf w x bit)) e
+        (wire-steps .set w j k v s n .bits bit (its .small) ∙ ap (λ (b : Bool). pick b v (wireOf w j bit)) h)
+
+    set-up : wireOf after i bit ≡ lastSet (settingIn i bit (setsWire j k v)) (wireOf w i bit)
+    unfolding through
+    set-up = go (eqb j i) (eqb k bit) refl refl
+      where
+        go : (p q : Bool) → eqb j i ≡ p → eqb k bit ≡ q → wireOf after i bit ≡ lastSet (pick (p && q) (v ∷ []) []) (wireOf w i bit)
+        go true true e h = set-own true (eqb-true j i e) (eq-eqb bit k (sym (eqb-true k bit h)))
+        go true false e h = set-own false (eqb-true j i e) (ne-eqb bit k (λ x. eqb-false k bit h (sym x)))
+        go false q e h =
+            same-wire w i bit (its .from) after (wire-steps .set w j k v s n .otherGroups i (its .from) (λ x. eqb-false j i e (sym x)))
+
+  accepted-up : (c : Call) → resetsBy i c ≡ false → step w c .number ≡ 0 → wireOf (step w c .next) i bit ≡ lastSet (settingIn i bit c) (wireOf w i bit)
+  unfolding through
+  accepted-up (reset r) e n = by-row w i bit (its .from) (reset r) n (reset-wire w i bit (its .from) r e)
+  accepted-up (exchange b r) e n = put-up b r n
+  accepted-up (board peripheral o) e n = by-row w i bit (its .from) (board peripheral o) n refl
+  accepted-up (board wires (W.setWire j k v)) e n = set-up j k v n
+  accepted-up (board wires (W.readWire j k)) e n = by-row w i bit (its .from) (board wires (W.readWire j k)) n refl
+  accepted-up (short state c) e n = by-row w i bit (its .from) (short state c) n refl
+  accepted-up (lend write read) e n = by-row w i bit (its .from) (lend write read) n refl
+
+-- ---- any call, accepted or refused
+
+any-call : {A : Type 0} (w : World) (c : Call) (i bit : ℕ) (f : A → ℕ → ℕ) (given : List A) → 2 ≤ i
+    → (step w c .number ≡ 0 → wireOf (step w c .next) i bit ≡ through f given (wireOf w i bit))
+    → wireOf (step w c .next) i bit ≡ through f (pick (accepted (step w c)) given []) (wireOf w i bit)
+unfolding through
+any-call w c i bit f given from row = go (accepted (step w c)) refl
+  where
+    go : (t : Bool) → accepted (step w c) ≡ t → wireOf (step w c .next) i bit ≡ through f (pick t given []) (wireOf w i bit)
+    go true h = row (eqb-true (step w c .number) 0 h)
+    go false h = kept-wire w i bit from (step w c .next) (refused w c h)
+
+-- ---- the statements
+
+module _ (w : World) (cs : List Call) (i bit old : ℕ) (s : Sound (w .state)) (h : allHanded cs ≡ true)
+    (q : without (λ v c. resetsBy i c) w cs ≡ true) (first : definedBit i bit ≡ true → wireOf w i bit ≡ old) where
+  down-after : Wire true i bit → valueRead (run w cs) i bit ≡ lastPut i bit (packets w cs) old
+  down-after d =
+      read-level (run w cs) i bit (d .defined)
+      ∙ taken-on (λ v c. pick (accepted (step v c)) (packetIn c) []) (λ ps. lastNamed ps i bit) (λ v. wireOf v i bit) (λ v c. resetsBy i c)
+      (λ v c t e. any-call v c i bit (λ ps. lastNamed ps i bit) (packetIn c) (defined-bit i bit (d .defined) .from) (accepted-down v t i bit d c e)) cs w s h q
+      ∙ ap (lastPut i bit (packets w cs)) (first (d .defined))
+
+  up-after : Wire false i bit → valueRead (run w cs) i bit ≡ lastSet (settings i bit w cs) old
+  up-after u =
+      read-level (run w cs) i bit (u .defined)
+      ∙ taken-on (λ v c. pick (accepted (step v c)) (settingIn i bit c) []) (λ value o. value) (λ v. wireOf v i bit) (λ v c. resetsBy i c)
+      (λ v c t e. any-call v c i bit (λ value o. value) (settingIn i bit c) (defined-bit i bit (u .defined) .from) (accepted-up v t i bit u c e)) cs w s h q
+      ∙ ap (lastSet (settings i bit w cs)) (first (u .defined))
+
+  read-after : ReadAfter w cs i bit old
+  read-after = record { down = λ d. down-after (down-wire i bit d); up = λ u. up-after (up-wire i bit u) }
+
+-- the level that a reset of the group leaves
+platform-level : (v : Wires) (i : ℕ) → wholeWires v ≡ true → eqb i 6 || eqb i 7 ≡ true → getD (platformWires v .level) (i - 2) 0 ≡ getD tableValues (i - 2) 0
+platform-level v i h =
+    let l = v .level in
+    let n = whole-level v h in
+    one-of (λ (k : ℕ). getD (platformWires v .level) (k - 2) 0 ≡ getD tableValues (k - 2) 0) i 6 7
+    (getD-set-other (set l 4 0x7) 5 4 0x6 0 (λ q. omega arith) ∙ getD-set-same l 4 0x7 0 (omega arith))
+    (getD-set-same (set l 4 0x7) 5 0x6 0 (omega (arith, length-set l 4 0x7)))
+
+reset-sound : (r : Reset) (w : World) → SoundBefore r w → Sound (step w (reset r) .next .state)
+unfolding step
+reset-sound start w s = fresh-sound
+reset-sound espiReset w s = sound-step w (reset espiReset) s refl
+reset-sound platformReset w s = sound-step w (reset platformReset) s refl
+
+reset-level : (r : Reset) (w : World) (i bit : ℕ) → SoundBefore r w → resetsGroup i r ≡ true → wireOf (step w (reset r) .next) i bit ≡ resetLevel i bit
+unfolding step
+reset-level start w i bit s e = refl
+reset-level espiReset w i bit s e = refl
+reset-level platformReset w i bit s e = ap (λ (x : ℕ). x / 2 ^ bit % 2) (platform-level (wiresOf w) i (wires-whole w s) e)
+
+pub wire-reads : WireReads
+wire-reads =
+    record {
+      since = λ w r cs i bit s e h q. read-after (step w (reset r) .next) cs i bit (resetLevel i bit) (reset-sound r w s) h q (λ d. reset-level r w i bit s e);
+      between = λ w cs i bit s h q. read-after w cs i bit (valueRead w i bit) s h q (λ d. sym (read-level w i bit d));
+    }
