@@ -1,13 +1,14 @@
 #!/usr/bin/env bash
 # build.sh TRIPLE: target/firmware/TRIPLE/libespi.a, of the module that tests/firmware/keep.sh kept, by the kit's own clang and in the words of the kit,
-# but for those that name the machine. FLAGS: further words for clang, as -march=rv32imc. -O3 on the small machines too: measured, -Os gives more code and more
-# than twice the stack (docs/PORTING.md).
+# but for those that name the machine. FLAGS: further words for clang, as -march=rv32imc.
 set -eu
 cd "$(dirname "$0")/../.."
 out=target/firmware
+# Most functions of the module are called once: -Os alone leaves them apart, which costs stack, and code to hand structs over.
+small='-Os -mllvm -inline-threshold=2000'
 case ${1:-} in
-thumbv7em-none-eabi) own=-O3 ;;
-riscv32-unknown-elf) own='-O3 -march=rv32imac -mabi=ilp32' ;;
+thumbv7em-none-eabi) own=$small ;;
+riscv32-unknown-elf) own="$small -march=rv32imac -mabi=ilp32" ;;
 aarch64-linux-gnu | armv7-linux-gnueabihf) own='-O3 -fPIC' ;;
 *)
     echo "firmware: ${1:+no such TRIPLE: $1; }make firmware TRIPLE=.. with one of" >&2
