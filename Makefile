@@ -1,37 +1,35 @@
-# make run: the archive, and a small board played against it. make install, make differential, make bench: README.md says what they do.
+# make run: the archive, and a small board played against it. make install, make firmware, make differential, make bench: README.md says what they do.
 CFLAGS = -std=c11 -O2 -Wall -Wextra -Werror -Iinclude
 ARCHIVE = target/staticlib/libespi.a
 SOURCES = $(shell find crates -name '*.rt' -o -name '*.antt') crates.txt
 
-# The archive is x86-64 code: elsewhere a cross compiler and an emulator stand in (tests/tools.sh installs them).
-# QUICK: as many calls as take half a minute.
+# NATIVE: the archive for the machine at hand; where that is not x86-64, the firmware build of the same module. The x86-64 archive is then run by an emulator
+# (tests/tools.sh installs what is needed). QUICK: as many calls as take half a minute.
 ifeq ($(shell uname -m),x86_64)
+NATIVE = $(ARCHIVE)
 X86_CC = $(CC)
-X86_RUN =
-QUICK = 20000000
 else
+NATIVE = target/firmware/$(shell uname -m)-linux-gnu/libespi.a
 X86_CC = x86_64-linux-gnu-gcc -static
-X86_RUN = qemu-x86_64-static
-QUICK = 400000
 endif
+QUICK = 20000000
 
 .PHONY: run board-test archive install header boundary bench figures differential differential-quick rust-test clean
 
 run: target/board
-	$(X86_RUN) ./target/board
+	./target/board
 
 # What the board prints, against the stored transcript.
 board-test: target/board
-	$(X86_RUN) ./target/board > target/board.txt
+	./target/board > target/board.txt
 	diff -u tests/board.txt target/board.txt
 
 archive: $(ARCHIVE)
 
-$(ARCHIVE): $(SOURCES)
-	rt staticlib espi
+include tests/firmware/firmware.mk
 
-target/board: examples/board.c examples/print.h include/espi.h $(ARCHIVE)
-	$(X86_CC) $(CFLAGS) -o $@ examples/board.c $(ARCHIVE)
+target/board: examples/board.c examples/print.h include/espi.h $(NATIVE)
+	$(CC) $(CFLAGS) -o $@ examples/board.c $(NATIVE)
 
 # The header is C11 on 64-bit and 32-bit machines, and C++11, without a warning.
 HEADER_FLAGS = -Wall -Wextra -Wconversion -Wpedantic -Werror -ffreestanding -fsyntax-only -include include/espi.h
@@ -46,18 +44,18 @@ PREFIX = /usr/local
 VERSION = $(shell sed -n 's/^.define ESPI_VERSION_MAJOR //p' include/espi.h).$(shell sed -n 's/^.define ESPI_VERSION_MINOR //p' include/espi.h)
 INTO = $(DESTDIR)$(abspath $(PREFIX))
 
-install: $(ARCHIVE)
+install: $(NATIVE)
 	install -d $(INTO)/lib/pkgconfig $(INTO)/include
-	install -m 644 $(ARCHIVE) $(INTO)/lib/libespi.a
+	install -m 644 $(NATIVE) $(INTO)/lib/libespi.a
 	install -m 644 include/espi.h $(INTO)/include/espi.h
 	sed -e 's|@PREFIX@|$(abspath $(PREFIX))|' -e 's|@VERSION@|$(VERSION)|' include/espi.pc.in > $(INTO)/lib/pkgconfig/espi.pc
 	chmod 644 $(INTO)/lib/pkgconfig/espi.pc
 
 boundary: target/boundary
-	$(X86_RUN) ./target/boundary
+	./target/boundary
 
-target/boundary: tests/boundary.c tests/crc8.h include/espi.h $(ARCHIVE)
-	$(X86_CC) $(CFLAGS) -o $@ tests/boundary.c $(ARCHIVE)
+target/boundary: tests/boundary.c tests/crc8.h include/espi.h $(NATIVE)
+	$(CC) $(CFLAGS) -o $@ tests/boundary.c $(NATIVE)
 
 bench: target/figures
 	python3 tests/figures.py
@@ -73,13 +71,13 @@ DIFFERENTIAL = tests/differential/target/release/differential
 rust-test:
 	cd tests/differential && cargo test --release --lib
 
-differential: rust-test $(ARCHIVE)
-	cd tests/differential && cargo build --release
+differential: rust-test $(NATIVE)
+	cd tests/differential && ESPI_ARCHIVE_DIR=$(abspath $(dir $(NATIVE))) cargo build --release
 	$(DIFFERENTIAL) 2000000
 	$(DIFFERENTIAL) --faults
 
-differential-quick: $(ARCHIVE)
-	cd tests/differential && cargo build --release
+differential-quick: $(NATIVE)
+	cd tests/differential && ESPI_ARCHIVE_DIR=$(abspath $(dir $(NATIVE))) cargo build --release
 	$(DIFFERENTIAL) $(QUICK)
 	$(DIFFERENTIAL) --faults
 

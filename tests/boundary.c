@@ -389,28 +389,20 @@ static unsigned long seen[24], short_takes, short_looks;
 /* Often enough, seldom too short. */
 static size_t some_length(size_t least) { return least + below(9) - (below(64) == 0 ? 9 : 0); }
 
-/* A take and a look with a report of some length. Where only the report was too short, a long enough one shows whether there was something to report. */
-static uint32_t some_take(void)
+/* A take or a look with a report of some length. Where only the report was too short, a long enough one shows whether there was something to report. */
+static uint32_t some_report(uint32_t (*call)(void), size_t least, unsigned long *shortened)
 {
-    report.length = some_length(ESPI_TAKE_REPORT_LEN);
-    uint32_t word = take_write();
-    if (is_short(&report, ESPI_TAKE_REPORT_LEN)) {
-        report.length = ESPI_TAKE_REPORT_LEN;
-        short_takes += take_write() == ESPI_OK;
+    report.length = some_length(least);
+    uint32_t word = call();
+    if (is_short(&report, least)) {
+        report.length = least;
+        *shortened += call() == ESPI_OK;
     }
     return word;
 }
 
-static uint32_t some_look(void)
-{
-    report.length = some_length(ESPI_LOOK_REPORT_LEN);
-    uint32_t word = look();
-    if (is_short(&report, ESPI_LOOK_REPORT_LEN)) {
-        report.length = ESPI_LOOK_REPORT_LEN;
-        short_looks += look() == ESPI_OK;
-    }
-    return word;
-}
+static uint32_t some_take(void) { return some_report(take_write, ESPI_TAKE_REPORT_LEN, &short_takes); }
+static uint32_t some_look(void) { return some_report(look, ESPI_LOOK_REPORT_LEN, &short_looks); }
 
 /* An answer that is often right: what the request asks for, if there is one. */
 static void some_answer(uint32_t *serial, uint32_t *length)

@@ -17,10 +17,10 @@ static uint32_t send(uint8_t *command, size_t n)
 
 #define HOST(...) do { uint8_t c_[] = {__VA_ARGS__, 0}; send(c_, sizeof c_ - 1); } while (0)
 
-static void answered(size_t n)
+static uint32_t answered(size_t n)
 {
-    static uint8_t data[4096];
-    espi_answer(state, sizeof state, read_store, sizeof read_store, 1, 1, data, n);
+    static const uint8_t data[4096];
+    return espi_answer(state, sizeof state, read_store, sizeof read_store, 1, 1, data, n);
 }
 
 /* Sets the stage for the kind and gives its command. */
@@ -62,10 +62,20 @@ static size_t stage(const char *kind, uint8_t *c)
         espi_set_wire(state, sizeof state, 6, 0, 0);
         return c[0] = 0x05, 1;
     }
+    if (strcmp(kind, "look") == 0 || strcmp(kind, "answer of 1 byte") == 0)
+        HOST(0x40, 0x00, 0x64);
+    if (strcmp(kind, "answer of 64 bytes") == 0)
+        HOST(0x02, 0x00, 0x00, 0x40, 0x00, 0x00, 0x10, 0x00);
+    if (strcmp(kind, "answer of 4096 bytes") == 0) {
+        HOST(0x22, 0x00, 0x10, 0x03, 0x71, 0x00, 0x00);
+        HOST(0x02, 0x00, 0x00, 0x00, 0x00, 0x00, 0x10, 0x00);
+    }
+    if (strcmp(kind, "take a write") == 0)
+        HOST(0x4C, 0x00, 0x00, 0x20, 0x00, 0xBE);
     return c[0] = 0x01, 1; /* a refusal: GET_PC with no completion ready */
 }
 
-/* One turn: the kind's exchange, or a board call that does a part of what every exchange does. */
+/* One turn: the kind's exchange, or a board call. */
 typedef uint32_t turn(const uint8_t *command, size_t n);
 
 static uint32_t exchange(const uint8_t *command, size_t n)
@@ -85,9 +95,35 @@ static uint32_t set(const uint8_t *command, size_t n)
     return espi_set_wire(state, sizeof state, 6, 0, 0);
 }
 
+static uint32_t look(const uint8_t *command, size_t n)
+{
+    static uint8_t report[ESPI_LOOK_REPORT_LEN];
+    (void)command, (void)n;
+    return espi_look(state, sizeof state, report, sizeof report);
+}
+
+static uint32_t answer_1(const uint8_t *command, size_t n) { return (void)command, (void)n, answered(1); }
+static uint32_t answer_64(const uint8_t *command, size_t n) { return (void)command, (void)n, answered(64); }
+static uint32_t answer_4096(const uint8_t *command, size_t n) { return (void)command, (void)n, answered(4096); }
+
+static uint32_t take(const uint8_t *command, size_t n)
+{
+    static uint8_t report[ESPI_TAKE_REPORT_LEN];
+    (void)command, (void)n;
+    return espi_take_write(state, sizeof state, write_store, sizeof write_store, report, sizeof report);
+}
+
 static turn *turn_of(const char *kind)
 {
-    return strcmp(kind, "set wire, refused") == 0 ? refused : strcmp(kind, "set wire") == 0 ? set : exchange;
+    static const struct {
+        const char *kind;
+        turn *turn;
+    } board[] = {{"set wire, refused", refused}, {"set wire", set}, {"look", look}, {"answer of 1 byte", answer_1}, {"answer of 64 bytes", answer_64},
+                 {"answer of 4096 bytes", answer_4096}, {"take a write", take}};
+    for (size_t k = 0; k < sizeof board / sizeof *board; k++)
+        if (strcmp(kind, board[k].kind) == 0)
+            return board[k].turn;
+    return exchange;
 }
 
 int main(int argc, char **argv)
@@ -108,7 +144,7 @@ int main(int argc, char **argv)
         word = turn(command, n + 1);
     }
     clock_gettime(CLOCK_MONOTONIC, &to);
-    printf("%u %zu %u %.1f\n", (unsigned)espi_number(word), n + 1, (unsigned)espi_value(word),
+    printf("%u %u %u %.1f\n", (unsigned)espi_number(word), (unsigned)n + 1, (unsigned)espi_value(word),
            times ? ((double)(to.tv_sec - from.tv_sec) * 1e9 + (double)(to.tv_nsec - from.tv_nsec)) / (double)times : 0.0);
     return 0;
 }

@@ -2,14 +2,16 @@
 """Holds docs/CONTRACTS.md and docs/PROMISES.md against the source. Run from the repository's root.
 
 CONTRACTS.md: a section `## CRATE` has a line 'Definitions in `FILE`, ..' and rows `| `function` | .. `definition` .. | form | requires | met by |`.
+The form `prints` is that of a program's function that has no ensures: it writes to the output, itself or by a function that it calls, and gives no result.
 Both pages: a name cited as `name` (`file`), files under crates/, is declared in that file; `Record.field` is a field of it; `x.edit` exists.
 PROMISES.md, 'Statements and proofs': a row's second name is declared with its first as type.
-The files of definitions (those that CONTRACTS.md names, all of rules/specs/Rules, and FURTHER): above each public definition stands the rule that it says.
+The files of definitions (those that CONTRACTS.md names, all that is under WHOLE, and FURTHER): above each public definition stands the rule that it says.
 """
 import glob
 import os
 import re
 import sys
+from collections import namedtuple
 
 faults = []
 
@@ -23,7 +25,9 @@ def read(path):
         return f.read()
 
 
-# ---- the source: crate -> {qualified name: (public, extern, contract)}
+# ---- the source: crate -> {qualified name: function}
+
+Function = namedtuple("Function", "public exported contract body")
 
 FUNCTION = re.compile(r'^(\s*)(pub |pub\(crate\) )?(extern "C" )?fn (\w+)')
 
@@ -41,21 +45,34 @@ def functions(path):
         head = FUNCTION.match(line)
         if not head:
             continue
-        contract, k = [line], at
-        while not lines[k].rstrip().endswith("{"):
-            k += 1
-            contract.append(lines[k])
-        found[prefix + owner + head.group(4)] = (head.group(2) == "pub ", bool(head.group(3)), "\n".join(contract))
+        begin = next(k for k in range(at, len(lines)) if lines[k].rstrip().endswith("{")) + 1
+        end = next(k for k in range(begin, len(lines)) if lines[k].startswith(head.group(1) + "}"))
+        contract, body = "\n".join(lines[at:begin]), "\n".join(lines[begin:end])
+        found[prefix + owner + head.group(4)] = Function(head.group(2) == "pub ", bool(head.group(3)), contract, body)
     return found
 
 
 def source():
     crates = {}
     for path in sorted(glob.glob("crates/*/src/*.rt")):
-        if os.path.isfile(os.path.join(os.path.dirname(path), "main.rt")):
-            continue  # a program has no callers: what its modules show each other is not public
         crates.setdefault(path.split("/")[1], {}).update(functions(path))
     return crates
+
+
+def calls(name, body):
+    """What a body calls, each with its module: the function's own where none is written."""
+    module = name.rpartition("::")[0]
+    return {c if "::" in c else f"{module}::{c}" for c in re.findall(r"([\w:]+)\(", body)}
+
+
+def printing(crate, found):
+    """The functions of a program that write to the output; none of a library."""
+    prints = {"io::write_all"} if os.path.isfile(f"crates/{crate}/src/main.rt") else set()
+    while True:
+        more = {name for name, f in found.items() if calls(name, f.body) & prints} - prints
+        if not more:
+            return prints
+        prints |= more
 
 
 def clause(contract, word):
@@ -67,9 +84,11 @@ def clause(contract, word):
     return rest[: end.start()] if end else rest
 
 
-def form(ensures):
-    text = str(ensures.count("≡"))
-    return text + " + bound" if re.search(r"[<≤]", ensures) else text
+def form(crate, found, name):
+    ensures = clause(found[name].contract, "ensures")
+    if not ensures:
+        return "prints" if name in printing(crate, found) and "->" not in found[name].contract else "none"
+    return str(ensures.count("≡")) + (" + bound" if re.search(r"[<≤]", ensures) else "")
 
 
 # ---- declarations
@@ -147,14 +166,14 @@ def rows(page, crates, crate, files, section, listed):
         name, what, shape, needs, callers = name.group(1), *cells[1:]
         where = f"{page}: {crate}::{name}"
         listed.add((crate, name))
-        public, exported, contract = crates.get(crate, {}).get(name, (False, False, ""))
-        if not public:
+        found = crates.get(crate, {})
+        if name not in found or not found[name].public:
             fault(f"{where}: no such public function")
             continue
-        ensures = clause(contract, "ensures")
-        if form(ensures) != shape:
-            fault(f"{where}: the form is {form(ensures)}, not {shape}")
-        if (needs != "-") != bool(clause(contract, "requires")):
+        ensures = clause(found[name].contract, "ensures")
+        if form(crate, found, name) != shape:
+            fault(f"{where}: the form is {form(crate, found, name)}, not {shape}")
+        if (needs != "-") != bool(clause(found[name].contract, "requires")):
             fault(f"{where}: {'has no' if needs != '-' else 'has a'} requires")
         if (needs != "-") != (callers != "-"):
             fault(f"{where}: who meets its requires?")
@@ -172,10 +191,9 @@ def rows(page, crates, crate, files, section, listed):
 
 FURTHER = ["base/specs/Pick", "command/specs/Numbers", "promises/specs/ByteRuns", "state/specs/Channel", "state/specs/Sound"]
 FURTHER += ["wires/specs/Below", "wires/specs/Table", "wires/specs/Turn"]
-STATEMENTS = "Fields Effects Sizes Shape Events Requests WireEvents Peripheral/Rows Peripheral/Effects Wires/Rows Wires/Effects"
-FURTHER += ["rules/specs/Statements/" + name for name in STATEMENTS.split()]
-PUBLIC = re.compile(r"^( *(?:abbrev|unfoldable) )?pub (record |data )?(?!use |mod )([^\s:({]+)")
-RULE = re.compile(r'"[^"]+"|\b01, [A-Z]|\b02, Q-\d|\b004, (?:tables? )?\d')
+WHOLE = ["rules/specs/Rules", "rules/specs/Statements", "promises/specs/Statements"]
+PUBLIC = re.compile(r"^( *(?:abbrev|unfoldable) | +(?=pub (?:record|data) ))?pub (record |data )?(?!use |mod )([^\s:({]+)")
+RULE = re.compile(r'"[^"]+"|\b00, demand \d|\b01, [A-Z]|\b02, Q-\d|\b004, (?:tables? )?\d')
 
 
 def definitions(path):
@@ -196,8 +214,10 @@ def definitions(path):
 
 
 def cited_definitions(page):
-    """Each quotes its rule, or has the rule's place in 01, 02 or 004, or a number of docs/DECISIONS.md; how many there are."""
-    files = set(glob.glob("crates/rules/specs/Rules/*.antt")) | {f"crates/{name}.antt" for name in FURTHER}
+    """Each quotes its rule, or has the rule's place in 00, 01, 02 or 004, or a number of docs/DECISIONS.md; how many there are."""
+    files = {f"crates/{name}.antt" for name in FURTHER}
+    for directory in WHOLE:
+        files |= set(glob.glob(f"crates/{directory}/**/*.antt", recursive=True))
     for section in re.split(r"^(?=## )", read(page), flags=re.M):
         files |= set(defining(section))
     decided, found = re.findall(r"^(\d+)\. \*\*", read("docs/DECISIONS.md"), re.M), 0
@@ -230,14 +250,14 @@ def main():
     crates = source()
     listed = contracts("docs/CONTRACTS.md", crates)
     for crate, found in crates.items():
-        for name, (public, exported, contract) in found.items():
-            if not public:
+        for name, function in found.items():
+            if not function.public:
                 continue
             if (crate, name) not in listed:
                 fault(f"{crate}::{name} is not in docs/CONTRACTS.md")
-            if not clause(contract, "ensures"):
+            if form(crate, found, name) == "none":
                 fault(f"{crate}::{name} has no ensures")
-            if exported and clause(contract, "requires"):
+            if function.exported and clause(function.contract, "requires"):
                 fault(f"{crate}::{name} is exported and has a requires")
     cited = citations("docs/PROMISES.md") | citations("docs/CONTRACTS.md") | citations("docs/RULES.md")
     proofs("docs/PROMISES.md")

@@ -1,80 +1,113 @@
 #!/usr/bin/env python3
 """Reads what the prover said of each must-fail edit. Run from the repository's root, after the edits.
 
-An edit holds one or more wrong bodies or definitions; before each a line says who must refuse it, by a fact of its own and not because
-something below it is refused: `refused: fn NAME` a function, `refused: specs/FILE` a file of laws or theorems.
-Every public function is left unproved by two edits of its crate at least.
+An edit holds wrong bodies or definitions; before each, lines say who must refuse it by a fact of its own, not because something below it is refused.
+`refused: fn NAME`, a function: the log has an error in its own proof file or, where it has none, says that a search did not close.
+`refused: specs/FILE`, a file of laws or theorems: the log has an error in it. Where a definition is the only wrong thing in its edit, the file that
+is named first has the log's first error, and docs/PROMISES.md, 'Definitions that ..', names the same files if it has the edit.
+No log says that a proof does not fit the code: then the shape was changed, and nothing was refused for its own sake.
+Every public function is named by two edits of its crate, each with a wrong thing in that function's own body.
 """
 import glob
 import os
 import re
 import sys
+from collections import namedtuple
 
 import listed
 
+Wrong = namedtuple("Wrong", "places file old")  # one replacement
+Log = namedtuple("Log", "first own functions unfit")
+
 ERROR = re.compile(r"^(\S+):\d+:\d+: error: (.*)")
-VERDICT = re.compile(r"^fn (\w+)::([\w:]+): (proved|not proved|no proof)")
+VERDICT = re.compile(r"^fn \w+::([\w:]+): (not proved|no proof: .*; `search` does not close)")
+UNFIT = re.compile(r"has no `(?:Need-|Tie`)|has no field `|on the face `κs|expected type `tie\.Need-")
 
 
-def places(edit):
-    """The places that must refuse, one for each replacement at least."""
-    named, waiting, loose = [], False, False
+def wrongs(edit):
+    found, places, file, old = [], [], "", ""
     for line in listed.read(edit).split("\n"):
-        if line.startswith("refused: "):
-            named.append(line[len("refused: "):])
-            waiting = True
+        word, _, rest = line.partition(": ")
+        if word == "refused":
+            places.append(rest)
+        elif word == "file":
+            file = rest
+        elif word == "old":
+            old = rest
         elif line.startswith("new:"):
-            loose = loose or not waiting
-            waiting = False
-    return named, loose
+            found.append(Wrong(places, file, old))
+            places = []
+    return found
 
 
-def said(log, copy):
-    """The files with an error of their own, and the functions that are not proved: whether they lack a proof themselves."""
-    own, unproved = set(), {}
-    for line in listed.read(log).split("\n"):
-        error = ERROR.match(line)
+def said(path, copy):
+    """The file of the first error; the files with an error of their own; the functions not proved: whether a search failed; a proof that does not fit."""
+    first, own, functions, unfit = "", set(), {}, ""
+    for line in listed.read(path).split("\n"):
+        error, verdict = ERROR.match(line), VERDICT.match(line)
         if error:
+            file = os.path.relpath(error.group(1), copy)
+            first = first or file
             if "was not admitted" not in error.group(2):
-                own.add(os.path.relpath(error.group(1), copy))
-        verdict = VERDICT.match(line)
-        if verdict and verdict.group(3) != "proved":
-            unproved[verdict.group(2)] = verdict.group(3) == "no proof"
-    return own, unproved
+                own.add(file)
+            if UNFIT.search(error.group(2)):
+                unfit = unfit or file
+        if verdict:
+            functions[verdict.group(1)] = verdict.group(2) != "not proved"
+    return Log(first, own, functions, unfit)
 
 
-def refuses(place, own, unproved):
+def refuses(place, log):
     if not place.startswith("fn "):
-        return place in own
+        return place in log.own
     name = place[len("fn "):]
-    proof = os.path.join("proofs", *name.split("::"), "Proof.antt")
-    return name in unproved and (unproved[name] or proof in own)
+    return name in log.functions and (log.functions[name] or os.path.join("proofs", *name.split("::"), "Proof.antt") in log.own)
+
+
+def bodies(crate, wrong):
+    """The functions that this names and whose own body holds the text replaced."""
+    path = os.path.join("crates", crate, wrong.file)
+    found = listed.functions(path) if path.endswith(".rt") else {}
+    names = [p[len("fn "):] for p in wrong.places if p.startswith("fn ")]
+    return {n for n in names if n in found and wrong.old in found[n].body}
+
+
+def judge(wrong, log):
+    """What is not as one edit says."""
+    faults = [f"{w.old}: no line 'refused:' before it" for w in wrong if not w.places]
+    if log.unfit:
+        faults.append(f"{log.unfit} does not fit: the shape was changed")
+    faults += [f"{p} does not refuse it" for w in wrong for p in w.places if not refuses(p, log)]
+    if len(wrong) == 1 and wrong[0].file.startswith("specs/") and [log.first] != wrong[0].places[:1]:
+        faults.append(f"{log.first} refuses it first")
+    return faults
+
+
+def table(page):
+    """What the table of definitions says otherwise than the edits."""
+    section = re.search(r"^## Definitions that .*?(?=^## )", listed.read(page), re.M | re.S)
+    for line in section.group(0).split("\n"):
+        cells = [re.findall(r"`([^`]+)`", c) for c in line.strip("|").split("|")]
+        for edit in cells[0] if line.startswith("| `") else []:
+            wrong, crate = wrongs(os.path.join("crates", edit)), edit.split("/")[0]
+            if [os.path.join(crate, p) for w in wrong for p in w.places] != cells[1]:
+                yield f"{page}: {edit} says otherwise"
 
 
 def main():
-    faults, edits, wrong, left = [], 0, 0, {}
+    faults, edits, count, named = list(table("docs/PROMISES.md")), 0, 0, {}
     for edit in sorted(glob.glob("crates/*/must-fail/*.edit")):
         crate, label = edit.split("/")[1], os.path.basename(edit)[: -len(".edit")]
-        copy = os.path.abspath(os.path.join("target/must-fail", crate, label))
+        wrong, copy = wrongs(edit), os.path.abspath(os.path.join("target/must-fail", crate, label))
         log = os.path.join(copy, ".log")
-        named, loose = places(edit)
-        if loose or not named:
-            faults.append(f"{edit}: a replacement without a line 'refused:' before it")
-        if not os.path.isfile(log):
-            faults.append(f"{edit}: was not tried")
-            continue
-        own, unproved = said(log, copy)
-        edits, wrong = edits + 1, wrong + len(named)
-        for place in named:
-            if not refuses(place, own, unproved):
-                faults.append(f"{edit}: {place} does not refuse it")
-        for name in unproved:
-            left[crate, name] = left.get((crate, name), 0) + 1
-    public = [(c, f) for c, fs in listed.source().items() for f, (shown, _, _) in fs.items() if shown]
-    for crate, name in public:
-        if left.get((crate, name), 0) < 2:
-            faults.append(f"{crate}::{name}: left unproved by {left.get((crate, name), 0)} edits")
-    right = f"{edits} edits, {wrong} wrong bodies and definitions, each refused where it says; {len(public)} public functions"
+        found = judge(wrong, said(log, copy)) if os.path.isfile(log) else ["was not tried"]
+        faults += [f"{edit}: {f}" for f in found]
+        edits, count = edits + 1, count + len(wrong)
+        for name in set().union(*(bodies(crate, w) for w in wrong)):
+            named[crate, name] = named.get((crate, name), 0) + 1
+    public = [(c, n) for c, fs in listed.source().items() for n, f in fs.items() if f.public and listed.clause(f.contract, "ensures")]
+    faults += [f"{c}::{n}: {named.get((c, n), 0)} edits with a wrong body of it" for c, n in public if named.get((c, n), 0) < 2]
+    right = f"{edits} edits, {count} wrong bodies and definitions, each refused where it says; {len(public)} public functions with two wrong bodies or more"
     return listed.told("refused", faults, right)
 
 

@@ -1,13 +1,12 @@
 // Number 10: each lent store one byte too short.
-use crate::calls::done;
-use crate::calls::lent;
+use crate::calls;
 use crate::print;
 
 fn short_state(write_store: &mut [u8; 256], read_store: &[u8; 4096]) {
     print::title(b"10: exchange with a state of 76 bytes");
     let mut short = [0; 76];
     let mut reply = [0; 263];
-    lent(
+    calls::lent(
         &mut short,
         &[0x25, 0xFB],
         &mut reply,
@@ -19,35 +18,35 @@ fn short_state(write_store: &mut [u8; 256], read_store: &[u8; 4096]) {
 fn short_reply(state: &mut [u8; 77], write_store: &mut [u8; 256], read_store: &[u8; 4096]) {
     print::title(b"10: a reply of 262");
     let mut reply = [0; 262];
-    lent(state, &[0x25, 0xFB], &mut reply, write_store, read_store);
+    calls::lent(state, &[0x25, 0xFB], &mut reply, write_store, read_store);
 }
 
 fn short_write_store(state: &mut [u8; 77], read_store: &[u8; 4096]) {
     print::title(b"10: a write store of 255");
     let mut short = [0; 255];
     let mut reply = [0; 263];
-    lent(state, &[0x25, 0xFB], &mut reply, &mut short, read_store);
+    calls::lent(state, &[0x25, 0xFB], &mut reply, &mut short, read_store);
 }
 
 fn short_read_store(state: &mut [u8; 77], write_store: &mut [u8; 256]) {
     print::title(b"10: a read store of 4,095");
     let short = [0; 4095];
     let mut reply = [0; 263];
-    lent(state, &[0x25, 0xFB], &mut reply, write_store, &short);
+    calls::lent(state, &[0x25, 0xFB], &mut reply, write_store, &short);
 }
 
 fn short_states() {
     print::title(b"10: the board calls with a state of 76");
     let mut a = [0; 76];
-    done(b"start", espi::espi_start(&mut a));
+    print::done(b"start", espi::espi_start(&mut a));
     let mut b = [0; 76];
-    done(b"reset", espi::espi_reset(&mut b));
+    print::done(b"reset", espi::espi_reset(&mut b));
     let mut c = [0; 76];
-    done(b"platform reset", espi::espi_platform_reset(&mut c));
+    print::done(b"platform reset", espi::espi_platform_reset(&mut c));
     let mut d = [0; 76];
-    done(b"set wire", espi::espi_set_wire(&mut d, 4, 0, 1));
+    print::done(b"set wire", espi::espi_set_wire(&mut d, 4, 0, 1));
     let e = [0; 76];
-    done(b"read wire", espi::espi_read_wire(&e, 4, 0));
+    print::done(b"read wire", espi::espi_read_wire(&e, 4, 0));
 }
 
 fn short_reports(state: &mut [u8; 77], write_store: &[u8; 256]) {
@@ -55,17 +54,17 @@ fn short_reports(state: &mut [u8; 77], write_store: &[u8; 256]) {
         b"10: look with a report of 18, take with one of 9 and with a write store of 255, answer with a read store of 4,095",
     );
     let mut look = [0; 18];
-    done(b"look", espi::espi_look(state, &mut look));
+    print::done(b"look", espi::espi_look(state, &mut look));
     let mut take = [0; 9];
-    done(
+    print::done(
         b"take",
         espi::espi_take_write(state, write_store, &mut take),
     );
     let store = [0; 255];
     let mut report = [0; 10];
-    done(b"take", espi::espi_take_write(state, &store, &mut report));
+    print::done(b"take", espi::espi_take_write(state, &store, &mut report));
     let mut read = [0; 4095];
-    done(b"answer", espi::espi_answer(state, &mut read, 1, 1, b""));
+    print::done(b"answer", espi::espi_answer(state, &mut read, 1, 1, b""));
 }
 
 pub fn run(state: &mut [u8; 77], write_store: &mut [u8; 256], read_store: &mut [u8; 4096]) {

@@ -17,16 +17,16 @@ fn byte(high: u8, low: u8) -> u8 {
     16 * (nibble(high) % 16) + nibble(low) % 16
 }
 
-fn at(line: &[u8; 1024], i: usize) -> u8 {
-    if i < 1024 {
+fn at(line: &[u8], i: usize) -> u8 {
+    if i < line.len() {
         return line[i];
     }
     0
 }
 
 // The byte that stands in hex at column p.
-fn field(line: &[u8; 1024], p: usize) -> u8 {
-    if p < 1023 {
+fn field(line: &[u8], p: usize) -> u8 {
+    if p < line.len() {
         return byte(at(line, p), at(line, p + 1));
     }
     0
@@ -37,14 +37,15 @@ fn wide(x: u8) -> u32 {
 }
 
 // The bytes from column p on, and how many there are.
-fn fields(line: &[u8; 1024], n: usize, p: usize, bytes: &mut [u8; 1024]) -> usize {
+fn fields(line: &[u8], p: usize, bytes: &mut [u8; 1024]) -> usize {
     let mut k = 0;
     let mut column = p;
     while column < 1024 {
-        if n <= column {
+        if line.len() <= column {
             return k;
         }
-        k = print::put(bytes, k, field(line, column));
+        bytes[k] = field(line, column);
+        k += 1;
         column += 3;
     }
     k
@@ -54,22 +55,15 @@ fn exchange(
     state: &mut [u8; 77],
     write_store: &mut [u8; 256],
     read_store: &[u8; 4096],
-    line: &[u8; 1024],
-    n: usize,
+    line: &[u8],
     bytes: &mut [u8; 1024],
 ) {
-    let k = fields(line, n, 9, bytes);
+    let k = fields(line, 9, bytes);
     calls::send_part(state, write_store, read_store, bytes, k);
 }
 
-fn answer(
-    state: &mut [u8; 77],
-    read_store: &mut [u8; 4096],
-    line: &[u8; 1024],
-    n: usize,
-    bytes: &mut [u8; 1024],
-) {
-    let k = fields(line, n, 15, bytes);
+fn answer(state: &mut [u8; 77], read_store: &mut [u8; 4096], line: &[u8], bytes: &mut [u8; 1024]) {
+    let k = fields(line, 15, bytes);
     calls::answer_part(
         state,
         read_store,
@@ -85,13 +79,12 @@ fn obey_bus(
     state: &mut [u8; 77],
     write_store: &mut [u8; 256],
     read_store: &mut [u8; 4096],
-    line: &[u8; 1024],
-    n: usize,
+    line: &[u8],
 ) -> bool {
     let mut bytes = [0; 1024];
-    let word = line[0];
+    let word = at(line, 0);
     if word == b'e' {
-        exchange(state, write_store, read_store, line, n, &mut bytes);
+        exchange(state, write_store, read_store, line, &mut bytes);
         return true;
     }
     if word == b'g' {
@@ -99,11 +92,11 @@ fn obey_bus(
         return true;
     }
     if word == b'a' {
-        answer(state, read_store, line, n, &mut bytes);
+        answer(state, read_store, line, &mut bytes);
         return true;
     }
     if word == b'f' {
-        let count = calls::low_first(field(line, 15), field(line, 12));
+        let count = base::from_high2(field(line, 12), field(line, 15)) as usize;
         calls::answer_long(state, read_store, wide(field(line, 9)), count);
         return true;
     }
@@ -115,8 +108,8 @@ fn obey_bus(
 }
 
 // The calls on the state alone, and the take.
-fn obey_board(state: &mut [u8; 77], write_store: &[u8; 256], line: &[u8; 1024]) -> bool {
-    let word = line[0];
+fn obey_board(state: &mut [u8; 77], write_store: &[u8; 256], line: &[u8]) -> bool {
+    let word = at(line, 0);
     if word == b's' {
         calls::start(state);
         return true;
@@ -161,36 +154,36 @@ fn obey(
     state: &mut [u8; 77],
     write_store: &mut [u8; 256],
     read_store: &mut [u8; 4096],
-    line: &mut [u8; 1024],
-    n: usize,
+    line: &[u8],
 ) {
-    if n == 0 {
-        print::line(line, n);
-        return;
-    }
-    if obey_bus(state, write_store, read_store, line, n) {
+    if obey_bus(state, write_store, read_store, line) {
         return;
     }
     if obey_board(state, write_store, line) {
         return;
     }
-    print::line(line, n);
+    print::title(line);
 }
 
-// One character of the script; the length of the line so far.
+// Obeys the line that began at `from`, if i ends it; where the line begins that the next character is in.
 fn step(
     state: &mut [u8; 77],
     write_store: &mut [u8; 256],
     read_store: &mut [u8; 4096],
-    line: &mut [u8; 1024],
-    n: usize,
-    c: u8,
+    script: &[u8],
+    from: usize,
+    i: usize,
 ) -> usize {
-    if c != b'\n' {
-        return print::put(line, n, c);
+    if at(script, i) != b'\n' {
+        return from;
     }
-    obey(state, write_store, read_store, line, n);
-    0
+    if from <= i {
+        if i < script.len() {
+            obey(state, write_store, read_store, &script[from..i]);
+            return i + 1;
+        }
+    }
+    from
 }
 
 pub fn play(
@@ -199,11 +192,10 @@ pub fn play(
     read_store: &mut [u8; 4096],
     script: &[u8],
 ) {
-    let mut line = [0; 1024];
-    let mut n = 0;
+    let mut from = 0;
     let mut i = 0;
     while i < script.len() {
-        n = step(state, write_store, read_store, &mut line, n, script[i]);
+        from = step(state, write_store, read_store, script, from, i);
         i += 1;
     }
 }

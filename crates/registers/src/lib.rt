@@ -165,7 +165,8 @@ impl Reg020 {
     pub fn on(self) -> bool
         ensures { λ r. ⌜ r ≡ on1 self ⌝ }
     {
-        enabled(self.value)
+        let v = self.value;
+        enabled(v)
     }
 
     pub fn operating_count(self) -> u32

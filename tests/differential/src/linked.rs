@@ -1,4 +1,4 @@
-//! The proved engine linked in, on the machine that its archive is made for.
+//! The proved engine linked in, on the machine that its archive is made for; that is a 64-bit one, whose usize is a length of the C boundary.
 use differential::engine::Calls;
 
 /// The C boundary, as include/espi.h declares it.

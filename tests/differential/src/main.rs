@@ -2,8 +2,8 @@
 //!
 //!     differential [CALLS [SEED]]            every call on both engines, without a difference
 //!     differential --faults [CALLS [SEED]]   every deliberate fault of this engine is found within so many calls
-#[cfg_attr(target_arch = "x86_64", path = "linked.rs")]
-#[cfg_attr(not(target_arch = "x86_64"), path = "bridged.rs")]
+#[cfg_attr(not(feature = "bridged"), path = "linked.rs")]
+#[cfg_attr(feature = "bridged", path = "bridged.rs")]
 mod archive;
 
 use archive::Archive;

@@ -34,12 +34,13 @@ use Rattle.espi.proofs.espi_read_wire
 use Rattle.espi.proofs.espi_read_wire.Reads as ReadWire
 use Rattle.promises.specs.ByteRuns.{ByteWorld, byteStep, afterState, afterExchange, afterLook, afterAnswer, afterTake, afterWord}
 
--- the state bytes and the stores that a call is lent
+-- the state bytes and the stores that a call is lent ("Stores lent to a call", "State bytes lent", 01, What the engine covers)
 abbrev pub lending : (state write read : List ℕ) → ByteWorld
 lending state write read = record { state = state; write = write; read = read }
 
 -- ---- any two outcomes coincide: the word, and each byte of each slice that the call may write
 
+-- "Prove that any pair of outcomes allowed by it coincide" (01, What each contract must settle)
 pub record OneOutcome : Type 0 where
   pub start : (κs : Lfts 1) (a : ArgsD espi_start.signature κs) (r r′ : ResD espi_start.signature κs) (s s′ : AtExit espi_start.ended κs)
       → Start.Post κs a r s → Start.Post κs a r′ s′ → (r ≡ r′) × (now (s .0) ≡ now (s′ .0))
@@ -64,6 +65,8 @@ pub record OneOutcome : Type 0 where
 
 -- ---- what a contract allows is the outcome of the call over bytes; stores that a call is not lent are any
 
+-- "For every input, refusals too, the contract of a public function determines result, state and each byte of each lent store" (01, What each contract
+-- must settle): those of `byteStep`
 pub record AreByteSteps : Type 0 where
   pub start : (κs : Lfts 1) (a : ArgsD espi_start.signature κs) (r : ResD espi_start.signature κs) (s : AtExit espi_start.ended κs) (write read : List ℕ)
       → Start.Post κs a r s

@@ -10,6 +10,8 @@ use Rattle.espi.proofs.espi_take_write.Statement as TakeWrite
 use Rattle.espi.proofs.espi_set_wire.Statement as SetWire
 use Rattle.espi.proofs.espi_read_wire.Statement as ReadWire
 
+-- "Any bytes on the bus, any board call, any state handed in: the engine ends and does nothing undefined" (00, demand 1); "None may lack a contract on its
+-- outcome" (01, What each contract must settle)
 pub record CodeMeets (M : Type 1) : Type 2 where
   pub start : Start.statement M
   pub espiReset : EspiReset.statement M

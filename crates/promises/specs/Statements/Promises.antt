@@ -37,6 +37,7 @@ use Rattle.promises.specs.Statements.Words.{byteGetsIn, byteSeeing}
 
 -- ---- the bridge: at every place of a run, what a statement over `step` and `run` says is said of the bytes
 
+-- "each call gets the state that the last one left" (00, demand 3), here as bytes: "the state packed in lent bytes" (01, What form each place takes)
 pub record Bridge (v : ByteWorld) (cs : List Call) : Type 0 where
   pub world : worldOf (byteRun v cs) ≡ run (worldOf v) cs
   pub holding : Holding (byteRun v cs)
@@ -48,20 +49,24 @@ pub record Bridge (v : ByteWorld) (cs : List Call) : Type 0 where
   pub without : (p : Event → Bool) → byteWithout (λ v c. p (byteEvent v c)) v cs ≡ without (λ w c. p (event w c)) (worldOf v) cs
   pub got : byteGot v cs ≡ got (worldOf v) cs
 
+-- .. of every run from bytes of a sound state ("bytes that pack no state are 11", 01, What the engine covers)
 abbrev pub Bridged : Type 0
 Bridged = (v : ByteWorld) → Holding v → (cs : List Call) → allHanded cs ≡ true → Bridge v cs
 
 -- ---- P4
 
+-- "Every call keeps it" (01, Sound state)
 abbrev pub BytesKept : Type 0
 BytesKept = (v : ByteWorld) → Holding v → (c : Call) → handedOver c ≡ true → Holding (byteStep v c .next)
 
 -- ---- the events in words and bytes: an accepted GET_PC is exactly number 0 of an exchange whose first byte is 01h, and so on
 
--- number 0, of such a call
+-- number 0, of such a call ("accepted or deferred", 01, Replies and refusals)
 abbrev pub Accepts : ByteWorld → Call → Type 0 → Type 0
 Accepts v c Such = (numberAt v c ≡ 0) × Such
 
+-- "accepted GET_PC commands", "a request accepted later", "answered by the device", "a start, an eSPI reset, a platform reset or a disabling of channel 0,
+-- refused ones apart" (00, demand 3)
 pub record InBytes (v : ByteWorld) (c : Call) : Type 0 where
   pub get : Exactly (byteEvent v c ≡ gets) (Accepts v c (GetPc c))
   pub ask : Exactly (byteEvent v c ≡ asks) (Accepts v c (NonPosted c))
@@ -69,22 +74,24 @@ pub record InBytes (v : ByteWorld) (c : Call) : Type 0 where
   pub end : Exactly (byteEvent v c ≡ R.ends) (byteEnds peripheral v c ≡ true)
   pub ends : (k : Channel) → Exactly (byteEnds k v c ≡ true) (Accepts v c (Ending k (stateIn v .config) c))
 
--- of every call on bytes that hold a state: so of every call of every run (`Bridge`)
+-- of every call on bytes that hold a state: so of every call of every run (`Bridge`) (the words of 00, demand 3)
 abbrev pub EventsInBytes : Type 0
 EventsInBytes = (v : ByteWorld) → Holding v → (c : Call) → handedOver c ≡ true → InBytes v c
 
--- the request that an accepted command makes is as its bytes ask it
+-- the request that an accepted command makes is as its bytes ask it ("One non-posted request is held", 01, Requests, answers, pieces)
 pub record HeldRequest (v : ByteWorld) (b r : List ℕ) : Type 0 where
   pub request : Request
   pub waits : held (worldOf (byteStep v (exchange b r) .next)) ≡ Waiting request
   pub asks : AsksFor b request
 
+-- .. of every accepted request: "Accepting it replies DEFER" (01, Requests, answers, pieces)
 abbrev pub RequestInBytes : Type 0
 RequestInBytes = (v : ByteWorld) → Holding v → (b r : List ℕ) → areBytes b ≡ true → byteEvent v (exchange b r) ≡ asks → HeldRequest v b r
 
 -- ---- P15 and P17, from an answer on
 
 -- of the N-th accepted GET_PC: PC_AVAIL drops, NP_FREE rises
+-- ("PC_AVAIL stands until the Nth and then drops", 00, demand 3; "held .. until its last completion is sent", 01, Requests, answers, pieces)
 pub record Over (x : ByteOutcome) : Type 0 where
   pub drops : showsBit 4 0 (replyIn x)
   pub staysDown : (es : List Call) (c : Call) → allHanded es ≡ true → handedOver c ≡ true → byteWithout byteAnswers (x .next) es ≡ true
@@ -95,6 +102,8 @@ pub record Over (x : ByteOutcome) : Type 0 where
   pub free : held (worldOf (x .next)) ≡ Free
 
 -- v: the bytes after the answer; cs: the calls since; N completions with the bodies body 0, body 1, .. are owed
+-- ("the next N accepted GET_PC commands hand over the answer's pieces", (c) "each well-formed GET_PC with a good or unchecked CRC and long enough stores
+-- is accepted", 00, demand 3)
 pub record Delivers (N : ℕ) (body : ℕ → List ℕ) (v : ByteWorld) (cs : List Call) : Type 0 where
   -- (b) the reply store begins with exactly ACCEPT, the next body, status and CRC, and the word's value is their count
   pub inOrder : (c : Call) → handedOver c ≡ true → byteEvent (byteRun v cs) c ≡ gets → length (byteGot v cs) < N
@@ -110,6 +119,7 @@ pub record Delivers (N : ℕ) (body : ℕ → List ℕ) (v : ByteWorld) (cs : Li
       → showsBit 1 0 (replyIn (byteStep (byteRun v cs) c))
   pub last : (c : Call) → handedOver c ≡ true → byteEvent (byteRun v cs) c ≡ gets → length (byteGot v cs) + 1 ≡ N → Over (byteStep (byteRun v cs) c)
 
+-- a read's: "Let N be the number of P-aligned blocks that it touches" (00, demand 3), "1 to 64" (01, Requests, answers, pieces)
 pub record HandsOver (A L P tag : ℕ) (d : List ℕ) (v : ByteWorld) (cs : List Call) : Type 0 where
   pub few : (1 ≤ blocks A L P) × (blocks A L P ≤ 64)
   pub pieces : Delivers (blocks A L P) (pieceBody A L P tag d) v cs
@@ -118,6 +128,7 @@ pub record HandsOver (A L P tag : ℕ) (d : List ℕ) (v : ByteWorld) (cs : List
 -- ---- P15 and P17, from the acceptance to the answer
 
 -- v accepts the non-posted request b; xs are the calls after it, with no ending event and no accepted answer
+-- ("From the acceptance on, each call gets the state that the last one left", 00, demand 3)
 pub record Asked (v : ByteWorld) (b r : List ℕ) (xs : List Call) : Type 0 where
   pub holding : Holding v
   pub handed : allHanded (exchange b r ∷ xs) ≡ true
@@ -125,6 +136,7 @@ pub record Asked (v : ByteWorld) (b r : List ℕ) (xs : List Call) : Type 0 wher
   pub unended : byteUnended peripheral (byteStep v (exchange b r) .next) xs ≡ true
   pub unanswered : byteWithout byteAnswers (byteStep v (exchange b r) .next) xs ≡ true
 
+-- of its own reply, and of any call c after xs: "Accepting it replies DEFER" (01, Requests, answers, pieces); no completion is ready before the answer
 pub record Waits (v : ByteWorld) (b r : List ℕ) (xs : List Call) (c : Call) : Type 0 where
   pub defers : replyIn (byteStep v (exchange b r)) ≡ closed (0x01 ∷ []) (status (stateIn (byteStep v (exchange b r) .next)))
   pub deferNp : showsBit 1 0 (replyIn (byteStep v (exchange b r)))
@@ -133,10 +145,12 @@ pub record Waits (v : ByteWorld) (b r : List ℕ) (xs : List Call) (c : Call) : 
   pub down : showsBit 4 0 (replyIn (byteStep (byteSince v (exchange b r) xs) c))
   pub taken : showsBit 1 0 (replyIn (byteStep (byteSince v (exchange b r) xs) c))
 
+-- .. so up to the answer (1, "GET_PC with no completion ready", 01, Replies and refusals)
 abbrev pub BeforeAnswer : Type 0
 BeforeAnswer = (v : ByteWorld) (b r : List ℕ) (xs : List Call) → Asked v b r xs → (c : Call) → handedOver c ≡ true → Waits v b r xs c
 
 -- the request is held as the command's bytes ask it, under the sizes then in force; a look has word 0, and its report begins with it
+-- ("held, with its tag, payload and read sizes then in force and a serial"; "Looking yields", 01, Requests, answers, pieces)
 pub record HeldAs (v : ByteWorld) (b r : List ℕ) (xs : List Call) : Type 0 where
   pub request : held (worldOf (byteSince v (exchange b r) xs)) ≡ Waiting (requestIn (stateIn v .config) b)
   pub serial : serialIn (byteSince v (exchange b r) xs) ≡ serialIn (byteStep v (exchange b r) .next)
@@ -145,14 +159,17 @@ pub record HeldAs (v : ByteWorld) (b r : List ℕ) (xs : List Call) : Type 0 whe
       → byteStep (byteSince v (exchange b r) xs) (board peripheral (look report)) .report
       ≡ over (lookBytes b (serialIn (byteStep v (exchange b r) .next))) report
 
+-- .. so up to the answer: "One non-posted request is held" (01, Requests, answers, pieces)
 abbrev pub RequestHeld : Type 0
 RequestHeld = (v : ByteWorld) (b r : List ℕ) (xs : List Call) → Asked v b r xs → HeldAs v b r xs
 
 -- ---- a request, its answer, and the calls since
 
+-- the bytes after the answer ("From the answer up to the Nth", 00, demand 3)
 abbrev pub answeredAt : ByteWorld → List ℕ → List ℕ → List Call → (serial success : ℕ) → List ℕ → ByteWorld
 answeredAt v b r xs serial success d = byteStep (byteSince v (exchange b r) xs) (answersWith serial success d) .next
 
+-- "from the answer on the read store too. Until a start, an eSPI reset, a platform reset or a disabling of channel 0, refused ones apart" (00, demand 3)
 pub record Answered (v : ByteWorld) (b r : List ℕ) (xs : List Call) (serial success : ℕ) (d : List ℕ) (ys : List Call) : Type 0 where
   pub asked : Asked v b r xs
   pub answered : byteEvent (byteSince v (exchange b r) xs) (answersWith serial success d) ≡ tells
@@ -160,21 +177,25 @@ pub record Answered (v : ByteWorld) (b r : List ℕ) (xs : List Call) (serial su
   pub unendedSince : byteUnended peripheral (answeredAt v b r xs serial success d) ys ≡ true
   pub handedOn : byteHandedOn (answeredAt v b r xs serial success d) ys
 
+-- "Take a read of L bytes at A, accepted with payload size P in force and then answered by the device with L bytes" (00, demand 3)
 abbrev pub ReadAnswered : Type 0
 ReadAnswered = (v : ByteWorld) (b r : List ℕ) (xs : List Call) (serial success : ℕ) (d : List ℕ) (ys : List Call) → Answered v b r xs serial success d ys
     → isRead (byte b 0) ≡ true → length d ≡ accessLength b
     → HandsOver (accessAddress b) (accessLength b) (payloadSize (stateIn v .config .r010)) (accessTag b) d (answeredAt v b r xs serial success d) ys
 
+-- "0Eh for failure, alone" (01, Requests, answers, pieces)
 abbrev pub FailureAnswered : Type 0
 FailureAnswered = (v : ByteWorld) (b r : List ℕ) (xs : List Call) (serial success : ℕ) (d : List ℕ) (ys : List Call) → Answered v b r xs serial success d ys
     → succeeded success ≡ false → Delivers 1 (λ j. header 0x0E (accessTag b) 0) (answeredAt v b r xs serial success d) ys
 
+-- "06h for an I/O write" (01, Requests, answers, pieces)
 abbrev pub IoWriteAnswered : Type 0
 IoWriteAnswered = (v : ByteWorld) (b r : List ℕ) (xs : List Call) (serial success : ℕ) (d : List ℕ) (ys : List Call) → Answered v b r xs serial success d ys
     → isIoWrite (byte b 0) ≡ true → succeeded success ≡ true → Delivers 1 (λ j. header 0x06 (accessTag b) 0) (answeredAt v b r xs serial success d) ys
 
 -- ---- P16
 
+-- in the run cs from v, an accepted answer that names this serial: "answered under its own serial number" (00, demand 3)
 pub record ToldIn (n : ℕ) (v : ByteWorld) (cs : List Call) : Type 0 where
   pub ys : List Call
   pub success : ℕ
@@ -183,6 +204,7 @@ pub record ToldIn (n : ℕ) (v : ByteWorld) (cs : List Call) : Type 0 where
   pub split : cs ≡ ys ++ answersWith n success bytes ∷ zs
   pub accepted : byteEvent (byteRun v ys) (answersWith n success bytes) ≡ tells
 
+-- .. an accepted request and then its answer: "a request accepted later has been answered" (00, demand 3)
 pub record AskedIn (v : ByteWorld) (cs : List Call) : Type 0 where
   pub xs : List Call
   pub q : Call
@@ -192,15 +214,18 @@ pub record AskedIn (v : ByteWorld) (cs : List Call) : Type 0 where
   pub answered : ToldIn (serialIn (byteStep (byteRun v xs) q .next)) (byteStep (byteRun v xs) q .next) rest
 
 -- after an ending event e: a GET_PC whose word has number 0, or a reply with PC_AVAIL, comes only after a request and its answer
+-- ("GET_PC is refused until a request accepted later has been answered", 00, demand 3)
 pub record AfterEnd (v : ByteWorld) (e : Call) (cs : List Call) (c : Call) : Type 0 where
   pub getPc : byteEvent (byteSince v e cs) c ≡ gets → AskedIn (byteStep v e .next) cs
   pub pcAvail : raises 4 (replyIn (byteStep (byteSince v e cs) c)) ≡ true → AskedIn (byteStep v e .next) cs
 
+-- "After such an event, GET_PC is refused until a request accepted later has been answered under its own serial number" (00, demand 3)
 abbrev pub EventEnds : Type 0
 EventEnds = (v : ByteWorld) → Holding v → (e : Call) (cs : List Call) (c : Call) → allHanded (e ∷ cs) ≡ true → handedOver c ≡ true
     → byteEnds peripheral v e ≡ true → AfterEnd v e cs c
 
 -- in plain bytes: after an ending event, until an answer is accepted, the word of a GET_PC has a number other than 0
+-- ("After such an event, GET_PC is refused", 00, demand 3)
 abbrev pub GetPcRefused : Type 0
 GetPcRefused = (v : ByteWorld) → Holding v → (e : Call) (cs : List Call) → allHanded (e ∷ cs) ≡ true → byteEnds peripheral v e ≡ true
     → byteWithout byteAnswers (byteStep v e .next) cs ≡ true
@@ -209,16 +234,20 @@ GetPcRefused = (v : ByteWorld) → Holding v → (e : Call) (cs : List Call) →
 -- ---- P14
 
 -- an answer is accepted only for the held unanswered request, whose serial it names
+-- ("An answer names the serial", 01, Requests, answers, pieces; 20, "no unanswered request with this serial", 01, Replies and refusals)
 abbrev pub AnswerForHeld : Type 0
 AnswerForHeld = (v : ByteWorld) → Holding v → (serial success : ℕ) (d : List ℕ) → byteEvent v (answersWith serial success d) ≡ tells
     → ForHeld (worldOf v) serial
 
+-- "a late answer is told apart while no start and fewer than 2^32 requests have come since" (01, Requests, answers, pieces)
 abbrev pub LateAnswer : Type 0
 LateAnswer = (v : ByteWorld) → Holding v → (q : Call) (cs : List Call) → allHanded (q ∷ cs) ≡ true → byteEvent v q ≡ asks → noStart cs ≡ true
     → 0 < byteAskedTimes (byteStep v q .next) cs → byteAskedTimes (byteStep v q .next) cs < 2 ^ 32
     → (success : ℕ) (d : List ℕ) → readLength ≤ length (byteSince v q cs .read)
     → byteStep (byteSince v q cs) (answersWith (serialIn (byteStep v q .next)) success d) .word ≡ 20
 
+-- .. where the request was dropped: "Disabling channel 0, platform reset and eSPI reset drop held write, request and completions" (01, Requests, answers,
+-- pieces)
 abbrev pub DroppedAnswer : Type 0
 DroppedAnswer = (v : ByteWorld) → Holding v → (q : Call) (xs : List Call) (e : Call) (cs : List Call) → allHanded (q ∷ xs ++ e ∷ cs) ≡ true
     → byteEvent v q ≡ asks
@@ -226,7 +255,7 @@ DroppedAnswer = (v : ByteWorld) → Holding v → (q : Call) (xs : List Call) (e
     → (success : ℕ) (d : List ℕ) → readLength ≤ length (byteSince v q (xs ++ e ∷ cs) .read)
     → byteStep (byteSince v q (xs ++ e ∷ cs)) (answersWith (serialIn (byteStep v q .next)) success d) .word ≡ 20
 
--- an accepted answer that names a request's serial is its first: so `Asked` holds of it
+-- an accepted answer that names a request's serial is its first: so `Asked` holds of it ("answered under its own serial number", 00, demand 3)
 abbrev pub FirstAnswer : Type 0
 FirstAnswer = (v : ByteWorld) → Holding v → (q : Call) (xs : List Call) → allHanded (q ∷ xs) ≡ true → byteEvent v q ≡ asks
     → byteUnended peripheral (byteStep v q .next) xs ≡ true → byteAskedTimes (byteStep v q .next) xs < 2 ^ 32
@@ -235,6 +264,7 @@ FirstAnswer = (v : ByteWorld) → Holding v → (q : Call) (xs : List Call) → 
 
 -- ---- P21
 
+-- one of the first n accepted GET_VWIREs carries the group, "with its value when sent" (01, Wires)
 pub record SentBy (g n : ℕ) (v : ByteWorld) (cs : List Call) : Type 0 where
   pub before : List Call
   pub call : Call
@@ -244,6 +274,7 @@ pub record SentBy (g n : ℕ) (v : ByteWorld) (cs : List Call) : Type 0 where
   pub soon : byteGetsIn v before < n
   pub carries : Carries (replyIn (byteStep (byteRun v before) call)) g (groupByte (stateIn (byteRun v before) .wires) g)
 
+-- "A pending group, .. is sent by the third accepted GET_VWIRE unless a start, such a reset or a disabling comes first" (01, Wires)
 abbrev pub SentByTheThird : Type 0
 SentByTheThird = (v : ByteWorld) → Holding v → (g : ℕ) → isGroup g ≡ true → markAt (stateIn v .wires) g ≡ true
     → (cs : List Call) → allHanded cs ≡ true → byteUnended wires v cs ≡ true → 3 ≤ byteGetsIn v cs → SentBy g 3 v cs
@@ -251,26 +282,32 @@ SentByTheThird = (v : ByteWorld) → Holding v → (g : ℕ) → isGroup g ≡ t
 -- ---- no channel tells on another
 
 -- bytes that hold worlds alike but for x (the same bytes, for one), runs that are equal but for x's own calls
+-- ("the same reply but for status bit 6 and the CRC byte", 01, Wires; "the other channels' replies are equal", 02, Q-14)
 pub record RunsAlike (x : Channel) (Same : World → World → Type 0) (v u : ByteWorld) (cs ds : List Call) : Type 0 where
   pub calls : byteSeeing x v cs ≡ byteSeeing x u ds
   pub after : Same (worldOf (byteRun v cs)) (worldOf (byteRun u ds))
 
+-- "equal resets, equal calls and commands on channel 0, status and configuration" (01, Wires), and so for any channel x (02, Q-14)
 abbrev pub Apart : (x : Channel) → (World → World → Type 0) → Type 0
 Apart x Same = (v u : ByteWorld) → Holding v → Holding u → Same (worldOf v) (worldOf u)
     → (cs ds : List Call) → allHanded cs ≡ true → allHanded ds ≡ true → others x cs ≡ others x ds → RunsAlike x Same v u cs ds
 
+-- "State the wire-independence rule for every pair of the four channels" (02, Q-14), of the two that there are
 abbrev pub NoneTells : Type 0
 NoneTells = (x : Channel) → Apart x (Alike x)
 
 -- P22: the same registers, queues and stores; its mirror: the same registers and wires, stores that are long enough in both or in neither
+-- ("Wire traffic and channel 0: two runs .. give each peripheral command the same reply but for status bit 6 and the CRC byte", 01, Wires)
 abbrev pub WiresApart : Type 0
 WiresApart = Apart wires SameButWires
 
+-- .. and the rule the other way round: "One argument should serve all pairs" (02, Q-14)
 abbrev pub PeripheralApart : Type 0
 PeripheralApart = Apart peripheral SameButPeripheral
 
 -- ---- all of it
 
+-- of what a caller in C keeps, who "calls the exchange and these through plain numbers and byte slices" (01, What the engine covers)
 pub record Promises : Type 0 where
   pub bridge : Bridged
   pub sound : BytesKept

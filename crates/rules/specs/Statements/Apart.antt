@@ -16,6 +16,7 @@ use Rattle.rules.specs.Statements.Sizes.{isOf}
 -- ---- what is a channel's own besides its opcodes: its stores, its status bits
 
 -- the write and the read store are channel 0's: its commands and calls alone read and write them
+-- (the channels' "stores" of 02, Q-14; "an answer the read store, a take the write store", 01, What the engine covers)
 abbrev pub storesOf : Channel → (write read : List ℕ) → List (List ℕ)
 storesOf peripheral write read = write ∷ read ∷ []
 storesOf wires write read = []
@@ -33,6 +34,7 @@ isCommandOf x [] = false
 isCommandOf x (op ∷ rest) = isOf x op
 
 -- refused ones too, and those that were lent too short a state
+-- ("one channel's commands and board calls", 02, Q-14; "differing wire commands and wire settings", 01, Wires)
 abbrev pub isCallOf : Channel → Call → Bool
 isCallOf x (reset r) = false
 isCallOf x (exchange command reply) = isCommandOf x command
@@ -40,6 +42,7 @@ isCallOf x (board k o) = same x k
 isCallOf x (short state c) = isCallOf x c
 isCallOf x (lend write read) = false
 
+-- the calls of a run that are not x's: "equal resets, equal calls and commands on channel 0, status and configuration" (01, Wires)
 unfoldable pub others : Channel → List Call → List Call
 others x [] = []
 others x (c ∷ cs) = pick (isCallOf x c) (others x cs) (c ∷ others x cs)
@@ -52,56 +55,65 @@ replyBut x reply =
     pick (eqb (length reply) 0) []
     (take (length reply - 3) reply ++ (clear x (getD reply (length reply - 3) 0 + 256 * getD reply (length reply - 2) 0) ∷ []))
 
--- the number, the value (a reply's length, a wire's value), a report, the reply
+-- the number, the value (a reply's length, a wire's value), a report, the reply ("the other channels' replies", "their stores and refusals", 02, Q-14)
 pub record Seen : Type 0 where
   pub number : ℕ
   pub value : ℕ
   pub report : List ℕ
   pub reply : List ℕ
 
+-- .. of an outcome, its reply "but for that channel's status bits and the CRC" (02, Q-14)
 unfoldable pub seen : Channel → Outcome → Seen
 seen x o = record { number = o .number; value = o .value; report = o .report; reply = replyBut x (o .reply) }
 
--- what the calls of a run show, x's own apart
+-- what the calls of a run show, x's own apart ("give each peripheral command the same reply", 01, Wires: here every call that is not x's)
 unfoldable pub seeing : Channel → World → List Call → List Seen
 seeing x w [] = []
 seeing x w (c ∷ cs) = pick (isCallOf x c) (seeing x (step w c .next) cs) (seen x (step w c) ∷ seeing x (step w c .next) cs)
 
+-- "the other channels' replies are equal, .. and their stores and refusals are equal" (02, Q-14)
 pub record RunsAlike (x : Channel) (Same : World → World → Type 0) (w v : World) (cs ds : List Call) : Type 0 where
   pub calls : seeing x w cs ≡ seeing x v ds
   pub after : Same (run w cs) (run v ds)
 
 -- ---- the statement
 
+-- of "equal sound starts" (01, Wires) no more is asked than equal registers and equal parts of the other channels
 pub record StatesAlike (x : Channel) (s t : State) : Type 0 where
   pub config : s .config ≡ t .config
   pub parts : (y : Channel) → same x y ≡ false → part y s ≡ part y t
 
 -- alike but for x. Of x's own stores only this is asked: they are long enough for an exchange (10) in both worlds, or in neither
+-- ("equal stores long enough", 01, Wires; docs/DECISIONS.md, 32)
 pub record Alike (x : Channel) (w v : World) : Type 0 where
   pub state : StatesAlike x (w .state) (v .state)
   pub stores : (y : Channel) → same x y ≡ false → storesOf y (w .write) (w .read) ≡ storesOf y (v .write) (v .read)
   pub room : (reply : List ℕ) → shortStores reply w ≡ shortStores reply v
 
+-- "State the wire-independence rule for every pair of the four channels" (02, Q-14), of the two that there are
 abbrev pub NoneTells : Type 0
 NoneTells = (x : Channel) (w v : World) (cs ds : List Call) → Alike x w v → others x cs ≡ others x ds → RunsAlike x (Alike x) w v cs ds
 
 -- ---- P22, and its mirror
 
 -- any two states that agree but for levels, marks and place, sound or not, and stores of any length: neither is needed
+-- ("equal sound starts, equal stores long enough", 01, Wires)
 pub record SameButWires (w v : World) : Type 0 where
   pub state : StatesAlike wires (w .state) (v .state)
   pub write : w .write ≡ v .write
   pub read : w .read ≡ v .read
 
+-- "Wire traffic and channel 0: two runs .. give each peripheral command the same reply but for status bit 6 and the CRC byte" (01, Wires)
 abbrev pub WiresApart : Type 0
 WiresApart = (w v : World) (cs ds : List Call) → SameButWires w v → others wires cs ≡ others wires ds → RunsAlike wires SameButWires w v cs ds
 
 -- any two that agree but for held write, request and serial, and stores of any bytes
+-- (docs/DECISIONS.md, 32: the stores differ with channel 0; 02, Q-14: "equal stores long enough")
 pub record SameButPeripheral (w v : World) : Type 0 where
   pub state : StatesAlike peripheral (w .state) (v .state)
   pub room : (reply : List ℕ) → shortStores reply w ≡ shortStores reply v
 
+-- the rule the other way round: "One argument should serve all pairs" (02, Q-14)
 abbrev pub PeripheralApart : Type 0
 PeripheralApart =
     (w v : World) (cs ds : List Call) → SameButPeripheral w v → others peripheral cs ≡ others peripheral ds → RunsAlike peripheral SameButPeripheral w v cs ds

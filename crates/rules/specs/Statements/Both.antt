@@ -19,21 +19,27 @@ use Rattle.rules.specs.declared.Body.the-variants as B
 
 -- a call's outcome, of each world
 
+-- GET_CONFIGURATION ("GET_CONFIGURATION 21h", 01, Commands)
 abbrev pub registered : List ℕ → ℕ → World → Outcome
 registered b a w = performed w b (show (B.Word (readAt (w .state .config) a)) (w .state))
 
+-- a channel's command, in each world by its part (01, Commands: "a decoded command is one of a few kinds")
 abbrev pub actedOn : (k : Channel) → Command k → List ℕ → World → Outcome
 actedOn k o b w = performed w b (E.acted k (w .state) (actOf k (w .state .config) o b))
 
+-- a call of the board ("The board side has calls of its own", 01, What the engine covers)
 abbrev pub boarded : (k : Channel) → Board k → World → Outcome
 boarded k o w = served k w o (L.settled k (w .state) o)
 
+-- SET_CONFIGURATION ("A write takes effect after its own reply", 01, Registers and status)
 abbrev pub written : List ℕ → ℕ → ℕ → World → Outcome
 written b a n w = performed w b (acceptThen (w .state) (reconfigured (w .state) (writeAt (w .state .config) a n)))
 
+-- a lend: from here on these stores ("written by nobody else", 01, Wires: both worlds get the same)
 abbrev pub restored : (write read : List ℕ) → World → Outcome
 restored write read w = only 0 (record { state = w .state; write = write; read = read })
 
+-- "two runs with .. equal resets, equal calls and commands on channel 0, status and configuration" (01, Wires), call by call
 pub data Both (w v : World) : Call → Outcome → Outcome → Type 0 where
   idle : {c : Call} (n : ℕ) → Both w v c (only n w) (only n v)
   status : {b r : List ℕ} → Both w v (exchange b r) (performed w b (show B.Nothing (w .state))) (performed v b (show B.Nothing (v .state)))
@@ -49,6 +55,7 @@ pub data Both (w v : World) : Call → Outcome → Outcome → Type 0 where
   lent : {write read : List ℕ} → Both w v (lend write read) (restored write read w) (restored write read v)
 
 -- the call's stores are long enough in both worlds, or in neither
+-- (10, "a lent store too short", 01, Replies and refusals; "equal stores long enough", 01, Wires; docs/DECISIONS.md, 32)
 abbrev pub SameRoom : World → World → Call → Type 0
 SameRoom w v (reset r) = Unit {0}
 SameRoom w v (exchange b r) = shortStores r w ≡ shortStores r v
@@ -56,5 +63,6 @@ SameRoom w v (board k o) = shortFor k o w ≡ shortFor k o v
 SameRoom w v (short state c) = Unit {0}
 SameRoom w v (lend write read) = Unit {0}
 
+-- for the rule "Wire traffic and channel 0" (01, Wires) and its like of every channel: registers alike, a call is one case in both
 abbrev pub BothCases : Type 0
 BothCases = (w v : World) (c : Call) → w .state .config ≡ v .state .config → SameRoom w v c → Both w v c (S.step w c) (S.step v c)

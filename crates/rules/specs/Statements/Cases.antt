@@ -17,6 +17,9 @@ use Rattle.rules.specs.declared.Body.{Body}
 
 -- ---- the cases
 
+-- idle: "none; unchanged"; forbidden: 2, "forbidden configuration value" (01, Replies and refusals); configured: "A write takes effect after its own
+-- reply" (01, Registers and status); cleared: RESET, "It resets register 008h and nothing else" (01, Commands); wiped: "start, eSPI reset, platform reset"
+-- (01, What the engine covers); acted and settles: the channel's own law
 pub data Case (w : World) : Call → Outcome → Type 0 where
   idle : {c : Call} (n : ℕ) → Silent n → Case w c (only n w)
   shown : {b r : List ℕ} {body : Body} → Shows (w .state) b body → Case w (exchange b r) (performed w b (show body (w .state)))
@@ -32,5 +35,6 @@ pub data Case (w : World) : Call → Outcome → Type 0 where
   wiped : {r : Reset} → Case w (reset r) (only 0 (withState w (wasReset r (w .state))))
   lent : {write read : List ℕ} → Case w (lend write read) (only 0 (record { state = w .state; write = write; read = read }))
 
+-- so of every call: "A command or board call that document 01 allows takes effect; no other does" (00, demand 2)
 abbrev pub Cases : Type 0
 Cases = (w : World) (c : Call) → Case w c (S.step w c)

@@ -23,13 +23,16 @@ peripheralResponse (P.posts address length from) = Accept
 peripheralResponse (P.asks q) = Defer
 peripheralResponse P.gets = Accept
 
+-- "ACCEPT 08h, DEFER 01h": an accepted command's, by its channel (01, Replies and refusals)
 abbrev pub responseFor : (k : Channel) → Act k → Response
 responseFor peripheral a = peripheralResponse a
 responseFor wires a = Accept
 
+-- 0, "accepted or deferred" (01, Replies and refusals)
 abbrev pub accepts : Response → Body → Kept → Out
 accepts response body kept = record { number = 0; say = Said response body; kept = kept }
 
+-- refused: 1, "FATAL, 4 bytes; otherwise unchanged"; accepted: "as the rules say" (01, Replies and refusals)
 pub data Acts (k : Channel) (p : Part k) (a : Act k) : Change k → Type 0 where
   refused : Acts k p a (change k p fatal)
   accepted : (q : Part k) (body : Body) (kept : Kept) → ownBody k body ≡ true → ownKept k kept ≡ true
@@ -40,6 +43,7 @@ pub data Settles (k : Channel) (p : Part k) (o : Board k) : Change k → Type 0 
   refused : (n : ℕ) → 20 ≤ n → n < 256 → reportOf k p o ≡ [] → valueOf k p o ≡ 0 → Settles k p o (change k p (number n))
   accepted : (q : Part k) (kept : Kept) → ownKept k kept ≡ true → Settles k p o (change k q (keep kept))
 
+-- both of every channel, by its law ("The first that applies counts", 01, Replies and refusals: 1 of a command, "their own from 20 up" of a call)
 pub record Lawful : Type 1 where
   pub acts : (k : Channel) (c : Config) (p : Part k) (a : Act k) (x : Change k) → Did k c p a x → Acts k p a x
   pub settles : (k : Channel) (c : Config) (p : Part k) (o : Board k) (x : Change k) → Settled k c p o x → Settles k p o x

@@ -19,11 +19,11 @@ use Rattle.rules.specs.Statements.Events.{enablesAt}
 use Rattle.rules.specs.Statements.Effects.{valueEnables}
 use Rattle.rules.specs.Statements.Shape.{replyOf}
 
--- bit k of a number
+-- bit k of a number (of `BitsWritten`; 01, Registers and status: "the reset value of each register .., with its writable bits")
 abbrev pub bitOf : ℕ → ℕ → ℕ
 bitOf k v = v / 2 ^ k % 2
 
--- the table's writable bits: 008h DCF0F000h, 010h 00007705h, 020h 003F0001h, all others none
+-- the table's writable bits: 008h DCF0F000h, 010h 00007705h, 020h 003F0001h, all others none ("Writable", 01, Registers and status)
 abbrev pub writableBits : ℕ → ℕ
 writableBits a = pick (eqb a 0x008) 0xDCF0F000 (pick (eqb a 0x010) 0x00007705 (pick (eqb a 0x020) 0x003F0001 0))
 
@@ -41,17 +41,19 @@ abbrev pub isReady : ℕ → ℕ → Bool
 isReady a k = (eqb a 0x010 || eqb a 0x020) && eqb k 1
 
 -- the register written: each writable bit takes the value's, ready the value's enable, every other stays
+-- ("Writable", "Bit 1 (ready) of 010h and 020h equals bit 0 (enable)", 01, Registers and status)
 pub record BitsWritten (a value old new : ℕ) : Type 0 where
   pub written : (k : ℕ) → k < 32 → bitOf k (writableBits a) ≡ 1 → bitOf k new ≡ bitOf k value
   pub ready : isReady a 1 ≡ true → bitOf 1 new ≡ bitOf 0 value
   pub kept : (k : ℕ) → k < 32 → bitOf k (writableBits a) ≡ 0 → isReady a k ≡ false → bitOf k new ≡ bitOf k old
 
 -- the edge that changes a channel's part: of channel 0 a disabling, of channel 1 a disabling or an enabling
+-- ("Disabling channel 0", 01, Requests, answers, pieces; "Disabling channel 1", "Enabling it from disabled", 01, Wires; docs/DECISIONS.md, 20)
 abbrev pub turns : Channel → Bool → Bool → Bool
 turns peripheral was is = was && not is
 turns wires was is = was && not is || not was && is
 
--- an accepted SET_CONFIGURATION
+-- an accepted SET_CONFIGURATION ("A write takes effect after its own reply", 01, Registers and status)
 pub record Configured (w : World) (b : List ℕ) (after : World) : Type 0 where
   pub bits : BitsWritten (registerAt b) (registerValue b) (valueAt (w .state .config) (registerAt b)) (valueAt (after .state .config) (registerAt b))
   -- every other register stays
@@ -67,15 +69,18 @@ peripheralReads (P.look report) = true
 peripheralReads (P.answer serial success bytes) = false
 peripheralReads (P.takeWrite report) = false
 
+-- .. "read a wire" (01, What the engine covers)
 abbrev pub wiresReads : W.Board → Bool
 wiresReads (W.setWire index bit value) = false
 wiresReads (W.readWire index bit) = true
 
+-- .. of any channel (01, What the engine covers: "look at the request", "read a wire")
 abbrev pub boardOnlyReads : (k : Channel) → Board k → Bool
 boardOnlyReads peripheral o = peripheralReads o
 boardOnlyReads wires o = wiresReads o
 
 -- the calls that change nothing, whatever their number
+-- ("GET_CONFIGURATION 21h", "GET_STATUS 25h", 01, Commands; too short a state slice is 10, "none; unchanged", 01, Replies and refusals)
 abbrev pub onlyReads : Call → Bool
 onlyReads (reset r) = false
 onlyReads (exchange command reply) = eqb (byte command 0) 0x21 || eqb (byte command 0) 0x25
@@ -83,10 +88,11 @@ onlyReads (board k o) = boardOnlyReads k o
 onlyReads (short state c) = true
 onlyReads (lend write read) = false
 
--- low byte first
+-- low byte first ("data low byte first", 01, Commands: Configuration)
 abbrev pub registerBytes : ℕ → List ℕ
 registerBytes v = v % 256 ∷ v / 256 % 256 ∷ v / 65536 % 256 ∷ v / 16777216 % 256 ∷ []
 
+-- writes: "A write takes effect"; reads: "Other addresses read 0" (01, Registers and status); "register values .. afterwards" (00, demand 2)
 pub record ConfigWrites : Type 0 where
   pub writes : (w : World) (b reply : List ℕ) → byte b 0 ≡ 0x22 → step w (exchange b reply) .number ≡ 0 → Configured w b (step w (exchange b reply) .next)
   pub reads : (w : World) (b reply : List ℕ) → byte b 0 ≡ 0x21 → step w (exchange b reply) .number ≡ 0

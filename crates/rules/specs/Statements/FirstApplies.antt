@@ -25,19 +25,22 @@ use Rattle.rules.specs.Statements.Wires.Rows as W
 
 -- ---- by channel
 
+-- "credit (1)", each channel its own (01, Replies and refusals)
 abbrev pub creditRows : (k : Channel) → Part k → List ℕ → List Row
 creditRows peripheral p b = P.creditRows p b
 creditRows wires p b = W.creditRows p b
 
+-- "size (1)", each channel its own (01, Replies and refusals)
 abbrev pub sizeRows : (k : Channel) → Config → List ℕ → List Row
 sizeRows peripheral c b = P.sizeRows c b
 sizeRows wires c b = W.sizeRows c b
 
+-- "their own from 20 up", each channel its own (01, Replies and refusals)
 abbrev pub boardRows : (k : Channel) → Part k → Board k → List Row
 boardRows peripheral p o = P.boardRows p o
 boardRows wires p o = W.boardRows o
 
--- the rows of all channels
+-- the rows of all channels (an opcode is of one channel, so that "in this order" is kept, 01, Replies and refusals)
 abbrev pub byChannel : ((k : Channel) → List Row) → List Row
 byChannel rows = rows peripheral ++ rows wires
 
@@ -51,12 +54,13 @@ tooShort store least = row 10 (ltb (length store) least)
 abbrev pub packsNone : List ℕ → Row
 packsNone st = row 11 (not (holds st))
 
--- the first bytes are those of this sound state
+-- the first bytes are those of this sound state ("State bytes lent, .. with bytes past it neither read nor written", 01, What the engine covers)
 pub record Packs (st : List ℕ) (s : State) : Type 0 where
   pub sound : Sound s
   pub bytes : take stateLength st ≡ packed s
 
 -- row 11 applies exactly where they are no sound state's; where it does not they are one's, and the rows after it read that one
+-- (11, "state not sound", 01, Replies and refusals; docs/DECISIONS.md, 23)
 pub record Packing (st : List ℕ) : Type 0 where
   pub none : (packsNone st .applies ≡ true) ↔ ((s : State) → Packs st s → ⊥)
   pub some : packsNone st .applies ≡ false → Packs st (unpacked st)
@@ -82,7 +86,7 @@ cycleUnlisted b =
     eqb (byte b 0) 0x00 && not (eqb (byte b 1) 0x01 || eqb (byte b 1) 0x03)
     || eqb (byte b 0) 0x02 && not (eqb (byte b 1) 0x00 || eqb (byte b 1) 0x02)
 
--- the length bytes of PUT_PC, the count of PUT_VWIRE
+-- the length bytes of PUT_PC, the count of PUT_VWIRE ("a missing header byte needed next (12)", 01, Replies and refusals)
 abbrev pub headerMissing : List ℕ → Bool
 headerMissing b = eqb (byte b 0) 0x00 && ltb (length b) 4 || eqb (byte b 0) 0x04 && ltb (length b) 2
 
@@ -116,18 +120,21 @@ valueForbidden a v =
     || (eqb a 0x010 && (eqb (bits 14 12 v) 0 || (eqb (bits 10 8 v) 0 || ltb 3 (bits 10 8 v)))
     || eqb a 0x020 && ltb 7 (bits 21 16 v))
 
+-- 2, "forbidden configuration value", of SET_CONFIGURATION (01, Replies and refusals)
 abbrev pub valueRows : List ℕ → List Row
 valueRows b = row 2 (eqb (byte b 0) 0x22 && valueForbidden (registerAt b) (registerValue b)) ∷ []
 
 -- ---- an exchange: "10, 11, empty (12), 13, 14, a missing header byte needed next (12) or 15, exact length (12), 16, credit (1), size (1), 2"
 
+-- "size (1)", of all channels (01, Replies and refusals)
 abbrev pub allSizes : Config → List ℕ → List Row
 allSizes c b = byChannel (λ (k : Channel). sizeRows k c b)
 
--- after the decoder: credit, size, 2
+-- after the decoder: credit, size, 2 ("16, credit (1), size (1), 2", 01, Replies and refusals)
 abbrev pub laterRows : State → List ℕ → List Row
 laterRows s b = byChannel (λ (k : Channel). creditRows k (part k s) b) ++ (allSizes (s .config) b ++ valueRows b)
 
+-- the decoder's rows come first: "A decode that gives no command ends the exchange at once" (01, Replies and refusals)
 abbrev pub commandRows : State → List ℕ → List Row
 commandRows s b = formRows (s .config) b ++ laterRows s b
 
@@ -142,10 +149,11 @@ exchangeRows st command reply write read =
 abbrev pub startRows : List ℕ → List Row
 startRows st = tooShort st stateLength ∷ []
 
+-- eSPI reset and platform reset: "10, 11", and none of their own (01, Replies and refusals)
 abbrev pub resetRows : List ℕ → List Row
 resetRows st = tooShort st stateLength ∷ packsNone st ∷ []
 
--- 11, then the channel's own
+-- 11, then the channel's own ("11, then their own from 20 up", 01, Replies and refusals)
 abbrev pub ownRows : (k : Channel) → List ℕ → Board k → List Row
 ownRows k st o = packsNone st ∷ boardRows k (part k (unpacked st)) o
 
@@ -153,20 +161,25 @@ ownRows k st o = packsNone st ∷ boardRows k (part k (unpacked st)) o
 abbrev pub lookRows : (st report : List ℕ) → List Row
 lookRows st report = tooShort st stateLength ∷ tooShort report 19 ∷ ownRows peripheral st (look report)
 
+-- "read store at least 4,096" (01, What the engine covers), then 20 and 21
 abbrev pub answerRows : (st read : List ℕ) (serial success : ℕ) (bytes : List ℕ) → List Row
 answerRows st read serial success bytes = tooShort st stateLength ∷ tooShort read 4096 ∷ ownRows peripheral st (answer serial success bytes)
 
+-- "write store at least 256" (01, What the engine covers), then 23
 abbrev pub takeRows : (st write report : List ℕ) → List Row
 takeRows st write report = tooShort st stateLength ∷ tooShort write 256 ∷ tooShort report 10 ∷ ownRows peripheral st (takeWrite report)
 
+-- no store but the state's, then 22: "set: wire not the board's, or value above 1" (01, Replies and refusals)
 abbrev pub setRows : (st : List ℕ) (index bit value : ℕ) → List Row
 setRows st index bit value = tooShort st stateLength ∷ ownRows wires st (setWire index bit value)
 
+-- .. then 22: "read: no such defined wire" (01, Replies and refusals)
 abbrev pub readRows : (st : List ℕ) (index bit : ℕ) → List Row
 readRows st index bit = tooShort st stateLength ∷ ownRows wires st (readWire index bit)
 
 -- ---- the statement; the number is in the word's bits 7:0
 
+-- "The first that applies counts", of each call (01, Replies and refusals)
 pub record FirstApplies : Type 0 where
   -- of any numbers, as many as a state has at least: fewer are 10
   pub packing : (st : List ℕ) → stateLength ≤ length st → Packing st

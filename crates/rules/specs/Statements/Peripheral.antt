@@ -33,6 +33,9 @@ use Rattle.rules.specs.declared.PeripheralChange.{PeripheralChange}
 
 -- ---- commands
 
+-- 1: "posted write while one is held, non-posted while one is held, GET_PC with no completion ready", "too large; boundary crossed" (01, Replies and
+-- refusals); posted: "One posted write is held with its payload size"; asked: "Accepting it replies DEFER" (01, Requests, answers, pieces); handedOver: "the
+-- next N accepted GET_PC commands hand over the answer's pieces" (00, demand 3)
 pub data Did (c : Config) (p : Peripheral) : Act → PeripheralChange → Type 0 where
   writeHeld : {A L from : ℕ} → pcFree (p .write) ≡ false → Did c p (posts A L from) (change p fatal)
   writeLarge : {A L from : ℕ} → pcFree (p .write) ≡ true → within A L (payloadSize (c .r010)) ≡ false → Did c p (posts A L from) (change p fatal)
@@ -48,12 +51,15 @@ pub data Did (c : Config) (p : Peripheral) : Act → PeripheralChange → Type 0
 
 -- ---- the board's calls
 
+-- "no unanswered request" is 20 of an answer, 23 of a look (01, Replies and refusals)
 abbrev pub unanswered : Np → Bool
 unanswered Free = false
 unanswered (Waiting q) = true
 unanswered (Ready q sent) = false
 unanswered (Failed q) = false
 
+-- 20: "no unanswered request with this serial"; 21: "byte count wrong"; 23: "no write to take, or no unanswered request to look at" (01, Replies and
+-- refusals); "Looking .. changes nothing"; "Success copies exactly L bytes", "failure has 0"; the take "frees the place" (01, Requests, answers, pieces)
 pub data Settled (p : Peripheral) : Board → PeripheralChange → Type 0 where
   lookDone : {report : List ℕ} {q : Request} → p .request ≡ Waiting q → Settled p (look report) (change p (number 0))
   noLook : {report : List ℕ} → unanswered (p .request) ≡ false → Settled p (look report) (change p (number nothingThere))

@@ -29,6 +29,7 @@ pub record Quiet (w : World) (o : Outcome) : Type 0 where
   pub value : o .value ≡ 0
   pub report : o .report ≡ []
 
+-- "status low byte first" (01, Replies and refusals)
 abbrev pub statusBytes : State → List ℕ → List ℕ
 statusBytes s rest = status s % 256 ∷ status s / 256 % 256 ∷ rest
 
@@ -36,6 +37,7 @@ statusBytes s rest = status s % 256 ∷ status s / 256 % 256 ∷ rest
 abbrev pub errorReply : ℕ → State → List ℕ
 errorReply code s = code ∷ statusBytes s (crc (code ∷ statusBytes s []) ∷ [])
 
+-- an exchange, "the whole command phase of one Chip Select# assertion" (01, What the engine covers)
 abbrev pub isExchange : Call → Bool
 isExchange (reset r) = false
 isExchange (exchange command reply) = true
@@ -51,23 +53,25 @@ pub record Error (code : ℕ) (w : World) (c : Call) (o : Outcome) : Type 0 wher
   pub value : o .value ≡ 4
   pub report : o .report ≡ []
 
--- by the number: 0 is no refusal, 1 is FATAL (03h), 2 is NON_FATAL (02h), all others are quiet
+-- by the number: 0 is no refusal, 1 is FATAL (03h), 2 is NON_FATAL (02h), all others are quiet ("FATAL 03h", "NON_FATAL 02h", 01, Replies and refusals)
 abbrev pub Refusal : ℕ → World → Call → Outcome → Type 0
 Refusal zero w c o = Unit {0}
 Refusal (suc zero) w c o = Error 0x03 w c o
 Refusal (suc (suc zero)) w c o = Error 0x02 w c o
 Refusal (suc (suc (suc n))) w c o = Quiet w o
 
+-- "A refusal, silent or not, changes no state and no buffer, but for the four bytes of an error reply" (00, demand 1)
 abbrev pub RefusalsChangeNothing : Type 0
 RefusalsChangeNothing = (w : World) (c : Call) → Refusal (step w c .number) w c (step w c)
 
 -- ---- the frame of `step`
 
--- the data bytes of a posted write; no other command has any for the write store
+-- the data bytes of a posted write; no other command has any for the write store ("its data at the start of the write store", 01, Requests, answers, pieces)
 abbrev pub postedLength : List ℕ → ℕ
 postedLength b = pick (isPosted (byte b 0)) (accessLength b) 0
 
 -- of the write store, as many bytes at its start as the exchange's command posts, and none by another call
+-- (of `StoresKept`; "its data at the start of the write store"; a take "leaves the store", 01, Requests, answers, pieces)
 abbrev pub writesAtMost : Call → ℕ
 writesAtMost (reset r) = 0
 writesAtMost (exchange command reply) = postedLength command
@@ -76,15 +80,18 @@ writesAtMost (short state c) = 0
 writesAtMost (lend write read) = 0
 
 -- of the read store, as many bytes at its start as the answer has (a failure has none), and none by another call
+-- ("copies exactly L bytes to the start of the read store", "failure has 0", 01, Requests, answers, pieces)
 abbrev pub answerBytes : P.Board → ℕ
 answerBytes (P.look report) = 0
 answerBytes (P.answer serial success bytes) = pick (eqb success 0) 0 (length bytes)
 answerBytes (P.takeWrite report) = 0
 
+-- .. by channel: "an answer the read store" (01, What the engine covers)
 abbrev pub boardReads : (k : Channel) → Board k → ℕ
 boardReads peripheral o = answerBytes o
 boardReads wires o = 0
 
+-- .. of any call (01, What the engine covers: "A call needs only those it uses")
 abbrev pub readsAtMost : Call → ℕ
 readsAtMost (reset r) = 0
 readsAtMost (exchange command reply) = 0
@@ -92,7 +99,7 @@ readsAtMost (board k o) = boardReads k o
 readsAtMost (short state c) = 0
 readsAtMost (lend write read) = 0
 
--- `lend` is no call of the engine
+-- `lend` is no call of the engine ("Stores lent to a call", 01, What the engine covers)
 abbrev pub isLend : Call → Bool
 isLend (reset r) = false
 isLend (exchange command reply) = false
@@ -101,30 +108,36 @@ isLend (short state c) = false
 isLend (lend write read) = true
 
 -- as many bytes as are kept
+-- ("its data at the start of the write store", "copies exactly L bytes to the start of the read store", 01, Requests, answers, pieces)
 abbrev pub keptCount : Kept → ℕ
 keptCount K.Nothing = 0
 keptCount (K.Data at n) = n
 
+-- "Store bytes that no rule writes are unchanged" (01, Replies and refusals)
 pub record StoresKept (w : World) (c : Call) : Type 0 where
   pub write : drop (writesAtMost c) (step w c .next .write) ≡ drop (writesAtMost c) (w .write)
   pub read : drop (readsAtMost c) (step w c .next .read) ≡ drop (readsAtMost c) (w .read)
 
+-- .. by any call of the engine, refused or not ("Store bytes that no rule writes", 01, Replies and refusals)
 abbrev pub CallsKeepStores : Type 0
 CallsKeepStores = (w : World) (c : Call) → isLend c ≡ false → StoresKept w c
 
 -- ---- the same of the nine calls over lent bytes
 
--- a word's bits 7:0
+-- a word's bits 7:0 ("through plain numbers", 01, What the engine covers)
 abbrev pub numberOf : ℕ → ℕ
 numberOf word = word % 256
 
 -- by the number: the word is number and reply length, and every slice is as it was but for the four bytes
+-- ("but for the four bytes of an error reply", 00, demand 1)
 abbrev pub ExchangeRefusal : ℕ → (st reply write : List ℕ) → Exchanged → Type 0
 ExchangeRefusal zero st reply write x = Unit {0}
 ExchangeRefusal (suc zero) st reply write x = x ≡ exchanged (word 1 4) st (errorReply 0x03 (unpacked st) ++ drop 4 reply) write
 ExchangeRefusal (suc (suc zero)) st reply write x = x ≡ exchanged (word 2 4) st (errorReply 0x02 (unpacked st) ++ drop 4 reply) write
 ExchangeRefusal (suc (suc (suc n))) st reply write x = x ≡ exchanged (suc (suc (suc n))) st reply write
 
+-- "A refusal, silent or not, changes no state and no buffer" (00, demand 1), of each lent slice; "a refused one yields only its
+-- number" (01, Replies and refusals)
 pub record CallsRefuse : Type 0 where
   pub exchange : (st command reply write read : List ℕ)
       → ExchangeRefusal (numberOf (exchangeCall st command reply write read .word)) st reply write (exchangeCall st command reply write read)
@@ -145,6 +158,7 @@ pub record CallsRefuse : Type 0 where
       → numberOf (readWireCall st index bit) ≢ 0 → readWireCall st index bit ≡ numberOf (readWireCall st index bit)
 
 -- past the state's length, the reply's, a report's and the data's, every byte is as it was, whatever the number
+-- ("Store bytes that no rule writes are unchanged", 01, Replies and refusals; "with bytes past it neither read nor written", 01, What the engine covers)
 pub record CallsKeepBytes : Type 0 where
   pub exchangeState : (st command reply write read : List ℕ) → drop stateLength (exchangeCall st command reply write read .state) ≡ drop stateLength st
   pub exchangeReply : (st command reply write read : List ℕ)

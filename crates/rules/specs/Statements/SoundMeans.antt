@@ -11,6 +11,7 @@ use Rattle.rules.specs.Statements.Wires.SoundMeans as W
 
 -- ---- "registers hold reachable values": what a write that is not forbidden makes of the reset value
 
+-- "registers hold reachable values" (01, Sound state; docs/DECISIONS.md, 41)
 pub record Reached (c : Config) : Type 0 where
   pub r008 : (v : ℕ) × (v < 2 ^ 32) × (forbidden008 v ≡ false) × (c .r008 ≡ write008 fresh008 v)
   pub r010 : (v : ℕ) × (v < 2 ^ 32) × (forbidden010 v ≡ false) × (c .r010 ≡ write010 fresh010 v)
@@ -18,10 +19,12 @@ pub record Reached (c : Config) : Type 0 where
 
 -- ---- the clauses
 
+-- the clauses of a channel's part, on or off (01, Sound state: "none while channel 1 is off", "no queue is held while channel 0 is off")
 abbrev pub PartClauses : (k : Channel) → Bool → Part k → Type 0
 PartClauses peripheral on p = P.Clauses on p
 PartClauses wires on p = W.Clauses on p
 
+-- "Sound state: registers hold reachable values; .. the going-round place is 4 to 6" (01, Wires)
 pub record Clauses (s : State) : Type 0 where
   pub registers : Reached (s .config)
   pub ofChannel : (k : Channel) → PartClauses k (on k (s .config)) (part k s)

@@ -20,17 +20,19 @@ module _ (w : World) (lent : List ℕ) where
   BitsOf peripheral = P.Bits w lent
   BitsOf wires = ShowsAvail w lent 6 0x05
 
+  -- the whole word: "Status bits: .. the rest 0" (01, Registers and status)
   pub record StatusBits : Type 0 where
     -- "2 VWIRE_FREE (always 1) .. the rest 0"
     pub word : status (w .state) ≡ statusBit w 0 + 2 * statusBit w 1 + 4 + 16 * statusBit w 4 + 64 * statusBit w 6
     pub ofChannel : (k : Channel) → BitsOf k
 
--- "whose .. status [is] the old one. All other replies show the status after the command"; an error changes no state
+-- "whose .. status are the old ones. All other replies show the status after the command" (01, Registers and status); an error changes no state
 abbrev pub ShowsStatus : World → List ℕ → Type 0
 ShowsStatus w reply =
     (b : List ℕ) → step w (exchange b reply) .reply ≢ []
     → statusIn (step w (exchange b reply) .reply) ≡ statusShown (byte b 0) (w .state) (step w (exchange b reply) .next .state)
 
+-- "Status bits" in each state, and "All other replies show the status after the command" (01, Registers and status)
 pub record StatusSays : Type 0 where
   pub bits : (w : World) (reply : List ℕ) → Sound (w .state) → LongEnough w reply → StatusBits w reply
   pub shown : (w : World) (reply : List ℕ) → ShowsStatus w reply

@@ -71,6 +71,7 @@ setWire index bit value = board wires (W.setWire index bit value)
 abbrev fresh : World
 fresh = record { state = freshState; write = replicate 256 0; read = replicate 4096 0 }
 
+-- a line: "Fresh, 25 FB gives 08 07 00 3A" (01, Bench lines)
 pub record Row : Type 0 where
   pub before : List Call
   pub command : List ℕ
@@ -80,6 +81,7 @@ pub record Row : Type 0 where
 abbrev row : List Call → List ℕ → ℕ → List ℕ → Row
 row before command number reply = record { before = before; command = command; number = number; reply = reply }
 
+-- ★: "Those with a star are proved of the definitions" (01, Bench lines)
 unfoldable pub rows : List Row
 rows =
     -- ★ fresh: GET_STATUS
@@ -146,6 +148,7 @@ rows =
 
 -- ---- the statement: each row's command gets the row's number and reply
 
+-- "gathered into a single table under a single statement" (01, Bench lines)
 abbrev pub Holds : List Row → Type 0
 Holds [] = Unit {0}
 Holds (r ∷ rs) =

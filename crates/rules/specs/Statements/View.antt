@@ -23,6 +23,7 @@ use Rattle.rules.specs.Statements.Reads.{requestIn}
 use Rattle.rules.specs.Statements.Requests.{Event, idle, asks, tells, gets, ends, lends, event, isStart, answersWith, held, serialOf, showsBit}
 
 -- the status of a held request: bit 1, NP_FREE, and bit 4, PC_AVAIL
+-- ("1 NP_FREE (no request held)", "4 PC_AVAIL (a completion is ready)", 01, Registers and status)
 pub record Shown (n : Np) (reply : List ℕ) : Type 0 where
   pub np : showsBit 1 (bit (npFree n)) reply
   pub pc : showsBit 4 (bit (pcAvail n)) reply
@@ -32,6 +33,8 @@ abbrev pub answeredAs : Request → Bool → Np
 answeredAs q true = Ready q 0
 answeredAs q false = Failed q
 
+-- asked: "Accepting it replies DEFER"; told: "An answer names the serial"; sent: a completion, and "held .. until its last completion is sent"; dropped:
+-- "Disabling channel 0, platform reset and eSPI reset drop held write, request and completions" (01, Requests, answers, pieces)
 pub data Move (w : World) (c : Call) (o : Outcome) : Event → Type 0 where
   same : held (o .next) ≡ held w → serialOf (o .next) ≡ serialOf w → o .next .read ≡ w .read → Shown (held w) (o .reply) → Move w c o idle
   asked : (b r : List ℕ) → c ≡ exchange b r → held w ≡ Free → held (o .next) ≡ Waiting (requestIn (w .state .config) b)
@@ -49,5 +52,6 @@ pub data Move (w : World) (c : Call) (o : Outcome) : Event → Type 0 where
   -- nothing is held, and only a start sets the serial; a disabling's own reply shows the status of before
   dropped : o .next .state .peripheral ≡ F.idle (pick (isStart c) 0 (serialOf w)) → o .next .read ≡ w .read → Shown (held w) (o .reply) → Move w c o ends
 
+-- so of every call, for all that "Anything else may come between" (00, demand 3)
 abbrev pub View : Type 0
 View = (w : World) (c : Call) → Move w c (step w c) (event w c)

@@ -26,6 +26,7 @@ use Rattle.rules.specs.Statements.Wires.Rows.{wireOfBoard}
 abbrev pub wireDown : ℕ → ℕ → Bool
 wireDown i bit = (eqb i 2 || (eqb i 3 || eqb i 7)) && ltb bit 3
 
+-- "Wire table: index, direction, defined bits, reset value" (01, Wires): the wire's bit of its group's reset value
 abbrev pub resetLevel : ℕ → ℕ → ℕ
 resetLevel i bit = getD tableValues (i - 2) 0 / 2 ^ bit % 2
 
@@ -35,6 +36,7 @@ resetsGroup i start = true
 resetsGroup i espiReset = true
 resetsGroup i platformReset = eqb i 6 || eqb i 7
 
+-- .. by a call ("eSPI reset, platform reset", 01, What the engine covers)
 abbrev pub resetsBy : ℕ → Call → Bool
 resetsBy i (reset r) = resetsGroup i r
 resetsBy i (exchange command reply) = false
@@ -44,11 +46,12 @@ resetsBy i (lend write read) = false
 
 -- ---- what a run accepts, in order
 
+-- what f finds at each call, one after the other (of `packets` and `settings`; "in order", 01, Wires)
 unfoldable pub along : {A : Type 0} → (World → Call → List A) → World → List Call → List A
 along f w [] = []
 along f w (c ∷ cs) = f w c ++ along f (step w c .next) cs
 
--- the pairs of a PUT_VWIRE
+-- the pairs of a PUT_VWIRE ("PUT_VWIRE applies pairs in order", 01, Wires)
 abbrev pub packetIn : Call → List (List ℕ)
 packetIn (reset r) = []
 packetIn (exchange command reply) = pick (eqb (byte command 0) 0x04) (pairs command ∷ []) []
@@ -56,15 +59,17 @@ packetIn (board k o) = []
 packetIn (short state c) = []
 packetIn (lend write read) = []
 
--- the value to which the board sets this wire
+-- the value to which the board sets this wire ("The board sets one defined bit of an up group", 01, Wires)
 abbrev pub wiresSetting : (i bit : ℕ) → W.Board → List ℕ
 wiresSetting i bit (W.setWire index k value) = pick (eqb index i && eqb k bit) (value ∷ []) []
 wiresSetting i bit (W.readWire index k) = []
 
+-- .. of any channel ("set a wire", 01, What the engine covers)
 abbrev pub boardSetting : (i bit : ℕ) → (k : Channel) → Board k → List ℕ
 boardSetting i bit peripheral o = []
 boardSetting i bit wires o = wiresSetting i bit o
 
+-- .. of any call ("set a wire", 01, What the engine covers)
 abbrev pub settingIn : (i bit : ℕ) → Call → List ℕ
 settingIn i bit (reset r) = []
 settingIn i bit (exchange command reply) = []
@@ -72,14 +77,17 @@ settingIn i bit (board k o) = boardSetting i bit k o
 settingIn i bit (short state c) = []
 settingIn i bit (lend write read) = []
 
+-- the accepted packets of a run (0, "accepted or deferred", 01, Replies and refusals)
 abbrev pub packets : World → List Call → List (List ℕ)
 packets = along (λ w c. pick (accepted (step w c)) (packetIn c) [])
 
+-- .. and the accepted settings of a wire: "The board sets one defined bit" (01, Wires)
 abbrev pub settings : (i bit : ℕ) → World → List Call → List ℕ
 settings i bit = along (λ w c. pick (accepted (step w c)) (settingIn i bit c) [])
 
 -- ---- the level that these leave, from one before them
 
+-- each in turn, from a level before (of `lastPut` and `lastSet`; "in order", 01, Wires)
 unfoldable pub through : {A : Type 0} → (A → ℕ → ℕ) → List A → ℕ → ℕ
 through f [] old = old
 through f (x ∷ xs) old = through f xs (f x old)
@@ -88,15 +96,18 @@ through f (x ∷ xs) old = through f xs (f x old)
 abbrev pub lastPut : (i bit : ℕ) → List (List ℕ) → ℕ → ℕ
 lastPut i bit = through (λ ps. lastNamed ps i bit)
 
+-- the last value that the board set: "The board sets one defined bit of an up group" (01, Wires)
 abbrev pub lastSet : List ℕ → ℕ → ℕ
 lastSet = through (λ value old. value)
 
 -- ---- the statements
 
+-- what the board's call yields: "read a wire" (01, What the engine covers)
 abbrev pub valueRead : World → ℕ → ℕ → ℕ
 valueRead w i bit = step w (readsWire i bit) .value
 
 -- a read after the calls cs, the wire having had this level before them
+-- ("only valid and defined bits of down groups change"; "The board sets one defined bit of an up group", 01, Wires)
 pub record ReadAfter (w : World) (cs : List Call) (i bit old : ℕ) : Type 0 where
   pub down : wireDown i bit ≡ true → valueRead (run w cs) i bit ≡ lastPut i bit (packets w cs) old
   pub up : wireOfBoard i bit ≡ true → valueRead (run w cs) i bit ≡ lastSet (settings i bit w cs) old
@@ -108,6 +119,7 @@ SoundBefore espiReset w = Sound (w .state)
 SoundBefore platformReset w = Sound (w .state)
 
 -- since a reset of the wire's group, or between any two places of a run: cs, with no such reset among them
+-- ("register values, wires and queues afterwards", 00, demand 2; "reset value", 01, Wires; "Disabling channel 1 drops pending marks and keeps values")
 pub record WireReads : Type 0 where
   pub since : (w : World) (r : Reset) (cs : List Call) (i bit : ℕ) → SoundBefore r w → resetsGroup i r ≡ true
       → allHanded cs ≡ true → without (λ v c. resetsBy i c) (step w (reset r) .next) cs ≡ true

@@ -21,7 +21,7 @@ use Rattle.rules.specs.Statements.Fields.{byte, pairs, registerAt, regis
 use Rattle.rules.specs.Statements.WireEvents.{wiresOf, countOf}
 use Rattle.rules.specs.Statements.WireView.{setsWire, readsWire}
 
--- a wire's level: bit `bit` of group i
+-- a wire's level: bit `bit` of group i ("The state holds six wire groups", 01, Wires)
 abbrev pub wireOf : World → ℕ → ℕ → ℕ
 wireOf w i bit = G.readWire (wiresOf w) i bit
 
@@ -47,19 +47,20 @@ pub record Set (w v : World) (i bit value : ℕ) : Type 0 where
 
 -- ---- GET_VWIRE
 
--- the up group after this one, going round
+-- the up group after this one, going round ("going round from the index after the last one sent", 01, Wires)
 abbrev pub nextUp : ℕ → ℕ
 nextUp i = pick (eqb i 6) 4 (i + 1)
 
+-- of these groups, those that are pending (01, Wires: "their pending marks")
 unfoldable pub marked : Wires → List ℕ → List ℕ
 marked w [] = []
 marked w (i ∷ is) = pick (markAt w i) (i ∷ marked w is) (marked w is)
 
--- the pending groups, going round from the place
+-- the pending groups, going round from the place ("going round from the index after the last one sent", 01, Wires; docs/DECISIONS.md, 21)
 abbrev pub pendingRound : Wires → List ℕ
 pendingRound w = marked w (w .place ∷ nextUp (w .place) ∷ nextUp (nextUp (w .place)) ∷ [])
 
--- index and data of each
+-- index and data of each ("then index and data pairs", 01, Commands; "with all defined bits valid", 01, Wires)
 unfoldable pub pairsOf : Wires → List ℕ → List ℕ
 pairsOf w [] = []
 pairsOf w (i ∷ is) = i ∷ groupByte w i ∷ pairsOf w is
@@ -76,12 +77,14 @@ pub record Got (w : World) (o : Outcome) (groups : List ℕ) : Type 0 where
   pub levels : wiresOf (o .next) .level ≡ wiresOf w .level
   pub place : (before : List ℕ) (last : ℕ) → groups ≡ before ++ (last ∷ []) → wiresOf (o .next) .place ≡ nextUp last
 
+-- "min(pending, operating count) groups": there are such (01, Wires)
 pub record SomeGot (w : World) (o : Outcome) : Type 0 where
   pub groups : List ℕ
   pub got : Got w o groups
 
 -- ---- what raises a mark
 
+-- "a real change while channel 1 is enabled makes it pending", "Enabling it from disabled makes each up group pending" (01, Wires), and nothing else
 pub data Raised (w : World) (c : Call) (i : ℕ) : Type 0 where
   -- "a real change while channel 1 is enabled"
   byChange : (bit value : ℕ) → c ≡ setsWire i bit value → on wires (w .state .config) ≡ true → (wireOf w i bit ≡ value → ⊥) → Raised w c i
@@ -91,6 +94,7 @@ pub data Raised (w : World) (c : Call) (i : ℕ) : Type 0 where
 
 -- ---- the statements: of an accepted call on a sound state
 
+-- each rule of 01, Wires of its call; raised: no pending mark comes by itself ("makes it pending", "makes each up group pending")
 pub record WireSteps : Type 0 where
   pub put : (w : World) (b r : List ℕ) → Sound (w .state) → byte b 0 ≡ 0x04 → step w (exchange b r) .number ≡ 0 → Put w (step w (exchange b r) .next) (pairs b)
   pub set : (w : World) (i bit value : ℕ) → Sound (w .state) → step w (setsWire i bit value) .number ≡ 0

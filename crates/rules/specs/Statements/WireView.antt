@@ -14,13 +14,17 @@ use Rattle.rules.specs.Rules.Step.{World, Call, exchange, board, Outcome
 use Rattle.rules.specs.Statements.Fields.{pairs}
 use Rattle.rules.specs.Statements.WireEvents.{WireEvent, idle, puts, gets, sets, enables, ends, switchesOn, wireEvent, wiresOf, countOf}
 
--- the board's calls
+-- the board's calls ("set a wire", 01, What the engine covers)
 abbrev pub setsWire : (index bit value : ℕ) → Call
 setsWire index bit value = board wires (W.setWire index bit value)
 
+-- .. "read a wire" (01, What the engine covers)
 abbrev pub readsWire : (index bit : ℕ) → Call
 readsWire index bit = board wires (W.readWire index bit)
 
+-- put: "PUT_VWIRE applies pairs in order"; sent: "GET_VWIRE sends min(pending, operating count) groups"; set: "The board sets one defined bit of an up
+-- group"; enabled: "Enabling it from disabled"; disabled: "Disabling channel 1 drops pending marks and keeps values" (01, Wires); wiped, platformWiped:
+-- "eSPI reset also resets all registers and groups", "Platform reset also resets 010h and wire groups 6 and 7" (01, Requests, answers, pieces)
 pub data WireMove (w : World) (c : Call) (o : Outcome) : WireEvent → Type 0 where
   still : wiresOf (o .next) ≡ wiresOf w → WireMove w c o idle
   put : (b r : List ℕ) → c ≡ exchange b r → wiresOf (o .next) ≡ putPairs (wiresOf w) (pairs b) → WireMove w c o puts
@@ -36,5 +40,6 @@ pub data WireMove (w : World) (c : Call) (o : Outcome) : WireEvent → Type 0 wh
   wiped : wiresOf (o .next) ≡ freshWires → WireMove w c o ends
   platformWiped : wiresOf (o .next) ≡ platformWires (wiresOf w) → WireMove w c o ends
 
+-- so of every call: "wires and queues afterwards" (00, demand 2), and for the bound "unless a start, such a reset or a disabling comes first" (01, Wires)
 abbrev pub WireView : Type 0
 WireView = (w : World) (c : Call) → WireMove w c (step w c) (wireEvent w c)

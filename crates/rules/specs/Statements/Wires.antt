@@ -21,6 +21,8 @@ use Rattle.rules.specs.declared.WiresChange.{WiresChange}
 
 -- ---- commands
 
+-- overCount: "PUT_VWIRE over the operating count is 1"; nonePending: 1, "GET_VWIRE with nothing pending" (01, Replies and refusals); put: "PUT_VWIRE applies
+-- pairs in order"; sentOff: "GET_VWIRE sends min(pending, operating count) groups" (01, Wires)
 pub data Did (c : Config) (w : Wires) : Act → WiresChange → Type 0 where
   overCount : {n : ℕ} {pairs : List ℕ} → ltb (operatingCount (c .r020)) n ≡ true → Did c w (puts n pairs) (change w fatal)
   put : {n : ℕ} {pairs : List ℕ} → ltb (operatingCount (c .r020)) n ≡ false → Did c w (puts n pairs) (change (putPairs w pairs) (accept B.Nothing K.Nothing))
@@ -30,6 +32,8 @@ pub data Did (c : Config) (w : Wires) : Act → WiresChange → Type 0 where
 
 -- ---- the board's calls
 
+-- 22: "set: wire not the board's, or value above 1; read: no such defined wire" (01, Replies and refusals); set: "The board sets one defined bit of an up
+-- group" (01, Wires); read: no wire changes ("read a wire", 01, What the engine covers)
 pub data Settled (c : Config) (w : Wires) : Board → WiresChange → Type 0 where
   notBoards : {index bit value : ℕ} → settable index bit value ≡ false → Settled c w (setWire index bit value) (change w (number noSuchWire))
   set : {index bit value : ℕ} → settable index bit value ≡ true

@@ -1,4 +1,4 @@
--- Each index is within the script.
+-- Ends: the index goes up to the script's length.
 use Prim.Native.Nat.{_-_}
 use native.Mathlib.Omega.{arith}
 use lib.ListN.{length}
@@ -6,16 +6,13 @@ use Rattle.bench.proofs.script.play.Statement.{statement}
 use Rattle.bench.proofs.script.play.Tie as tie
 
 abbrev Inv-loop : tie.InvT-loop
-Inv-loop state₀ write-store₀ read-store₀ script line₀ n₀ i₀ state write-store read-store line n i = Unit {0}
+Inv-loop state₀ write-store₀ read-store₀ script from₀ i₀ state write-store read-store from i = Unit {0}
 
 abbrev μ-loop : tie.MeasureT-loop
-μ-loop state₀ write-store₀ read-store₀ script line₀ n₀ i₀ state write-store read-store line n i = length script - i
+μ-loop state₀ write-store₀ read-store₀ script from₀ i₀ state write-store read-store from i = length script - i
 
 loop-holds : tie.Need-loop-holds Inv-loop μ-loop
 loop-holds c = tt
-
-shared-slice-read-step : tie.Need-shared-slice-read-step Inv-loop μ-loop
-shared-slice-read-step c = omega arith
 
 step-requires : tie.Need-step-requires Inv-loop μ-loop
 step-requires c κs = tt
@@ -33,6 +30,4 @@ returns : tie.Need-returns Inv-loop μ-loop
 returns c = tt
 
 pub play-spec : {M : Type 1} → statement M
-play-spec =
-    tie.close
-    (tie.spec Inv-loop μ-loop loop-holds shared-slice-read-step step-requires add-i loop-less loop-again returns)
+play-spec = tie.close (tie.spec Inv-loop μ-loop loop-holds step-requires add-i loop-less loop-again returns)

@@ -20,7 +20,7 @@ use Rattle.rules.specs.Statements.Requests.{held, serialOf}
 use Rattle.rules.specs.Statements.PostedWrites.{heldWrite}
 use Rattle.rules.specs.Statements.Peripheral.SoundMeans.{Made, PostedMade}
 
--- a command that some sound state accepts, in bytes; number 0 says that the stores are long enough
+-- a command that some sound state accepts, in bytes; number 0 says that the stores are long enough (of "one that a command makes", 01, Sound state)
 pub record Accepting : Type 0 where
   pub world : World
   pub command : List ℕ
@@ -29,6 +29,7 @@ pub record Accepting : Type 0 where
   pub bytes : areBytes command ≡ true
   pub number : step world (exchange command reply) .number ≡ 0
 
+-- the world after it: what "a command makes" is held there (01, Sound state)
 abbrev pub afterIt : Accepting → World
 afterIt a = step (a .world) (exchange (a .command) (a .reply)) .next
 
@@ -49,16 +50,19 @@ pub record MakesWrite (t : Posted) : Type 0 where
   pub holds : heldWrite (afterIt by) ≡ Held t
 
 -- so of what is held, in any phase, and the last serial given
+-- ("the request's serial the last given", 01, Sound state; "until its last completion is sent", 01, Requests, answers, pieces)
 abbrev pub RequestBy : Np → ℕ → Type 0
 RequestBy Free n = Unit {0}
 RequestBy (Waiting q) n = MakesRequest q n
 RequestBy (Ready q sent) n = MakesRequest q n
 RequestBy (Failed q) n = MakesRequest q n
 
+-- .. and of a held write (01, Sound state: "a held request or write")
 abbrev pub WriteBy : Write → Type 0
 WriteBy Empty = Unit {0}
 WriteBy (Held t) = MakesWrite t
 
+-- "a held request or write is one that a command makes under the sizes recorded with it" (01, Sound state): exactly those, and none else
 pub record Makes : Type 0 where
   pub request : (q : Request) (n : ℕ) → MakesRequest q n ↔ (Made q × (n < 2 ^ 32))
   pub write : (t : Posted) → MakesWrite t ↔ PostedMade t

@@ -9,6 +9,7 @@ use Rattle.rules.specs.Statements.Fields.{isPosted, isNonPosted}
 use Rattle.rules.specs.Statements.Sizes.{isEnabled}
 use Rattle.rules.specs.Statements.Status.{statusBit, ShowsAvail, ShowsFree}
 
+-- "0 PC_FREE (no write held), 1 NP_FREE (no request held), .. 4 PC_AVAIL (a completion is ready)" (01, Registers and status)
 pub record Bits (w : World) (lent : List ℕ) : Type 0 where
   -- "4 PC_AVAIL (a completion is ready)", channel on or off
   pub pcAvail : ShowsAvail w lent 4 0x01

@@ -26,14 +26,16 @@ use Rattle.rules.specs.Statements.Demand3.{header, pieceBody}
 
 -- ---- GET_PC
 
--- a held read's pieces: how many, and the bytes before the k-th
+-- a held read's pieces: how many, and the bytes before the k-th ("N = floor((A+L-1)/P) - floor(A/P) + 1", 01, Requests, answers, pieces)
 abbrev pub piecesOf : Request → ℕ
 piecesOf q = blocks (q .address) (q .length) (q .payload)
 
+-- .. ("a piece's edge", 01, Sound state)
 abbrev pub edgeOf : Request → ℕ → ℕ
 edgeOf q k = edge (q .address) (q .length) (q .payload) k
 
 -- a read answered with success, so many bytes of it sent: they end where a piece begins, and that one goes, with its bytes of the read store
+-- ("the answer's pieces, block by block in address order, marked only, first, middle or last", 00, demand 3)
 pub record PieceGot (w : World) (q : Request) (sent : ℕ) (o : Outcome) : Type 0 where
   pub piece : ℕ
   pub begins : sent ≡ edgeOf q piece
@@ -48,12 +50,14 @@ pub record BareGot (cycle : ℕ) (q : Request) (o : Outcome) : Type 0 where
   pub reply : o .reply ≡ closed (0x08 ∷ header cycle (q .tag) 0) (status (o .next .state))
   pub free : held (o .next) ≡ Free
 
+-- a success, by kind: pieces, or "06h for an I/O write" (01, Requests, answers, pieces)
 abbrev pub SuccessGot : Kind → World → Request → ℕ → Outcome → Type 0
 SuccessGot MemoryRead w q sent o = PieceGot w q sent o
 SuccessGot IoRead w q sent o = PieceGot w q sent o
 SuccessGot IoWrite w q sent o = BareGot 0x06 q o
 
 -- by what is held: while nothing is, or the request waits, none is accepted
+-- (1, "GET_PC with no completion ready", 01, Replies and refusals; "0Eh for failure, alone", 01, Requests, answers, pieces)
 abbrev pub GotFrom : World → Np → Outcome → Type 0
 GotFrom w Free o = ⊥
 GotFrom w (Waiting q) o = ⊥
@@ -79,6 +83,7 @@ pub record Took (w : World) (o : Outcome) : Type 0 where
 
 -- ---- the statements: of an accepted call
 
+-- "the reply bytes, .. and queues afterwards" of GET_PC (00, demand 2); "Looking yields", "the take yields" (01, Requests, answers, pieces)
 pub record PeripheralSteps : Type 0 where
   pub get : (w : World) (b r : List ℕ) → Sound (w .state) → byte b 0 ≡ 0x01 → step w (exchange b r) .number ≡ 0 → GotFrom w (held w) (step w (exchange b r))
   pub look : (w : World) (report : List ℕ) → step w (board peripheral (look report)) .number ≡ 0 → Looked w (step w (board peripheral (look report)))

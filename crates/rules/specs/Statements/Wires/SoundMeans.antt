@@ -8,12 +8,14 @@ use Rattle.wires.specs.declared.Wires.{Wires}
 
 -- ---- "undefined wire bits are 0"
 
+-- a group has four bits: "undefined wire bits are 0" (01, Sound state)
 pub record GroupRight (w : Wires) (i : ℕ) : Type 0 where
   pub four : levelAt w i < 16
   pub undefined : (bit : ℕ) → bit < 4 → definedBit i bit ≡ false → readWire w i bit ≡ 0
 
 -- ---- the clauses of channel 1
 
+-- from "undefined wire bits are 0" to "none while channel 1 is off", and "the going-round place is 4 to 6" (01, Sound state)
 pub record Clauses (on : Bool) (w : Wires) : Type 0 where
   pub groups : (i : ℕ) → isGroup i ≡ true → GroupRight w i
   -- "up groups alone are pending, and none while channel 1 is off"
