@@ -5,4 +5,3 @@ pub mod Lifted
 pub mod Contracts
 pub mod Bridge
 pub mod Promises
-pub mod Met

@@ -2,4 +2,3 @@ pub mod Lifted
 pub mod Words
 pub mod Promises
 pub mod Contracts
-pub mod Met

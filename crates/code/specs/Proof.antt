@@ -8,7 +8,7 @@ use Rattle.espi.proofs.espi_answer.Met as Answer
 use Rattle.espi.proofs.espi_take_write.Met as TakeWrite
 use Rattle.espi.proofs.espi_set_wire.Met as SetWire
 use Rattle.espi.proofs.espi_read_wire.Met as ReadWire
-use Rattle.promises.specs.Statements.Met.{CodeMeets}
+use Rattle.code.specs.Met.{CodeMeets}
 
 pub code-meets : {M : Type 1} → CodeMeets M
 code-meets =

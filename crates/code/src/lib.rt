@@ -1,0 +1,1 @@
+// That the code meets its contracts stands in specs/; there is no code here.
