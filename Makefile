@@ -4,7 +4,7 @@ ARCHIVE = target/staticlib/libespi.a
 SOURCES = $(shell find crates -name '*.rt' -o -name '*.antt') crates.txt
 
 # NATIVE: the archive for the machine at hand; where that is not x86-64, the firmware build of the same module. The x86-64 archive is then run by an emulator
-# (tests/tools.sh installs what is needed). QUICK: as many calls as take half a minute.
+# (tests/tools.sh installs what is needed). QUICK: as many calls as take a quarter of a minute.
 ifeq ($(shell uname -m),x86_64)
 NATIVE = $(ARCHIVE)
 X86_CC = $(CC)
@@ -12,7 +12,7 @@ else
 NATIVE = target/firmware/$(shell uname -m)-linux-gnu/libespi.a
 X86_CC = x86_64-linux-gnu-gcc -static
 endif
-QUICK = 20000000
+QUICK = 10000000
 
 .PHONY: run board-test archive install header boundary bench figures differential differential-quick rust-test clean
 

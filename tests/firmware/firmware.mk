@@ -100,7 +100,7 @@ bridged-%: tests/differential/target/%/release/differential
 	done
 
 # As many calls as take a quarter of a minute; fewer of the x86-64 archive, whose long run is on x86-64.
-firmware-tests: BRIDGED_CALLS = 1000000
+firmware-tests: BRIDGED_CALLS = 1200000
 bridged-x86_64-linux-gnu: BRIDGED_CALLS = 200000
 firmware-tests: $(MACHINES:%=machine-%) $(BOARDS:%=interrupt-%) $(BRIDGED:%=bridged-%)
 
