@@ -150,15 +150,15 @@ def defining(text):
 
 
 def contracts(page, crates):
-    listed, crate, files = set(), "", []
-    for section in re.split(r"^(?=## )", read(page), flags=re.M):
-        crate, files = section.split("\n")[0][3:].strip(), defining(section)
-        rows(page, crates, crate, files, section, listed)
-    return listed
+    """The functions that the page lists."""
+    return set().union(*(rows(page, crates, section) for section in re.split(r"^(?=## )", read(page), flags=re.M)))
 
 
-def rows(page, crates, crate, files, section, listed):
-    for line in section.split("\n"):
+def rows(page, crates, section):
+    """Those of one section."""
+    lines, files, listed = section.split("\n"), defining(section), set()
+    crate = lines[0][len("## "):].strip()
+    for line in lines:
         cells = [c.strip() for c in line.strip().strip("|").split("|")]
         name = re.fullmatch(r"`([\w:]+)`", cells[0])
         if not line.startswith("|") or not name or len(cells) != 5:
@@ -185,6 +185,7 @@ def rows(page, crates, crate, files, section, listed):
         for other, caller in re.findall(r"`(\w+)::([\w:]+)`", callers):
             if caller not in crates.get(other, {}):
                 fault(f"{where}: no function {other}::{caller}")
+    return listed
 
 
 # ---- the definitions, and the rules that they say

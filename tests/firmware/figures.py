@@ -16,7 +16,10 @@ sys.dont_write_bytecode = True
 sys.path.insert(0, os.path.join(os.path.dirname(os.path.abspath(__file__)), ".."))
 import figures  # noqa: E402
 
-HELPERS = ("memcpy", "memset", "__aeabi_memcpy", "__aeabi_memcpy4", "__aeabi_memset")
+
+def helper(symbol):
+    """One of the C library's functions over memory: memcpy, memset, and what Arm calls them."""
+    return symbol.startswith(("mem", "__aeabi_mem"))
 
 
 def run(command):
@@ -40,9 +43,9 @@ def traced(command):
         for line in out:
             if line.startswith("Trace"):
                 symbol = line.split("] ", 1)[-1].strip()
-                within = symbol.startswith("espi_") or "::" in symbol or within and symbol in HELPERS
+                within = symbol.startswith("espi_") or "::" in symbol or within and helper(symbol)
                 count += within
-                helped += within and symbol in HELPERS
+                helped += within and helper(symbol)
     return count, helped, said
 
 

@@ -166,15 +166,14 @@ static void drops(void)
 
 HANDLER void bus_interrupt(void)
 {
-    sends(fixed[0], 2);
-    unsigned status = reply[1];
-    if (length != 0 && (status & 0x10))
+    uint32_t status = espi_status(reply, espi_value(sends(fixed[0], 2)));
+    if (length != 0 && (status & ESPI_STATUS_PC_AVAIL))
         fetches();
-    else if ((status & 1) && below(&host_seed, 3) == 0)
+    else if ((status & ESPI_STATUS_PC_FREE) && below(&host_seed, 3) == 0)
         posts();
     else if (length == 0)
         asks();
-    else if ((status & 1) && below(&host_seed, 8) == 0)
+    else if ((status & ESPI_STATUS_PC_FREE) && below(&host_seed, 8) == 0)
         drops();
     after(20 + below(&host_seed, 1500));
 }
@@ -230,15 +229,14 @@ static void serve(void)
     release();
     if (word != ESPI_OK)
         return;
-    uint32_t from = report[1] | (uint32_t)report[2] << 8 | (uint32_t)report[3] << 16, n = report[9] | (uint32_t)report[10] << 8;
-    uint32_t serial = report[11] | (uint32_t)report[12] << 8 | (uint32_t)report[13] << 16 | (uint32_t)report[14] << 24;
-    for (uint32_t i = 0; i < n; i++)
-        data[i] = byte_at(from + i);
+    struct espi_request request = espi_request_of(report);
+    for (uint32_t i = 0; i < request.length; i++)
+        data[i] = byte_at((uint32_t)request.address + i);
     if (below(&device_seed, 2) == 0) {
-        word = answer_on_copy(serial, data, n);
+        word = answer_on_copy(request.serial, data, request.length);
     } else {
         hold();
-        word = espi_answer(state, sizeof state, read_store, sizeof read_store, serial, 1, data, n);
+        word = espi_answer(state, sizeof state, read_store, sizeof read_store, request.serial, 1, data, request.length);
         make_ahead();
         release();
     }

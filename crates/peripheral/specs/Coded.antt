@@ -16,7 +16,7 @@ use Rattle.pieces.specs.Pieces.{nextMark}
 use Rattle.pieces.specs.Edges.{place-low}
 use Rattle.pieces.specs.Laws.{next-mark}
 use Rattle.pieces.specs.declared.Mark.{Mark}
-use Rattle.peripheral.specs.Upward.{nextOf, pieceOf, bare, successOf, upward, firstOf, leftOf, afterPiece, afterSuccess, handed}
+use Rattle.peripheral.specs.Upward.{nextOf, nextPiece, bare, successOf, upward, firstOf, leftOf, afterPiece, afterSuccess, handed}
 use Rattle.peripheral.specs.Status.{pcFree, npFree, pcAvail, peripheralStatus}
 use Rattle.peripheral.specs.Sound.{shortSize, ioMade, soundRequest, soundWrite, nothingHeld}
 use Rattle.peripheral.specs.Facts.{Block, ready-request}
@@ -85,7 +85,7 @@ pub piece-handed : (q : Request) (sent n cycle : ℕ) (mark : Mark) (l l′ : Li
     → mark ≡ markOf (eqb sent 0) (eqb (sent + n) (q .length))
     → cycle ≡ markType mark
     → l′ ≡ put 29 (npBytes (leftOf q (sent + n))) l
-    → (record { cycle = cycle; tag = q .tag; length = n; from = sent } ≡ pieceOf q sent) × (l′ ≡ put 29 (npBytes (afterPiece q sent)) l)
+    → (record { cycle = cycle; tag = q .tag; length = n; from = sent } ≡ nextPiece q sent) × (l′ ≡ put 29 (npBytes (afterPiece q sent)) l)
 piece-handed q sent n cycle mark l l′ en em ec k =
     let c = ec ∙ ap markType (em ∙ next-mark (q .address) (q .length) (q .payload) sent en) in (
       ap (λ (x : ℕ). record { cycle = x; tag = q .tag; length = n; from = sent }) c

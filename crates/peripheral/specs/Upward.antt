@@ -19,8 +19,8 @@ abbrev pub nextOf : Request → ℕ → ℕ
 nextOf q sent = nextSize (q .address) (q .length) (q .payload) sent
 
 -- that piece as a completion: "(cycle type, tag and length as above) and data" (01, Replies and refusals)
-abbrev pub pieceOf : Request → ℕ → Completion
-pieceOf q sent = record { cycle = markType (nextMark (q .address) (q .length) (q .payload) sent); tag = q .tag; length = nextOf q sent; from = sent }
+abbrev pub nextPiece : Request → ℕ → Completion
+nextPiece q sent = record { cycle = markType (nextMark (q .address) (q .length) (q .payload) sent); tag = q .tag; length = nextOf q sent; from = sent }
 
 -- "06h for an I/O write; 0Eh for failure, alone; the last two have length 0" (01, Requests, answers, pieces)
 abbrev pub bare : ℕ → Request → Completion
@@ -28,8 +28,8 @@ bare cycle q = record { cycle = cycle; tag = q .tag; length = 0; from = 0 }
 
 -- after a success: a read's next piece, "06h for an I/O write" (01, Requests, answers, pieces)
 abbrev pub successOf : Kind → Request → ℕ → Completion
-successOf MemoryRead q sent = pieceOf q sent
-successOf IoRead q sent = pieceOf q sent
+successOf MemoryRead q sent = nextPiece q sent
+successOf IoRead q sent = nextPiece q sent
 successOf IoWrite q sent = bare 0x06 q
 
 -- the next hand-over: none, or one. "a completion is ready" (01, Registers and status) once the request is answered; 0Eh for a failure

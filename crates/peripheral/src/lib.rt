@@ -12,7 +12,7 @@ ghost use Rattle.peripheral.specs.declared.Np.the-variants.{Free, Waitin
 ghost use Rattle.peripheral.specs.declared.Write.the-variants.{Held};
 ghost use Rattle.peripheral.specs.Queues.{idle, dropped};
 ghost use Rattle.peripheral.specs.Status.{pcFree, npFree, pcAvail, peripheralStatus};
-ghost use Rattle.peripheral.specs.Upward.{bare, pieceOf, successOf, upward, firstOf, leftOf, afterPiece, afterSuccess};
+ghost use Rattle.peripheral.specs.Upward.{bare, nextPiece, successOf, upward, firstOf, leftOf, afterPiece, afterSuccess};
 ghost use Rattle.peripheral.specs.Facts.{Block};
 ghost use Rattle.peripheral.specs.Sound.{within, shortSize, ioMade, madeAs, requestMade, writeMade, sentRight, soundRequest};
 ghost use Rattle.peripheral.specs.Layout.{handedBytes, writeBytes, kindNumber, numberBytes, requestBytes, npBytes, peripheralBytes, postedIn, writeIn, kindOf, requestIn, npIn, peripheralIn, holdsWrite, blankIn, holdsRequest, holdsPeripheral};
@@ -146,7 +146,7 @@ fn put_left(q: Request, gone: u32, b: &mut [u8])
 // The next piece, and the request's bytes after it.
 fn hand_piece(q: Request, sent: u32, b: &mut [u8]) -> Completion
     requires { ⌜ (64 ≤ length (now b)) × (sent < q .length) × (q .length ≤ 4096) × (1 ≤ q .payload) × (4096 % q .payload ≡ 0) ⌝ }
-    ensures { λ r. ⌜ (r ≡ pieceOf q sent) × (now (b .exit) ≡ put 29 (npBytes (afterPiece q sent)) (now (b .entry))) ⌝ }
+    ensures { λ r. ⌜ (r ≡ nextPiece q sent) × (now (b .exit) ≡ put 29 (npBytes (afterPiece q sent)) (now (b .entry))) ⌝ }
 {
     let length = pieces::next_size(q.address, q.length, q.payload, sent);
     let gone = sent + length;

@@ -17,7 +17,7 @@ use Rattle.pieces.specs.Pieces.{blocks, pieces, edge, piece, piecesFrom, part, 
 use Rattle.pieces.specs.Blocks.{blocks-suc, blocks-pos, blocks-64}
 use Rattle.pieces.specs.Edges.{edge-zero, edge-le, edge-next, edge-all}
 use Rattle.pieces.specs.Marks.{markType}
-use Rattle.peripheral.specs.Upward.{handed, bare, upward, pieceOf, successOf, afterPiece, afterSuccess}
+use Rattle.peripheral.specs.Upward.{handed, bare, upward, nextPiece, successOf, afterPiece, afterSuccess}
 use Rattle.peripheral.specs.declared.Np.the-variants.{Waiting, Free, Ready, Failed}
 use Rattle.peripheral.specs.declared.Request.{Request}
 use Rattle.peripheral.specs.declared.Completion.{Completion}
@@ -58,7 +58,7 @@ reading MemoryRead = true
 reading IoRead = true
 reading IoWrite = false
 
-success-read : (k : Kind) (q : Request) (s : ℕ) → reading k ≡ true → successOf k q s ≡ pieceOf q s
+success-read : (k : Kind) (q : Request) (s : ℕ) → reading k ≡ true → successOf k q s ≡ nextPiece q s
 success-read MemoryRead q s e = refl
 success-read IoRead q s e = refl
 success-read IoWrite q s e = absurd (true≢false (sym e))
@@ -72,11 +72,11 @@ from-is : (A L P k : ℕ) → edge A L P k ≡ piece A L P k .from
 unfolding piece
 from-is A L P k = refl
 
-abbrev pub pieceOfRead : Request → ℕ → Completion
-pieceOfRead q k = pieceAt (q .address) (q .length) (q .payload) (q .tag) k
+abbrev pub readPiece : Request → ℕ → Completion
+readPiece q k = pieceAt (q .address) (q .length) (q .payload) (q .tag) k
 
 module _ (q : Request) (r : reading (q .kind) ≡ true) (l : 0 < q .length) (p : 0 < q .payload) where
-  pub piece-ready : (k : ℕ) → k < piecesOf q → upward (Ready q (edgeOf q k)) ≡ pieceOfRead q k ∷ []
+  pub piece-ready : (k : ℕ) → k < piecesOf q → upward (Ready q (edgeOf q k)) ≡ readPiece q k ∷ []
   unfolding upward
   piece-ready k h =
       rw (success-read (q .kind) q (edgeOf q k) r, next-size-edge _ _ _ p l k h, next-mark-edge _ _ _ p l k h, from-is (q .address) (q .length) (q .payload) k)
@@ -85,21 +85,21 @@ module _ (q : Request) (r : reading (q .kind) ≡ true) (l : 0 < q .length) (p :
   unfolding handed
   piece-handed k h = rw (after-read (q .kind) q (edgeOf q k) r, ← edge-next _ _ _ p l k h, edge-all _ _ _ p l k h)
 
-  pub owes-read : (n k : ℕ) → k + suc n ≡ piecesOf q → Owes (pieceOfRead q) k (suc n) (Ready q (edgeOf q k))
+  pub owes-read : (n k : ℕ) → k + suc n ≡ piecesOf q → Owes (readPiece q) k (suc n) (Ready q (edgeOf q k))
   owes-read zero k h = (piece-ready k (omega arith), rw (piece-handed k (omega arith), eq-eqb (suc k) (piecesOf q) (omega arith)))
   owes-read (suc n) k h =
       let more : handed (Ready q (edgeOf q k)) ≡ Ready q (edgeOf q (suc k)) =
       piece-handed k (omega arith) ∙ rw (ne-eqb (suc k) (piecesOf q) (λ e. omega arith)) in
-      (piece-ready k (omega arith), subst (Owes (pieceOfRead q) (suc k) (suc n)) (sym more) (owes-read n (suc k) (omega arith)))
+      (piece-ready k (omega arith), subst (Owes (readPiece q) (suc k) (suc n)) (sym more) (owes-read n (suc k) (omega arith)))
 
 read-owes : (q : Request) → reading (q .kind) ≡ true → 0 < q .length → 0 < q .payload
-    → Owes (pieceOfRead q) 0 (blocks (q .address) (q .length) (q .payload)) (Ready q 0)
+    → Owes (readPiece q) 0 (blocks (q .address) (q .length) (q .payload)) (Ready q 0)
 read-owes q e l p =
     let A = q .address in
     let L = q .length in
     let P = q .payload in
-    subst (λ (n : ℕ). Owes (pieceOfRead q) 0 n (Ready q 0)) (sym (blocks-suc A L P))
-    (subst (λ (s : ℕ). Owes (pieceOfRead q) 0 (suc ((A + L - 1) / P - A / P)) (Ready q s)) (edge-zero A L P)
+    subst (λ (n : ℕ). Owes (readPiece q) 0 n (Ready q 0)) (sym (blocks-suc A L P))
+    (subst (λ (s : ℕ). Owes (readPiece q) 0 (suc ((A + L - 1) / P - A / P)) (Ready q s)) (edge-zero A L P)
     (owes-read q e l p ((A + L - 1) / P - A / P) 0 (omega (arith, blocks-suc A L P))))
 
 failure-owes : (q : Request) → Owes (λ j. bare 0x0E q) 0 1 (Failed q)
@@ -131,10 +131,10 @@ unfolding nextSize
 size-most A L P k p l h = rw (← next-size-edge A L P p l k h) (omega arith)
 
 pub piece-body : (q : Request) (rd : List ℕ) → MadeRequest q → (k : ℕ) → k < piecesOf q
-    → bodyOf (pieceOfRead q k) rd ≡ pieceBody (q .address) (q .length) (q .payload) (q .tag) rd k
+    → bodyOf (readPiece q k) rd ≡ pieceBody (q .address) (q .length) (q .payload) (q .tag) rd k
 piece-body q rd m k h =
     let most = size-most (q .address) (q .length) (q .payload) k (omega (arith, m .payload .least)) (m .least) h in
-    ap₂ (λ (x y : List ℕ). x ++ y) (header-is (pieceOfRead q k) (m .tag) (omega (arith, most, m .payload .most)))
+    ap₂ (λ (x y : List ℕ). x ++ y) (header-is (readPiece q k) (m .tag) (omega (arith, most, m .payload .most)))
     (part-is (q .address) (q .length) (q .payload) (q .tag) k rd)
 
 -- the read store has the answer at its start
@@ -238,7 +238,7 @@ was-success q true n e f l = refl
 was-success q false n e f l = absurd (omega arith)
 
 read-delivers : (q : Request) (d rd : List ℕ) (w : World) → (1 ≤ piecesOf q) × (piecesOf q ≤ 64) → MadeRequest q → length d ≡ q .length → Sound (w .state)
-    → Owes (pieceOfRead q) 0 (blocks (q .address) (q .length) (q .payload)) (held w) → w .read ≡ over d rd → (ys : List Call) → unended peripheral w ys ≡ true
+    → Owes (readPiece q) 0 (blocks (q .address) (q .length) (q .payload)) (held w) → w .read ≡ over d rd → (ys : List Call) → unended peripheral w ys ≡ true
     → readHandedOn w ys → allHanded ys ≡ true
     → HandsOver (q .address) (q .length) (q .payload) (q .tag) d w ys
 unfolding pieces
@@ -246,10 +246,10 @@ read-delivers q d rd w few m size safe owes i ys u s t =
     record {
       few = few;
       pieces =
-          deliver (pieceOfRead q) N (pieceBody (q .address) (q .length) (q .payload) (q .tag) d) w safe owes
+          deliver (readPiece q) N (pieceBody (q .address) (q .length) (q .payload) (q .tag) d) w safe owes
           (λ j l. rw i (body j l)) ys u s t;
       whole = λ e.
-          joined-owed (pieceOfRead q) N w owes ys u s e
+          joined-owed (readPiece q) N w owes ys u s e
           ∙ rw i (datas-are (q .address) (q .length) (q .payload) (q .tag) d rd size N 0)
           ∙ joined-pieces (q .address) (q .length) (q .payload) pay (m .least) d size;
     }
@@ -257,7 +257,7 @@ read-delivers q d rd w few m size safe owes i ys u s t =
     N : ℕ
     N = blocks (q .address) (q .length) (q .payload)
 
-    body : (j : ℕ) → j < N → bodyOf (pieceOfRead q j) (over d rd) ≡ pieceBody (q .address) (q .length) (q .payload) (q .tag) d j
+    body : (j : ℕ) → j < N → bodyOf (readPiece q j) (over d rd) ≡ pieceBody (q .address) (q .length) (q .payload) (q .tag) d j
     body j l =
         let p = piece (q .address) (q .length) (q .payload) j in
         piece-body q (over d rd) m j l

@@ -38,7 +38,7 @@ use Rattle.rules.specs.Proofs.Effects.{effects}
 use Rattle.rules.specs.Proofs.Requests.{got-event}
 use Rattle.rules.specs.Proofs.View.{view-as}
 use Rattle.rules.specs.Proofs.Owed.{bodyOf}
-use Rattle.rules.specs.Proofs.Demand3.{reading, pieceOfRead, piece-ready, piece-handed, piece-body, bare-body}
+use Rattle.rules.specs.Proofs.Demand3.{reading, readPiece, piece-ready, piece-handed, piece-body, bare-body}
 
 -- ---- GET_PC
 
@@ -68,7 +68,7 @@ module _ (w : World) (o : Outcome) (k : Completion) (ks : List Completion)
         begins = at .2;
         isOne = at .1;
         reply =
-            replies (pieceOfRead q j) (pieceBody (q .address) (q .length) (q .payload) (q .tag) (w .read) j)
+            replies (readPiece q j) (pieceBody (q .address) (q .length) (q .payload) (q .tag) (w .read) j)
             (e ∙ ap (λ (s : ℕ). upward (Ready q s)) (at .2) ∙ ready) (piece-body q (w .read) (m .made) j (at .1));
         more = λ l. left ∙ ap Left (ne-eqb (suc j) (piecesOf q) (λ z. omega arith));
         last = λ z. left ∙ ap Left (eq-eqb (suc j) (piecesOf q) z);
