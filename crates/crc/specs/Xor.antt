@@ -1,0 +1,59 @@
+-- Exclusive or of numbers: the laws that the kit's library has not.
+use Prim.Native.Nat.{ℕ, zero, suc, _+_, _*_, _/_, _%_, _^_, _<_}
+use mathlib.Core.Path.{_≡_, refl, sym, ap, ap₂, _∙_}
+use native.Mathlib.Nat.{mod-lt, add-zero}
+use native.Mathlib.Omega.{arith}
+use lib.Arith.{bin-ind, digits-div, digits-mod}
+use lib.Bits.{bitXor, differ, xor-step, xor-comm, xor-block}
+use lib.Pow.{pow-pos}
+
+-- ---- one binary digit
+
+bit-lt : (x y : ℕ) → x < 2 → y < 2 → differ x y < 2
+bit-lt zero y hx hy = hy
+bit-lt (suc x) zero hx hy = hx
+bit-lt (suc x) (suc y) hx hy = bit-lt x y (omega arith) (omega arith)
+
+bit-assoc : (x y z : ℕ) → x < 2 → y < 2 → z < 2 → differ (differ x y) z ≡ differ x (differ y z)
+bit-assoc zero y z hx hy hz = refl
+bit-assoc (suc zero) zero z hx hy hz = refl
+bit-assoc (suc zero) (suc zero) zero hx hy hz = refl
+bit-assoc (suc zero) (suc zero) (suc zero) hx hy hz = refl
+bit-assoc (suc zero) (suc zero) (suc (suc z)) hx hy hz = absurd (omega arith)
+bit-assoc (suc zero) (suc (suc y)) z hx hy hz = absurd (omega arith)
+bit-assoc (suc (suc x)) y z hx hy hz = absurd (omega arith)
+
+-- ---- the digits of the sum
+
+half : (a b : ℕ) → bitXor a b / 2 ≡ bitXor (a / 2) (b / 2)
+half a b = ap (λ (x : ℕ). x / 2) (xor-step a b) ∙ digits-div (bitXor (a / 2) (b / 2)) (bit-lt _ _ (mod-lt a (omega arith)) (mod-lt b (omega arith)))
+
+odd : (a b : ℕ) → bitXor a b % 2 ≡ differ (a % 2) (b % 2)
+odd a b = ap (λ (x : ℕ). x % 2) (xor-step a b) ∙ digits-mod (bitXor (a / 2) (b / 2)) (bit-lt _ _ (mod-lt a (omega arith)) (mod-lt b (omega arith)))
+
+-- ---- laws
+
+pub xor-assoc : (a b c : ℕ) → bitXor (bitXor a b) c ≡ bitXor a (bitXor b c)
+xor-assoc =
+    bin-ind (λ (n : ℕ). (b c : ℕ) → bitXor (bitXor n b) c ≡ bitXor n (bitXor b c)) (λ b c. refl)
+    (λ n ih b c.
+    xor-step (bitXor n b) c
+    ∙ ap₂ (λ (x y : ℕ). bitXor x (c / 2) * 2 + differ y (c % 2)) (half n b) (odd n b)
+    ∙ ap₂ (λ (x y : ℕ). x * 2 + y) (ih (b / 2) (c / 2))
+    (bit-assoc (n % 2) (b % 2) (c % 2) (mod-lt n (omega arith)) (mod-lt b (omega arith)) (mod-lt c (omega arith)))
+    ∙ sym (ap₂ (λ (x y : ℕ). bitXor (n / 2) x * 2 + differ (n % 2) y) (half b c) (odd b c))
+    ∙ sym (xor-step n (bitXor b c)))
+
+-- the inner two change places
+pub xor-swap : (a b c d : ℕ) → bitXor (bitXor a b) (bitXor c d) ≡ bitXor (bitXor a c) (bitXor b d)
+xor-swap a b c d =
+    xor-assoc a b (bitXor c d)
+    ∙ ap (bitXor a) (sym (xor-assoc b c d) ∙ ap (λ (x : ℕ). bitXor x d) (xor-comm b c) ∙ xor-assoc c b d)
+    ∙ sym (xor-assoc a c (bitXor b d))
+
+-- shifted by k places
+pub xor-shift : (k a b : ℕ) → bitXor a b * 2 ^ k ≡ bitXor (a * 2 ^ k) (b * 2 ^ k)
+xor-shift k a b =
+    sym (add-zero (bitXor a b * 2 ^ k))
+    ∙ sym (xor-block k a b 0 0 (pow-pos k) (pow-pos k))
+    ∙ ap₂ bitXor (add-zero (a * 2 ^ k)) (add-zero (b * 2 ^ k))
