@@ -4,17 +4,19 @@ ARCHIVE = target/staticlib/libespi.a
 SOURCES = $(shell find crates -name '*.rt' -o -name '*.antt') crates.txt
 
 # NATIVE: the archive for the machine at hand; where that is not x86-64, the firmware build of the same module. The x86-64 archive is then run by an emulator
-# (tests/tools.sh installs what is needed). QUICK: as many calls as take a quarter of a minute.
+# (tests/tools.sh installs what is needed), and what is timed is the machine's own build (TIMED). QUICK: as many calls as take a quarter of a minute.
 ifeq ($(shell uname -m),x86_64)
 NATIVE = $(ARCHIVE)
 X86_CC = $(CC)
+TIMED =
 else
 NATIVE = target/firmware/$(shell uname -m)-linux-gnu/libespi.a
 X86_CC = x86_64-linux-gnu-gcc -static
+TIMED = -native
 endif
 QUICK = 10000000
 
-.PHONY: run board-test archive install header boundary bench figures differential differential-quick rust-test clean
+.PHONY: run board-test archive install header boundary bench figures shapes differential differential-quick rust-test clean
 
 run: target/board
 	./target/board
@@ -57,13 +59,28 @@ boundary: target/boundary
 target/boundary: tests/boundary.c tests/crc8.h include/espi.h $(NATIVE)
 	$(CC) $(CFLAGS) -o $@ tests/boundary.c $(NATIVE)
 
-bench: target/figures
+bench: target/figures target/figures$(TIMED)
 	python3 tests/figures.py
 
 figures: target/figures
 
 target/figures: tests/figures.c tests/crc8.h include/espi.h $(ARCHIVE)
 	$(X86_CC) $(CFLAGS) -D_POSIX_C_SOURCE=199309L -o $@ tests/figures.c $(ARCHIVE)
+
+target/figures-native: tests/figures.c tests/crc8.h include/espi.h $(NATIVE)
+	$(CC) $(CFLAGS) -D_POSIX_C_SOURCE=199309L -o $@ tests/figures.c $(NATIVE)
+
+# The shapes of the CRC that were tried, each compiled as the kit compiles the archive.
+shapes: target/shapes target/shapes$(TIMED)
+	python3 tests/figures.py shapes
+
+target/shapes: tests/shapes.c tests/shapes_run.c tests/crc8.h $(MODULE)
+	$$(cat target/firmware/clang) --target=x86_64-linux-gnu -O3 -c tests/shapes.c -o $@.o
+	$(X86_CC) $(CFLAGS) -D_POSIX_C_SOURCE=199309L -o $@ tests/shapes_run.c $@.o
+
+target/shapes-native: tests/shapes.c tests/shapes_run.c tests/crc8.h $(MODULE)
+	$$(cat target/firmware/clang) --target=$(shell uname -m)-linux-gnu -O3 -c tests/shapes.c -o $@.o
+	$(CC) $(CFLAGS) -D_POSIX_C_SOURCE=199309L -o $@ tests/shapes_run.c $@.o
 
 # The engine written again in Rust, against the archive: calls without a difference, then every deliberate fault found.
 DIFFERENTIAL = tests/differential/target/release/differential

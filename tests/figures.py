@@ -1,8 +1,9 @@
 #!/usr/bin/env python3
 """make bench: instructions and nanoseconds per exchange of libespi.a, by kind, beside the time that the exchange takes on a quad bus at 66 MHz.
+make shapes: the same of the shapes of the CRC in tests/shapes.c, by their number of bytes.
 
-Instructions are counted, not timed: the program of tests/figures.c runs once with one exchange more than before, and the difference is that exchange. On x86-64 callgrind counts
-them; elsewhere the emulator's trace does, one line an instruction. Nanoseconds are measured on x86-64 alone: under an emulator a time says nothing.
+Instructions are those of x86-64, counted, not timed: a program runs once with one call more than before, and the difference is that call. On x86-64
+callgrind counts them; elsewhere the emulator's trace does, one line an instruction. Nanoseconds are those of the machine at hand, of its own build.
 """
 import collections
 import platform
@@ -15,28 +16,38 @@ KINDS = ["GET_STATUS", "short I/O read", "its GET_PC", "64-byte piece", "256-byt
          "GET_CONFIGURATION", "SET_CONFIGURATION", "a refusal (GET_PC, none ready)"]
 # The first is the test of the bytes and little else; the second that, and a wire's channel changed and stored.
 BOARD = ["set wire, refused", "set wire", "look", "answer of 1 byte", "answer of 64 bytes", "answer of 4096 bytes", "take a write"]
-PROGRAM = "target/figures"
+SHAPES = ["bits", "table", "byte", "two", "three", "four", "eight", "lanes", "kept"]
+LENGTHS = [3, 7, 64, 256]
 LOAD = "state::holds"
 NATIVE = platform.machine() == "x86_64"
+EXCHANGES, CRCS = "target/figures", "target/shapes"
+EMULATED = [] if NATIVE else ["qemu-x86_64-static"]
 
 
 def run(command):
     return subprocess.run(command, check=True, capture_output=True, text=True).stdout
 
 
-def counted(kind, times, inside):
-    """Instructions by symbol of a run with so many exchanges, or of the calls of one symbol in it; those of the archive are named espi_.. and CRATE::.."""
+def timed(program, words, times):
+    """The last word that the machine's own build prints, the least of five runs."""
+    command = [program if NATIVE else program + "-native", *words, str(times)]
+    return min((run(command).split()[-1] for _ in range(5)), key=float)
+
+
+def counted(program, words, times, inside=""):
+    """Instructions by symbol of a run with so many calls, or of the calls of one symbol in it; those of the archive are named espi_.. and CRATE::.."""
     counts = collections.Counter()
     if NATIVE:
         with tempfile.NamedTemporaryFile() as out:
-            run(["valgrind", "--tool=callgrind", f"--callgrind-out-file={out.name}"] + ([f"--toggle-collect={inside}"] if inside else []) + [PROGRAM, kind, str(times)])
+            run(["valgrind", "--tool=callgrind", f"--callgrind-out-file={out.name}"] + ([f"--toggle-collect={inside}"] if inside else [])
+                + [program, *words, str(times)])
             for line in run(["callgrind_annotate", "--threshold=100", out.name]).splitlines():
                 row = re.match(r"\s*([\d,]+) \(\s*[\d.]+%\)\s+[^\s:]+:(\S+)", line)
                 if row:
                     counts[row.group(2)] += int(row.group(1).replace(",", ""))
         return counts
     with tempfile.NamedTemporaryFile(mode="r") as out:
-        run(["qemu-x86_64-static", "-singlestep", "-d", "exec,nochain", "-D", out.name, PROGRAM, kind, str(times)])
+        run(["qemu-x86_64-static", "-singlestep", "-d", "exec,nochain", "-D", out.name, program, *words, str(times)])
         within = False
         for line in out:
             if line.startswith("Trace"):
@@ -46,18 +57,25 @@ def counted(kind, times, inside):
     return counts
 
 
-def instructions(kind, inside=""):
-    """Those of one exchange in the archive."""
-    more = counted(kind, 2, inside)
-    more.subtract(counted(kind, 1, inside))
-    return sum(n for symbol, n in more.items() if "::" in symbol or symbol.startswith("espi_"))
+def instructions(program, words, inside=""):
+    """Those of one call in the archive, or in a shape."""
+    more = counted(program, words, 2, inside)
+    more.subtract(counted(program, words, 1, inside))
+    return sum(n for symbol, n in more.items() if "::" in symbol or symbol.startswith(("espi_", "crc_")))
 
 
 def figures(kind):
     """Number, bytes sent and said, instructions of the archive, those of them in `state::holds`, nanoseconds."""
-    number, sent, said, _ = run(([] if NATIVE else ["qemu-x86_64-static"]) + [PROGRAM, kind, "1"]).split()
-    ns = min((run([PROGRAM, kind, "200000"]).split()[3] for _ in range(5)), key=float) if NATIVE else "-"
-    return number, int(sent), int(said), instructions(kind), instructions(kind, LOAD), ns
+    number, sent, said, _ = run(EMULATED + [EXCHANGES, kind, "1"]).split()
+    return number, int(sent), int(said), instructions(EXCHANGES, [kind]), instructions(EXCHANGES, [kind], LOAD), timed(EXCHANGES, [kind], 200000)
+
+
+def shapes():
+    print(f"{'':8}" + "".join(f"{f'{n} bytes':>12}" for n in LENGTHS) + "".join(f"{f'{n}, ns':>12}" for n in LENGTHS))
+    for shape in SHAPES:
+        counts = [instructions(CRCS, [shape, str(n)]) for n in LENGTHS]
+        times = [timed(CRCS, [shape, str(n)], 200000) for n in LENGTHS]
+        print(f"{shape:8}" + "".join(f"{x:>12}" for x in counts + times))
 
 
 def main():
@@ -72,4 +90,4 @@ def main():
 
 
 if __name__ == "__main__":
-    sys.exit(main())
+    sys.exit(shapes() if sys.argv[1:] == ["shapes"] else main())

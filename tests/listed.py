@@ -190,7 +190,7 @@ def rows(page, crates, section):
 
 # ---- the definitions, and the rules that they say
 
-FURTHER = ["base/specs/Pick", "command/specs/Numbers", "promises/specs/ByteRuns", "state/specs/Channel", "state/specs/Sound"]
+FURTHER = ["base/specs/Pick", "command/specs/Numbers", "crc/specs/Table18", "promises/specs/ByteRuns", "state/specs/Channel", "state/specs/Sound"]
 FURTHER += ["wires/specs/Below", "wires/specs/Table", "wires/specs/Turn"]
 WHOLE = ["rules/specs/Rules", "rules/specs/Statements", "promises/specs/Statements", "code/specs"]
 PUBLIC = re.compile(r"^( *(?:abbrev|unfoldable) | +(?=pub (?:record|data) ))?pub (record |data )?(?!use |mod )([^\s:({]+)")

@@ -268,7 +268,14 @@ impl Engine {
         if self.wrong(fault::CRC_NEW_RULE) && command.len() == 8 && command[..3] == [0x22, 0x00, 0x08] {
             checked = command[6] & 0x80 != 0;
         }
-        if checked && crc(before, 0x00) != last {
+        let wrong = match before.len() {
+            0..=2 => fault::CHECK_1,
+            3 => fault::CHECK_3,
+            4..=7 => fault::CHECK_4,
+            8..=16 => fault::CHECK_8,
+            _ => fault::CHECK_17,
+        };
+        if checked && crc(before, 0x00) ^ u8::from(self.wrong(wrong)) != last {
             return Err(BAD_CRC);
         }
         Ok(())
@@ -353,7 +360,13 @@ impl Engine {
         reply[at..at + 2].copy_from_slice(&status.to_le_bytes());
         let covered = if self.wrong(fault::CRC_WITHOUT_STATUS) { at } else { at + 2 };
         let seed = if self.wrong(fault::CRC_SEED) { 0xFF } else { 0x00 };
-        reply[at + 2] = crc(&reply[..covered], seed);
+        let wrong = match covered {
+            0..=3 => fault::REPLY_3,
+            4..=7 => fault::REPLY_4,
+            8..=16 => fault::REPLY_8,
+            _ => fault::REPLY_17,
+        };
+        reply[at + 2] = crc(&reply[..covered], seed) ^ u8::from(self.wrong(wrong));
         at + 3
     }
 

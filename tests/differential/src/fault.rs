@@ -46,6 +46,12 @@ faults! {
     CRC_UNCHECKED: "the CRC is never checked",
     CRC_ALWAYS: "the CRC is always checked",
     CRC_NEW_RULE: "a write of 008h is checked by the rule it sets",
+    // The archive works the CRC out in another way for each of these lengths.
+    CHECK_1: "a wrong CRC is asked of a command of one or two bytes",
+    CHECK_3: "a wrong CRC is asked of a command of three bytes",
+    CHECK_4: "a wrong CRC is asked of a command of four to seven bytes",
+    CHECK_8: "a wrong CRC is asked of a command of eight to sixteen bytes",
+    CHECK_17: "a wrong CRC is asked of a longer command",
 
     // Replies and status.
     STATUS_BEFORE: "a reply shows the status before the command",
@@ -56,6 +62,10 @@ faults! {
     VWIRE_FREE_OFF: "VWIRE_FREE is 0 while channel 1 is off",
     ACCEPT_REQUEST: "a request is accepted and not deferred",
     CRC_WITHOUT_STATUS: "the reply's CRC leaves out the status",
+    REPLY_3: "a wrong CRC after three bytes",
+    REPLY_4: "a wrong CRC after four to seven bytes",
+    REPLY_8: "a wrong CRC after eight to sixteen bytes",
+    REPLY_17: "a wrong CRC after more bytes",
     ERROR_CLEARS_STORE: "an error reply clears the fifth reply byte",
     ERROR_DROPS_WRITE: "a refused PUT_PC drops the held write",
 
