@@ -133,7 +133,7 @@ uint8_t crc_kept(const uint8_t *s, uint64_t n)
     if (n < 4)
         return left(0, s, 0, n);
     if (n < 8)
-        return of_word(high4(s) >> (64 - 8 * n) << 32 | high4(s + n - 4));
+        return of_word((uint64_t)((uint32_t)high4(s) / 256 >> (56 - 8 * n)) << 32 | high4(s + n - 4));
     uint64_t i = (n - 1) % 16 + 1;
     uint64_t a = i <= 8 ? 0 : high8(s) >> (128 - 8 * i);
     uint64_t b = i < 8 ? high8(s) >> (64 - 8 * i) : high8(s + i - 8);

@@ -4,6 +4,7 @@ use mathlib.Core.Path.{_≡_, sym, ap, ap₂, _∙_}
 use native.Mathlib.Omega.{arith}
 use native.Mathlib.Nat.{div-le-self, zero-add}
 use lib.ListN.{length, getD, drop-of-length-le}
+use lib.Pow.{shr-shr}
 use Rattle.crc.specs.Crc.{shifts, crcFrom}
 use Rattle.crc.specs.Residue.{residue}
 use Rattle.crc.specs.Turns.{word, word-add, word-front, first-from}
@@ -14,20 +15,23 @@ use Rattle.crc.proofs.crc_few.Tie as tie
 word4-requires : tie.Need-word4-requires
 word4-requires c κs = search needs
 
-cast-high : tie.Need-cast-high
-cast-high c = search needs
-
 mul-high : tie.Need-mul-high
 mul-high c = search needs
 
 sub-high : tie.Need-sub-high
 sub-high c = search needs
 
+cast-high : tie.Need-cast-high
+cast-high c = search needs
+
 shr-high : tie.Need-shr-high
 shr-high c = search needs
 
+cast-crc-word : tie.Need-cast-crc-word
+cast-crc-word c = record { fits = omega (arith, div-le-self (c .word4 .result / 256) (2 ^ (56 - 8 * length (c .before .before .args .s .now)))) }
+
 mul-crc-word : tie.Need-mul-crc-word
-mul-crc-word c = record { fits = omega (arith, div-le-self (c .word4 .result) (2 ^ (64 - 8 * length (c .before .before .args .s .now)))) }
+mul-crc-word c = record { fits = omega (arith, div-le-self (c .word4 .result / 256) (2 ^ (56 - 8 * length (c .before .before .args .s .now)))) }
 
 sub-word4 : tie.Need-sub-word4
 sub-word4 c = search needs
@@ -35,11 +39,11 @@ sub-word4 c = search needs
 word4-requires-2 : tie.Need-word4-requires-2
 word4-requires-2 c κs = search needs
 
-cast-crc-word : tie.Need-cast-crc-word
-cast-crc-word c = search needs
+cast-crc-word-2 : tie.Need-cast-crc-word-2
+cast-crc-word-2 c = search needs
 
 add-crc-word : tie.Need-add-crc-word
-add-crc-word c = record { fits = omega (arith, div-le-self (c .before .word4 .result) (2 ^ (64 - 8 * length (c .before .before .before .args .s .now)))) }
+add-crc-word c = record { fits = omega (arith, div-le-self (c .before .word4 .result / 256) (2 ^ (56 - 8 * length (c .before .before .before .args .s .now)))) }
 
 crc-word-requires : tie.Need-crc-word-requires
 crc-word-requires c κs = search needs
@@ -52,10 +56,12 @@ returns c =
     let bytes : (j : ℕ) → getD s j 0 < 256 = λ j. omega (arith, known j) in
     let n = length s in
     let e : n - 4 + 4 ≡ n = omega arith in
+    let high =
+    ap (λ (x : ℕ). x / 256 / 2 ^ (56 - 8 * n)) (c .before .before .word4 .ensures)
+    ∙ shr-shr (word 4 0 s) 8 (56 - 8 * n)
+    ∙ word-front s bytes (n - 4) (8 - n) 4 (8 + (56 - 8 * n)) 0 (omega arith) (omega arith) in
     let whole =
-    ap₂ (λ (x y : ℕ). x * 4294967296 + y)
-    (ap (λ (x : ℕ). x / 2 ^ (64 - 8 * n)) (c .before .before .word4 .ensures) ∙ word-front s bytes (n - 4) (8 - n) 4 (64 - 8 * n) 0 (omega arith) (omega arith))
-    (c .before .word42 .ensures ∙ ap (λ (k : ℕ). word 4 k s) (sym (zero-add (n - 4))))
+    ap₂ (λ (x y : ℕ). x * 4294967296 + y) high (c .before .word42 .ensures ∙ ap (λ (k : ℕ). word 4 k s) (sym (zero-add (n - 4))))
     ∙ sym (word-add s (n - 4) 4 0)
     ∙ ap (λ (k : ℕ). word k 0 s) e in
     let h : n ≤ n = omega arith in
@@ -67,14 +73,15 @@ crc-few-spec =
     tie.close
     (tie.spec
     word4-requires
-    cast-high
     mul-high
     sub-high
+    cast-high
     shr-high
+    cast-crc-word
     mul-crc-word
     sub-word4
     word4-requires-2
-    cast-crc-word
+    cast-crc-word-2
     add-crc-word
     crc-word-requires
     returns)
