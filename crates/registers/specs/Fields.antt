@@ -150,3 +150,7 @@ on1-written r v = ap (λ (x : ℕ). eqb x 1) (written020 r v .enable)
 
 pub count-written : (r : Reg020) (v : ℕ) → operatingCount (write020 r v) ≡ bits 21 16 v + 1
 count-written r v = ap (λ (x : ℕ). x + 1) (written020 r v .count)
+
+-- 13:8, the count that is advertised, no write reaches (RO in 004, 6.2.1.5)
+pub supported-written : (r : Reg020) (v : ℕ) → bits 13 8 (write020 r v .value) ≡ bits 13 8 (r .value)
+supported-written r v = readied-kept (r .value) v writable020 8 6 refl refl refl refl

@@ -11,7 +11,7 @@ use Rattle.registers.specs.declared.Reg008.{Reg008}
 use Rattle.registers.specs.declared.Reg010.{Reg010}
 use Rattle.registers.specs.declared.Reg020.{Reg020}
 use Rattle.registers.specs.declared.Config.{Config}
-use Rattle.registers.specs.Registers.{masked, readied, reset008, reset010, reset020, writable008, writable010, writable020, forbidden008, forbidden010, forbidden020, write008, write010, write020, fresh008, fresh010, fresh020, freshConfig, forbiddenAt, writeAt, reachable008, reachable010, reachable020, reachable}
+use Rattle.registers.specs.Registers.{masked, readied, reset008, reset010, reset020, writable008, writable010, writable020, forbidden008, forbidden010, write008, write010, write020, fresh008, fresh010, fresh020, freshConfig, forbiddenAt, writeAt, reachable008, reachable010, reachable020, reachable}
 use Rattle.registers.specs.Masks.{own-again, ready-again}
 pub use Rattle.registers.specs.Fields.{field-kept, field-written, masked-fits, bit-zero, Written008, written008, Written010, written010, Written020, written020, crc-written, on0-written, payload-written, read-written, on1-written, count-written}
 pub use Rattle.registers.specs.Sizes.{own008, own010, own020, at-equal, sizes, payload-legal, read-legal, payload-cases, read-cases, count-range}
@@ -119,12 +119,9 @@ reachable-write010 r v h f =
     made _ _ (forbidden010 (write010 r v .value))
     (ready-again writable010 refl refl refl refl refl refl refl reset010 (r .value) v (sym (own010 (r .value) h .1))) (rw (w .readCode, w .payloadCode) f)
 
-pub reachable-write020 : (r : Reg020) (v : ℕ) → reachable020 (r .value) ≡ true → forbidden020 v ≡ false → reachable020 (write020 r v .value) ≡ true
+pub reachable-write020 : (r : Reg020) (v : ℕ) → reachable020 (r .value) ≡ true → reachable020 (write020 r v .value) ≡ true
 unfolding reachable020
-reachable-write020 r v h f =
-    let w = written020 r v in
-    made _ _ (forbidden020 (write020 r v .value))
-    (ready-again writable020 refl refl refl refl refl refl refl reset020 (r .value) v (sym (own020 (r .value) h .1))) (rw (w .count) f)
+reachable-write020 r v h = eq-eqb _ _ (ready-again writable020 refl refl refl refl refl refl refl reset020 (r .value) v (sym (own020 (r .value) h)))
 
 pub reachable-write : (c : Config) (a v : ℕ) → reachable c ≡ true → forbiddenAt a v ≡ false → reachable (writeAt c a v) ≡ true
 reachable-write c a v h =
@@ -134,5 +131,5 @@ reachable-write c a v h =
     by-address (λ (x : ℕ). forbiddenAt x v ≡ false → reachable (writeAt c x v) ≡ true)
     (λ f. reachable-all (writeAt c 0x008 v) (reachable-write008 (c .r008) v h8 f) h10 h20)
     (λ f. reachable-all (writeAt c 0x010 v) h8 (reachable-write010 (c .r010) v h10 f) h20)
-    (λ f. reachable-all (writeAt c 0x020 v) h8 h10 (reachable-write020 (c .r020) v h20 f))
+    (λ f. reachable-all (writeAt c 0x020 v) h8 h10 (reachable-write020 (c .r020) v h20))
     (λ x e f g k. rw (write-other c x v e f g) h) a

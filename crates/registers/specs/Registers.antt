@@ -50,17 +50,13 @@ reset010 = 0x00001133
 abbrev pub writable010 : ℕ
 writable010 = 0x00007705
 
--- 020h, reset "00000700h" (01, Registers and status: the table)
+-- 020h, reset "00003F00h" (02, Q-5): 64 groups in a packet are advertised, less one in 13:8 (004, 6.2.1.5)
 abbrev pub reset020 : ℕ
-reset020 = 0x00000700
+reset020 = 0x00003F00
 
 -- 020h, writable "003F0001h" (01, Registers and status: the table; the RW bits of 004, 6.2.1.5)
 abbrev pub writable020 : ℕ
 writable020 = 0x003F0001
-
--- the greatest value of 21:16 of 020h: the wire count that the target supports, less one (004, 6.2.1.5: "must never be more than the value advertised")
-abbrev pub supportedCount : ℕ
-supportedCount = 7
 
 -- 008h: "bits 27:26 = 11; 22:20 above 100" (01, Registers and status: the table)
 abbrev pub forbidden008 : ℕ → Bool
@@ -69,10 +65,6 @@ forbidden008 v = eqb (bits 27 26 v) 3 || ltb 4 (bits 22 20 v)
 -- 010h: "14:12 = 000; 10:8 = 000 or above 011" (01, Registers and status: the table)
 abbrev pub forbidden010 : ℕ → Bool
 forbidden010 v = eqb (bits 14 12 v) 0 || (eqb (bits 10 8 v) 0 || ltb 3 (bits 10 8 v))
-
--- 020h: "21:16 above 7" (01, Registers and status: the table)
-abbrev pub forbidden020 : ℕ → Bool
-forbidden020 v = ltb supportedCount (bits 21 16 v)
 
 -- ---- a register's write
 
@@ -161,13 +153,13 @@ readAt c a =
     (pick (eqb a 0x020) (c .r020 .value)
     0)))
 
--- number 2: a "forbidden configuration value" (01, Replies and refusals), by the register's row of the table
+-- number 2: a "forbidden configuration value" (01, Replies and refusals), by the register's row of the table; of 020h none is, "its forbidden entry goes away"
+-- (02, Q-5)
 abbrev pub forbiddenAt : ℕ → ℕ → Bool
 forbiddenAt a v =
     pick (eqb a 0x008) (forbidden008 v)
     (pick (eqb a 0x010) (forbidden010 v)
-    (pick (eqb a 0x020) (forbidden020 v)
-    false))
+    false)
 
 -- "Other addresses .. take writes without effect"; 004h has no writable bit (01, Registers and status)
 abbrev pub writeAt : Config → ℕ → ℕ → Config
@@ -187,9 +179,9 @@ reachable008 v = eqb (write008 fresh008 v .value) v && not (forbidden008 v)
 unfoldable pub reachable010 : ℕ → Bool
 reachable010 v = eqb (write010 fresh010 v .value) v && not (forbidden010 v)
 
--- so 020h (01, Sound state; docs/DECISIONS.md, 35)
+-- so 020h, of which no value is forbidden (01, Sound state; 02, Q-5; docs/DECISIONS.md, 35)
 unfoldable pub reachable020 : ℕ → Bool
-reachable020 v = eqb (write020 fresh020 v .value) v && not (forbidden020 v)
+reachable020 v = eqb (write020 fresh020 v .value) v
 
 -- "registers hold reachable values" (01, Sound state)
 abbrev pub reachable : Config → Bool

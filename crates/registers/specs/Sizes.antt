@@ -1,8 +1,8 @@
 -- The sizes and counts that reachable registers say (01, Registers and status).
-use Prim.Native.Nat.{ℕ, _≤_, _<_}
+use Prim.Native.Nat.{ℕ, _+_, _≤_, _<_}
 use mathlib.Core.Bool.{Bool, true, false, _&&_, _||_, not}
 use mathlib.Core.Logic.{inl, inr}
-use mathlib.Core.Path.{_≡_, refl, sym, subst}
+use mathlib.Core.Path.{_≡_, refl, _∙_, ap, sym, subst}
 use native.Mathlib.Nat.{eq-or-lt-of-le}
 use native.Mathlib.Omega.{arith}
 use lib.Dec.{eqb, ltb}
@@ -10,7 +10,8 @@ use borrow.Author.Tests.{eqb-true, eqb-false, ltb-false, not-true}
 use Rattle.base.specs.Pick.{and-left, and-right}
 use Rattle.registers.specs.declared.Reg010.{Reg010}
 use Rattle.registers.specs.declared.Reg020.{Reg020}
-use Rattle.registers.specs.Registers.{bits, forbidden008, forbidden010, forbidden020, sizeOf, payloadLegal, readLegal, payloadSize, readSize, operatingCount, write008, write010, write020, fresh008, fresh010, fresh020, reachable008, reachable010, reachable020}
+use Rattle.registers.specs.Registers.{bits, forbidden008, forbidden010, sizeOf, payloadLegal, readLegal, payloadSize, readSize, operatingCount, write008, write010, write020, fresh008, fresh010, fresh020, reachable008, reachable010, reachable020}
+use Rattle.registers.specs.Fields.{supported-written}
 
 -- ---- a reachable value is not forbidden, and its own write to the reset value leaves it
 
@@ -25,9 +26,9 @@ pub own010 : (v : ℕ) → reachable010 v ≡ true → (forbidden010 v ≡ false
 unfolding reachable010
 own010 v = own (write010 fresh010 v .value) v (forbidden010 v)
 
-pub own020 : (v : ℕ) → reachable020 v ≡ true → (forbidden020 v ≡ false) × (v ≡ write020 fresh020 v .value)
+pub own020 : (v : ℕ) → reachable020 v ≡ true → v ≡ write020 fresh020 v .value
 unfolding reachable020
-own020 v = own (write020 fresh020 v .value) v (forbidden020 v)
+own020 v h = sym (eqb-true (write020 fresh020 v .value) v h)
 
 -- ---- sizes and counts
 
@@ -81,12 +82,13 @@ read-legal r h =
     let m = bits 10 8 (r .value) in
     read-coded n (coded n (or-left (eqb n 0) (eqb m 0 || ltb 3 m) (own010 (r .value) h .0))) (omega arith)
 
--- "the operating wire count": 1 to 8
-pub count-range : (r : Reg020) → reachable020 (r .value) ≡ true → (1 ≤ operatingCount r) × (operatingCount r ≤ 8)
+-- "the operating wire count": 1 to 64, which 13:8 advertise, so that it is "never .. more than the value advertised" (004, 6.2.1.5)
+pub count-range : (r : Reg020) → reachable020 (r .value) ≡ true
+    → (1 ≤ operatingCount r) × (operatingCount r ≤ bits 13 8 (r .value) + 1) × (bits 13 8 (r .value) + 1 ≡ 64)
 count-range r h =
     let v = r .value in
-    let f = ltb-false 7 (bits 21 16 v) (own020 v h .0) in
-    (omega arith, omega (arith, f))
+    let a : bits 13 8 v ≡ 63 = ap (bits 13 8) (own020 v h) ∙ supported-written fresh020 v in
+    (omega arith, omega (arith, a), omega (arith, a))
 
 -- a size that is legal is one of those listed
 one-of : (Q : ℕ → Type 0) (p k : ℕ) {rest : Bool} → Q k → (rest ≡ true → Q p) → eqb p k || rest ≡ true → Q p

@@ -4,7 +4,7 @@ ghost use Prim.Native.Nat.{_%_, _<_, _≤_};
 ghost use lib.Dec.{eqb};
 ghost use lib.ListN.{length};
 ghost use Rattle.base.specs.Bytes.{put};
-ghost use Rattle.registers.specs.Registers.{masked, forbidden008, forbidden010, forbidden020, write008, write010, write020, readied, fresh004, fresh008, fresh010, fresh020, sizeOf, crcChecked, on0, on1, payloadSize, readSize, operatingCount, freshConfig, readAt, forbiddenAt, writeAt, reachable008, reachable010, reachable020, reachable};
+ghost use Rattle.registers.specs.Registers.{masked, forbidden008, forbidden010, write008, write010, write020, readied, fresh004, fresh008, fresh010, fresh020, sizeOf, crcChecked, on0, on1, payloadSize, readSize, operatingCount, freshConfig, readAt, forbiddenAt, writeAt, reachable008, reachable010, reachable020, reachable};
 ghost use Rattle.registers.specs.Layout.{configBytes, configIn};
 
 // Device identification.
@@ -144,7 +144,7 @@ impl Reg010 {
 }
 
 impl Reg020 {
-    pub const RESET: u32 = 0x0000_0700;
+    pub const RESET: u32 = 0x0000_3F00;
 
     pub const WRITABLE: u32 = 0x003F_0001;
 
@@ -188,12 +188,6 @@ fn bad010(v: u32) -> bool
     ((v >> 12) % 8 == 0) | (((v >> 8) % 8 == 0) | (3 < (v >> 8) % 8))
 }
 
-fn bad020(v: u32) -> bool
-    ensures { λ r. ⌜ r ≡ forbidden020 v ⌝ }
-{
-    7 < (v >> 16) % 64
-}
-
 // A write of this value to this address is refused with number 2.
 pub fn forbidden(address: u32, val: u32) -> bool
     ensures { λ r. ⌜ r ≡ forbiddenAt address val ⌝ }
@@ -203,9 +197,6 @@ pub fn forbidden(address: u32, val: u32) -> bool
     }
     if address == 0x010 {
         return bad010(val);
-    }
-    if address == 0x020 {
-        return bad020(val);
     }
     false
 }
@@ -348,5 +339,5 @@ fn reachable_020(v: u32) -> bool
     ensures { λ r. ⌜ r ≡ reachable020 v ⌝ }
 {
     let r = Reg020::fresh().write(v);
-    (r.value == v) & !bad020(v)
+    r.value == v
 }

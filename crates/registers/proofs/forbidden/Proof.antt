@@ -13,13 +13,7 @@ returns-2 : tie.Need-returns-2
 returns-2 c = passed _ _ (ne-eqb _ _ (c .before .before .if1 .left)) (taken _ _ (eq-eqb _ _ (c .before .if2 .taken)) (c .bad010 .ensures))
 
 returns-3 : tie.Need-returns-3
-returns-3 c =
-    passed _ _ (ne-eqb _ _ (c .before .before .before .if1 .left))
-    (passed _ _ (ne-eqb _ _ (c .before .before .if2 .left)) (taken _ _ (eq-eqb _ _ (c .before .if3 .taken)) (c .bad020 .ensures)))
-
-returns-4 : tie.Need-returns-4
-returns-4 c =
-    passed _ _ (ne-eqb _ _ (c .before .before .if1 .left)) (passed _ _ (ne-eqb _ _ (c .before .if2 .left)) (passed _ _ (ne-eqb _ _ (c .if3 .left)) refl))
+returns-3 c = passed _ _ (ne-eqb _ _ (c .before .if1 .left)) (passed _ _ (ne-eqb _ _ (c .if2 .left)) refl)
 
 pub forbidden-spec : {M : Type 1} → statement M
 forbidden-spec =
@@ -29,6 +23,4 @@ forbidden-spec =
     returns
     (λ c κs. search needs)
     returns-2
-    (λ c κs. search needs)
-    returns-3
-    returns-4)
+    returns-3)

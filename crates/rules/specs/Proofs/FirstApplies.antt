@@ -9,7 +9,7 @@ use lib.Dec.{eqb, ltb, leb}
 use lib.ListN.{length, getD}
 use borrow.Author.Tests.{lt-ltb, le-ltb, ltb-true, ltb-false}
 use Rattle.base.specs.Pick.{pick}
-use Rattle.registers.specs.Registers.{crcChecked, forbiddenAt, forbidden008, forbidden010}
+use Rattle.registers.specs.Registers.{crcChecked, forbiddenAt, forbidden008}
 use Rattle.registers.specs.declared.Config.{Config}
 use Rattle.command.specs.Rows.{rowOf}
 use Rattle.command.specs.Needs.{channelOn, lengthOf, groupCount, allFF, wholeWith, needData}
@@ -204,9 +204,8 @@ form-number c (op ∷ r) = chain c (op ∷ r) ∙ at-opcode c r op
 forbidden-as : (a v : ℕ) → forbiddenAt a v ≡ valueForbidden a v
 forbidden-as a v =
     one (λ (x : ℕ). forbiddenAt x v ≡ valueForbidden x v) a 0x008 (sym (or-false (forbidden008 v)))
-    λ e8. one (λ (x : ℕ). forbiddenAt x v ≡ valueForbidden x v) a 0x010 (sym (or-false (forbidden010 v)))
-    λ e10. one (λ (x : ℕ). forbiddenAt x v ≡ valueForbidden x v) a 0x020 refl
-    λ e20. rw (e8, e10, e20)
+    λ e8. one (λ (x : ℕ). forbiddenAt x v ≡ valueForbidden x v) a 0x010 refl
+    λ e10. rw (e8, e10)
 
 -- ---- the exchange
 

@@ -18,7 +18,7 @@ registers-reached c f h =
     record {
       r008 = (c .r008 .value, f .fit008, o8 .0, ap (λ (v : ℕ). record { value = v }) (o8 .1));
       r010 = (c .r010 .value, f .fit010, o10 .0, ap (λ (v : ℕ). record { value = v }) (o10 .1));
-      r020 = (c .r020 .value, f .fit020, o20 .0, ap (λ (v : ℕ). record { value = v }) (o20 .1));
+      r020 = (c .r020 .value, f .fit020, ap (λ (v : ℕ). record { value = v }) o20);
     }
 
 pub reached-registers : (c : Config) → Reached c → reachable c ≡ true
@@ -26,4 +26,4 @@ reached-registers c r =
     reachable-all c
     (subst (λ (t : Reg008). reachable008 (t .value) ≡ true) (sym (r .r008 .3)) (reachable-write008 fresh008 (r .r008 .0) fresh-008 (r .r008 .2)))
     (subst (λ (t : Reg010). reachable010 (t .value) ≡ true) (sym (r .r010 .3)) (reachable-write010 fresh010 (r .r010 .0) fresh-010 (r .r010 .2)))
-    (subst (λ (t : Reg020). reachable020 (t .value) ≡ true) (sym (r .r020 .3)) (reachable-write020 fresh020 (r .r020 .0) fresh-020 (r .r020 .2)))
+    (subst (λ (t : Reg020). reachable020 (t .value) ≡ true) (sym (r .r020 .2)) (reachable-write020 fresh020 (r .r020 .0) fresh-020))

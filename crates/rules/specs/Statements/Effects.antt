@@ -79,10 +79,10 @@ registers a b c = record { r008 = record { value = a }; r010 = record { value = 
 abbrev pub withRegisters : State → Config → State
 withRegisters s c = each (λ k p. p) c s
 
--- the table's reset values; "Platform reset also resets 010h", "eSPI reset also resets all registers", "Start .. gives the fresh one" (01)
+-- the table's reset values, 020h's by 02, Q-5; "Platform reset also resets 010h", "eSPI reset also resets all registers", "Start .. gives the fresh one" (01)
 abbrev pub registersReset : Reset → Config → Config
-registersReset start c = registers 0x030C0003 0x00001133 0x00000700
-registersReset espiReset c = registers 0x030C0003 0x00001133 0x00000700
+registersReset start c = registers 0x030C0003 0x00001133 0x00003F00
+registersReset espiReset c = registers 0x030C0003 0x00001133 0x00003F00
 registersReset platformReset c = registers (c .r008 .value) 0x00001133 (c .r020 .value)
 
 -- all parts and the registers; "store bytes stay" (01, Requests, answers, pieces)

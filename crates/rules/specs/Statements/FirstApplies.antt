@@ -113,12 +113,11 @@ formRows c b =
 
 -- ---- 2
 
--- 008h: "bits 27:26 = 11; 22:20 above 100"; 010h: "14:12 = 000; 10:8 = 000 or above 011"; 020h: "21:16 above 7"
+-- 008h: "bits 27:26 = 11; 22:20 above 100"; 010h: "14:12 = 000; 10:8 = 000 or above 011"; 020h: none, "its forbidden entry goes away" (02, Q-5)
 abbrev pub valueForbidden : ℕ → ℕ → Bool
 valueForbidden a v =
     eqb a 0x008 && (eqb (bits 27 26 v) 3 || ltb 4 (bits 22 20 v))
-    || (eqb a 0x010 && (eqb (bits 14 12 v) 0 || (eqb (bits 10 8 v) 0 || ltb 3 (bits 10 8 v)))
-    || eqb a 0x020 && ltb 7 (bits 21 16 v))
+    || eqb a 0x010 && (eqb (bits 14 12 v) 0 || (eqb (bits 10 8 v) 0 || ltb 3 (bits 10 8 v)))
 
 -- 2, "forbidden configuration value", of SET_CONFIGURATION (01, Replies and refusals)
 abbrev pub valueRows : List ℕ → List Row

@@ -2,7 +2,7 @@
 use Prim.Native.Nat.{ℕ, _^_, _<_}
 use mathlib.Core.Bool.{Bool, false}
 use mathlib.Core.Path.{_≡_}
-use Rattle.registers.specs.Registers.{forbidden008, forbidden010, forbidden020, write008, write010, write020, fresh008, fresh010, fresh020}
+use Rattle.registers.specs.Registers.{forbidden008, forbidden010, write008, write010, write020, fresh008, fresh010, fresh020}
 use Rattle.registers.specs.declared.Config.{Config}
 use Rattle.state.specs.declared.State.{State}
 use Rattle.rules.specs.Rules.Channel.{Channel, peripheral, wires, Part, part, on}
@@ -11,11 +11,11 @@ use Rattle.rules.specs.Statements.Wires.SoundMeans as W
 
 -- ---- "registers hold reachable values": what a write that is not forbidden makes of the reset value
 
--- "registers hold reachable values" (01, Sound state; docs/DECISIONS.md, 41)
+-- "registers hold reachable values" (01, Sound state; docs/DECISIONS.md, 41); of 020h no value is forbidden (02, Q-5)
 pub record Reached (c : Config) : Type 0 where
   pub r008 : (v : ℕ) × (v < 2 ^ 32) × (forbidden008 v ≡ false) × (c .r008 ≡ write008 fresh008 v)
   pub r010 : (v : ℕ) × (v < 2 ^ 32) × (forbidden010 v ≡ false) × (c .r010 ≡ write010 fresh010 v)
-  pub r020 : (v : ℕ) × (v < 2 ^ 32) × (forbidden020 v ≡ false) × (c .r020 ≡ write020 fresh020 v)
+  pub r020 : (v : ℕ) × (v < 2 ^ 32) × (c .r020 ≡ write020 fresh020 v)
 
 -- ---- the clauses
 
