@@ -19,92 +19,17 @@ use Rattle.rules.specs.Rules.Reply.{closed, replyBytes}
 use Rattle.rules.specs.Rules.Step.{performed, served, step, run}
 use Rattle.rules.specs.Statements.Vectors.{rows, Holds}
 
+-- a fact, and those after it: a row's number, its reply, the next row's
+infixr 20 _and_
+_and_ : {A B : Type 0} → A → B → A × B
+a and b = (a, b)
+
 pub rows-hold : Holds rows
 unfolding rows step run performed served over crc crcFrom crcByte shifts crcBit sizeOf after turn sizes putPairs sentFrom afterSent pairBytes
     markOf nextSize nextMark allFF admit upward handed status lift P.post P.ask P.getPc P.answerTo P.taken P.settle
     W.putVwire W.getVwire W.setting W.settle E.setConfiguration E.decide E.exchange closed replyBytes
-rows-hold = (
-  refl,
-  (
-    refl,
-    (
-      refl,
-      (
-        refl,
-        (
-          refl,
-          (
-            refl,
-            (
-              refl,
-              (
-                refl,
-                (
-                  refl,
-                  (
-                    refl,
-                    (
-                      refl,
-                      (
-                        refl,
-                        (
-                          refl,
-                          (
-                            refl,
-                            (
-                              refl,
-                              (
-                                refl,
-                                (
-                                  refl,
-                                  (
-                                    refl,
-                                    (
-                                      refl,
-                                      (
-                                        refl,
-                                        (
-                                          refl,
-                                          (
-                                            refl,
-                                            (
-                                              refl,
-                                              (
-                                                refl,
-                                                (
-                                                  refl,
-                                                  (
-                                                    refl,
-                                                    (
-                                                      refl,
-                                                      (
-                                                        refl,
-                                                        (refl, (refl, (refl, (refl, (refl, (refl, (refl, (refl, (refl, (refl, (refl, (refl, tt)))))))))))),
-                                                      ),
-                                                    ),
-                                                  ),
-                                                ),
-                                              ),
-                                            ),
-                                          ),
-                                        ),
-                                      ),
-                                    ),
-                                  ),
-                                ),
-                              ),
-                            ),
-                          ),
-                        ),
-                      ),
-                    ),
-                  ),
-                ),
-              ),
-            ),
-          ),
-        ),
-      ),
-    ),
-  ),
-)
+rows-hold =
+    refl and refl and refl and refl and refl and refl and refl and refl and refl and refl and refl and refl and refl and refl and refl and refl
+    and refl and refl and refl and refl and refl and refl and refl and refl and refl and refl and refl and refl and refl and refl and refl and refl
+    and refl and refl and refl and refl and refl and refl and refl and refl and refl and refl and refl and refl and refl and refl and refl and refl
+    and tt

@@ -1,4 +1,4 @@
--- P23. Bench lines (01, Bench lines; outside vectors): one table, one statement. A row: the calls before it from a fresh world, the command, its
+-- P23. Bench lines (01, Bench lines; outside vectors; 02, Q-5): one table, one statement. A row: the calls before it from a fresh world, the command, its
 -- number and its whole reply. The set-ups are real commands; replies were made by hand and a CRC program that shares nothing with this repository.
 use Prim.Native.Nat.{ℕ, zero, suc}
 use mathlib.Core.List.{List, [], _∷_, _++_}
@@ -20,6 +20,23 @@ ramp a (suc n) = a ∷ ramp (suc a) n
 -- channel 1 on
 abbrev on1 : List ℕ
 on1 = 0x22 ∷ 0x00 ∷ 0x20 ∷ 0x01 ∷ 0x00 ∷ 0x00 ∷ 0x00 ∷ 0x6A ∷ []
+
+-- channel 1 on with an operating count of 64
+abbrev on64 : List ℕ
+on64 = 0x22 ∷ 0x00 ∷ 0x20 ∷ 0x01 ∷ 0x00 ∷ 0x3F ∷ 0x00 ∷ 0x50 ∷ []
+
+-- channel 1 on with an operating count of 63
+abbrev on63 : List ℕ
+on63 = 0x22 ∷ 0x00 ∷ 0x20 ∷ 0x01 ∷ 0x00 ∷ 0x3E ∷ 0x00 ∷ 0x45 ∷ []
+
+-- n pairs that say SLP_S3# is high, then what follows
+abbrev high : ℕ → List ℕ → List ℕ
+high zero l = l
+high (suc n) l = 0x02 ∷ 0x11 ∷ high n l
+
+-- PUT_VWIRE of 64 pairs; the last says that PLTRST# is high
+abbrev put64 : List ℕ
+put64 = 0x04 ∷ 0x3F ∷ high 63 (0x03 ∷ 0x22 ∷ 0x2D ∷ [])
 
 -- 010h: read size 256, payload size 64
 abbrev r256p64 : List ℕ
@@ -143,6 +160,18 @@ rows =
     ([])
     -- CRC checked and right
     ∷ row (send crcOn ∷ []) getPc 1
+    (0x03 ∷ 0x07 ∷ 0x00 ∷ 0xD6 ∷ [])
+    -- fresh: 020h read; 13:8 advertise 64 groups (02, Q-5)
+    ∷ row [] (0x21 ∷ 0x00 ∷ 0x20 ∷ 0xC8 ∷ []) 0
+    (0x08 ∷ 0x00 ∷ 0x3F ∷ 0x00 ∷ 0x00 ∷ 0x07 ∷ 0x00 ∷ 0xE7 ∷ [])
+    -- fresh: an operating count of 64 is taken
+    ∷ row [] on64 0
+    (0x08 ∷ 0x07 ∷ 0x00 ∷ 0x3A ∷ [])
+    -- .. and then 64 pairs are
+    ∷ row (send on64 ∷ []) put64 0
+    (0x08 ∷ 0x07 ∷ 0x00 ∷ 0x3A ∷ [])
+    -- at an operating count of 63 they are too many
+    ∷ row (send on63 ∷ []) put64 1
     (0x03 ∷ 0x07 ∷ 0x00 ∷ 0xD6 ∷ [])
     ∷ []
 
