@@ -84,6 +84,22 @@ fn wire_line() {
     board.line("25 FB", 0, "08 47 00 61").line("05 1B", 0, "08 00 06 F6 07 00 41");
 }
 
+/// 64 pairs, of which the last one alone names PLTRST#, at operating counts of 64 and 63.
+#[test]
+fn sixty_four_groups() {
+    let put = |pairs: usize| format!("04 {:02X} {}03 22 00", pairs - 1, "02 11 ".repeat(pairs - 1));
+    let levels = |board: &mut Board| [(2, 0), (3, 1)].map(|(index, bit)| board.engine.read_wire(&board.state, index, bit));
+    let mut board = Board::fresh();
+    board.line("21 00 20 C8", 0, "08 00 3F 00 00 07 00 E7").line("22 00 20 01 00 3F 00 50", 0, "08 07 00 3A");
+    board.line(&put(64), 0, "08 07 00 3A");
+    assert_eq!(levels(&mut board), [0x100, 0x100]);
+    let mut board = Board::fresh();
+    board.line("22 00 20 01 00 3E 00 45", 0, "08 07 00 3A").line(&put(64), 1, "03 07 00 D6");
+    assert_eq!(levels(&mut board), [0, 0]);
+    board.line(&put(63), 0, "08 07 00 3A");
+    assert_eq!(levels(&mut board), [0x100, 0x100]);
+}
+
 #[test]
 fn piece_lines() {
     const READ_1030: &str = "02 00 50 A0 00 00 10 30 FA";

@@ -79,7 +79,7 @@ const MARKS: [(u8, &str); 6] =
     [(0x0F, "0Fh only"), (0x0B, "0Bh first"), (0x09, "09h middle"), (0x0D, "0Dh last"), (0x06, "06h I/O write"), (0x0E, "0Eh failure")];
 
 /// The cases that a run must meet besides.
-const CASES: [&str; 19] = [
+const CASES: [&str; 21] = [
     "CRC checked",
     "CRC not checked",
     "channel 0 on",
@@ -90,6 +90,8 @@ const CASES: [&str; 19] = [
     "packet of 2 groups",
     "packet of 3 groups",
     "packet that goes round from 6 to 4",
+    "64 groups put",
+    "64 groups over a count of 63",
     "posted write of 256 bytes",
     "answer of 4,096 bytes",
     "late answer while a request is open",
@@ -109,7 +111,7 @@ pub struct Coverage {
     marks: [u64; 6],
     /// Reads handed over from the first piece to the last, by their number of pieces.
     reads: [u64; 65],
-    cases: [u64; 19],
+    cases: [u64; 21],
     pieces_so_far: u64,
 }
 
@@ -122,7 +124,7 @@ impl Default for Coverage {
             unknown_opcodes: [false; 256],
             marks: [0; 6],
             reads: [0; 65],
-            cases: [0; 19],
+            cases: [0; 21],
             pieces_so_far: 0,
         }
     }
@@ -196,6 +198,8 @@ impl Coverage {
             _ => Crc,
         };
         self.opcodes[row][end as usize] += 1;
+        let puts_64 = opcode == 0x04 && command[1..].len() == 2 + 2 * 64;
+        self.case("64 groups over a count of 63", puts_64 && end == Size && before.operating_count() == 63);
         if end != Accepted {
             return;
         }
@@ -204,6 +208,7 @@ impl Coverage {
                 self.case("posted write of 256 bytes", after.write.as_ref().is_some_and(|write| write.length as usize == WRITE_STORE_LEN))
             }
             0x01 => self.record_completion(before, reply),
+            0x04 => self.case("64 groups put", puts_64),
             0x05 => {
                 let groups = usize::from(reply[1]) + 1;
                 self.case(["packet of 1 group", "packet of 2 groups", "packet of 3 groups"][groups - 1], true);

@@ -250,7 +250,12 @@ impl Engine {
 
     /// The group count less one stands in the low six bits; bits 7:6 are ignored.
     fn wire_count(&self, byte: u8) -> usize {
-        usize::from(if self.wrong(fault::COUNT_BITS) { byte } else { byte & 0x3F }) + 1
+        let bits = match self.fault {
+            fault::COUNT_BITS => 0xFF,
+            fault::COUNT_5_BITS => 0x1F,
+            _ => 0x3F,
+        };
+        usize::from(byte & bits) + 1
     }
 
     /// 16: the last byte is not the CRC of all before it, while CRCs are checked.
@@ -458,7 +463,12 @@ impl Engine {
             }
             Command::GetPc => (ACCEPT, self.completion(now, reply, read_store).ok_or(Refusal::Error(FATAL))?),
             Command::PutVwire { pairs } => {
-                let limit = now.operating_count() + usize::from(self.wrong(fault::OPERATING_COUNT));
+                let limit = match (self.fault, now.operating_count()) {
+                    (fault::OPERATING_COUNT, count) => count + 1,
+                    (fault::OPERATING_63, 63) => 64,
+                    (fault::OPERATING_5_BITS, count) => (count - 1) % 32 + 1,
+                    (_, count) => count,
+                };
                 if pairs.len() / 2 > limit {
                     return Err(Refusal::Error(FATAL));
                 }
@@ -472,6 +482,7 @@ impl Engine {
                     0x004 => IDENTIFICATION,
                     0x008 => now.general,
                     0x010 => now.channel0,
+                    0x020 if self.wrong(fault::ADVERTISED_8) => now.channel1 & !0x3800,
                     0x020 => now.channel1,
                     _ if self.wrong(fault::OTHER_ONES) => u32::MAX,
                     _ => 0,
@@ -618,7 +629,8 @@ impl Engine {
     /// Pairs in order; only valid and defined bits of down groups change, other groups are passed over.
     fn put_wires(&self, now: &mut State, pairs: &[u8]) {
         let count = pairs.len() / 2;
-        for at in 0..count {
+        let applied = if self.wrong(fault::PAIRS_63) { count.min(63) } else { count };
+        for at in 0..applied {
             let at = if self.wrong(fault::PAIRS_REVERSED) { count - 1 - at } else { at };
             let (index, data) = (usize::from(pairs[2 * at]), pairs[2 * at + 1]);
             let Some(group) = index.checked_sub(FIRST_GROUP).and_then(|row| GROUPS.get(row)) else {

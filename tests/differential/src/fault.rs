@@ -37,6 +37,7 @@ faults! {
     WRITE_TYPE_FOR_READ: "PUT_NP takes cycle type 01h",
     ADDRESS_LOW_FIRST: "a short access has its address low byte first",
     COUNT_BITS: "bits 7:6 of a wire count are not ignored",
+    COUNT_5_BITS: "a wire count has five bits",
     REGISTER_BITS_HIGH: "configuration address bits 15:12 are not ignored",
     REGISTER_BITS_LOW: "configuration address bits 1:0 are not ignored",
     RESET_TWO_ONLY: "RESET is exactly two bytes",
@@ -77,6 +78,8 @@ faults! {
     IO_READ_PAYLOAD: "an I/O read uses the payload size",
     MEMORY_READ_PAYLOAD: "a short memory read uses the payload size",
     OPERATING_COUNT: "one group over the operating count is taken",
+    OPERATING_63: "an operating count of 63 is taken for 64",
+    OPERATING_5_BITS: "the operating count has five bits",
 
     // Registers.
     RESET_010: "RESET resets 010h too",
@@ -94,7 +97,8 @@ faults! {
     READ_CODE_0: "read request size 000 is not forbidden",
     PAYLOAD_CODE_0: "payload size 000 is not forbidden",
     PAYLOAD_CODE_4: "payload size 100 is not forbidden",
-    COUNT_8: "a wire count of 8 is not forbidden",
+    COUNT_ABOVE_8: "a wire count above 8 is forbidden",
+    ADVERTISED_8: "020h advertises 8 groups",
     FORBIDDEN_004: "a write to 004h is forbidden",
 
     // Requests, answers, pieces.
@@ -143,6 +147,7 @@ faults! {
     UNDEFINED_TAKEN: "PUT_VWIRE changes undefined bits",
     UP_GROUP_TAKEN: "PUT_VWIRE changes group 4",
     PAIRS_REVERSED: "PUT_VWIRE applies its pairs from the last one",
+    PAIRS_63: "PUT_VWIRE applies 63 pairs at most",
     UNDEFINED_SENT: "undefined bits are sent as valid",
     MARK_CLEARED_ON_SET_BACK: "a wire set back to its reset value is not pending any more",
     EQUAL_IS_A_CHANGE: "setting an equal value makes the group pending",
@@ -173,7 +178,6 @@ faults! {
     SOUND_010_FORBIDDEN: "sound with read size code 000 in 010h",
     SOUND_020_READ_ONLY: "sound without 020h's read-only bits",
     SOUND_020_READY: "sound without ready = enable of 020h",
-    SOUND_020_FORBIDDEN: "sound without 020h's forbidden values",
     SOUND_WRITE_FLAG: "any write flag but 0 is 1",
     SOUND_WRITE_UNUSED: "an unused write's fields may be anything",
     SOUND_WRITE_EMPTY: "a held write may have 0 bytes",
@@ -204,6 +208,7 @@ faults! {
     SOUND_PLACE: "the going-round place may be 7",
 
     // Sound state: a clause too many.
+    STRICT_COUNT: "sound only with a wire count up to 8",
     STRICT_PLACE: "sound only with place 4 while channel 1 is off",
     STRICT_SERIAL: "sound only with a serial above 0 for a held request",
     STRICT_ADDRESS: "sound only if a request ends below 2^64",

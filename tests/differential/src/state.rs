@@ -12,7 +12,8 @@ pub struct Register {
 pub const IDENTIFICATION: u32 = 0x0000_0001;
 pub const GENERAL: Register = Register { reset: 0x030C_0003, writable: 0xDCF0_F000 };
 pub const CHANNEL_0: Register = Register { reset: 0x0000_1133, writable: 0x0000_7705 };
-pub const CHANNEL_1: Register = Register { reset: 0x0000_0700, writable: 0x003F_0001 };
+/// Its bits 13:8 advertise packets of 64 groups (02, Q-5).
+pub const CHANNEL_1: Register = Register { reset: 0x0000_3F00, writable: 0x003F_0001 };
 pub const ENABLE: u32 = 1;
 pub const READY: u32 = 2;
 
@@ -129,7 +130,7 @@ fn field(word: u32, high: u32, low: u32) -> u32 {
     word >> low & ((1 << (high - low + 1)) - 1)
 }
 
-/// A forbidden value of the register at an address (01, Registers and status).
+/// A forbidden value of the register at an address (01, Registers and status; 02, Q-5: none of 020h).
 pub fn forbidden(address: u16, data: u32, fault: u32) -> bool {
     match address {
         0x004 => fault == fault::FORBIDDEN_004,
@@ -143,7 +144,7 @@ pub fn forbidden(address: u16, data: u32, fault: u32) -> bool {
                 || (field(data, 10, 8) == 0 && fault != fault::PAYLOAD_CODE_0)
                 || field(data, 10, 8) > payloads
         }
-        0x020 => field(data, 21, 16) > if fault == fault::COUNT_8 { 8 } else { 7 },
+        0x020 => fault == fault::COUNT_ABOVE_8 && field(data, 21, 16) > 7,
         _ => false,
     }
 }
@@ -187,7 +188,6 @@ pub fn unpack(bytes: &[u8], fault: u32) -> Option<State> {
         (fault::NONE, !forbidden(0x010, channel0, code_0)),
         (fault::SOUND_020_READ_ONLY, kept(channel1, &CHANNEL_1, READY)),
         (fault::SOUND_020_READY, ready_is_enable(channel1)),
-        (fault::SOUND_020_FORBIDDEN, !forbidden(0x020, channel1, fault::NONE)),
     ];
     if !all(&registers, fault) {
         return None;
@@ -222,6 +222,7 @@ pub fn unpack(bytes: &[u8], fault: u32) -> Option<State> {
 
     let state = State { general, channel0, channel1, write, request, serial, levels, pending, place };
     let too_strict = match fault {
+        fault::STRICT_COUNT => field(channel1, 21, 16) > 7,
         fault::STRICT_PLACE => !on1 && place != 4,
         fault::STRICT_SERIAL => request.is_some() && serial == 0,
         fault::STRICT_ADDRESS => request.is_some_and(|held| held.address.checked_add(u64::from(held.length)).is_none()),

@@ -490,6 +490,15 @@ impl Traffic {
         command
     }
 
+    /// An operating count less one: mostly a few groups, seldom any count, and often enough the greatest ones.
+    fn count_code(&mut self) -> u32 {
+        match self.below(8) {
+            0 => self.below(64) as u32,
+            1 => self.pick(&[7, 8, 31, 32, 62, 62, 63, 63]),
+            _ => self.pick(&[0, 0, 1, 1, 2, 3, 7]),
+        }
+    }
+
     fn register_address(&mut self) -> u16 {
         let address =
             self.pick(&[0x004, 0x008, 0x008, 0x010, 0x010, 0x010, 0x020, 0x020, 0x020, 0x000, 0x00C, 0x014, 0x030, 0x040, 0x810, 0xFFC]);
@@ -528,7 +537,7 @@ impl Traffic {
                 other & !0x7701 | read << 12 | payload << 8 | enable
             }
             0x020 => {
-                let count = if self.once_in(10) { self.pick(&[8, 9, 15, 63]) } else { self.pick(&[0, 0, 1, 1, 2, 3, 7]) };
+                let count = self.count_code();
                 let enable = u32::from(if now.on1() { !self.once_in(6) } else { self.once_in(2) });
                 other & !0x003F_0001 | count << 16 | enable
             }
@@ -560,7 +569,7 @@ impl Traffic {
             }
         }
         let enable = if self.once_in(3) { 0 } else { ENABLE | READY };
-        state.channel1 = CHANNEL_1.reset | (self.below(8) as u32) << 16 | enable;
+        state.channel1 = CHANNEL_1.reset | self.count_code() << 16 | enable;
         state.serial = self.pick(&[0, 1, 2, 0xFFFF_FFFE, u32::MAX, 0x7FFF_FFFF, 0x0001_0000]);
         for (row, group) in GROUPS.iter().enumerate() {
             state.levels[row] = if self.once_in(3) { group.reset } else { self.random.byte() & group.defined };
@@ -703,7 +712,8 @@ impl Traffic {
             5 => state.channel1 ^= ENABLE | READY,
             6 => state.channel0 = state.channel0 & !0x7000 | self.pick(&[0, 1, 7]) << 12,
             7 => state.channel0 = state.channel0 & !0x0700 | self.pick(&[0, 1, 3, 4, 7]) << 8,
-            8 => state.channel1 = state.channel1 & !0x003F_0000 | self.pick(&[7, 8, 63]) << 16,
+            // What an engine packed that advertised 8 groups.
+            8 => state.channel1 &= !0x3800,
             9 => state.general = state.general & !0x0C00_0000 | self.pick(&[2, 3]) << 26,
             _ => state.general = state.general & !0x0070_0000 | self.pick(&[4, 5, 6, 7]) << 20,
         }
