@@ -294,6 +294,39 @@ static void bench_lines(void)
     line("22 00 10 00 00 00 00 2A", ESPI_FORBIDDEN, "02 07 00 BD");
 }
 
+/* ---- packets of many groups (document 02, Q-5) */
+
+/* A packet of so many pairs, of which the last alone names PLTRST#: its number, and the level of both wires after it. */
+static void packet(size_t pairs, uint32_t number, uint32_t level)
+{
+    uint8_t b[3 + 2 * 64];
+    size_t n = 2 + 2 * pairs;
+    doing = "a packet of many groups";
+    for (size_t i = 2; i < n; i += 2)
+        memcpy(b + i, "\x02\x11", 2);
+    memcpy(b, (const uint8_t[]){ESPI_OPCODE_PUT_VWIRE, (uint8_t)(pairs - 1)}, 2);
+    memcpy(b + n - 2, "\x03\x22", 2);
+    b[n] = crc8(b, n);
+    want(exchange(b, n + 1) == 4 * 256 + number, "wrong number");
+    want(read_wire(2, 0) == 256 * level && read_wire(3, 1) == 256 * level, "wrong levels");
+}
+
+static void many_groups(void)
+{
+    fresh();
+    line("21 00 20 C8", 0, "08 00 3F 00 00 07 00 E7");
+    line("22 00 20 01 00 3F 00 50", 0, "08 07 00 3A");
+    packet(64, ESPI_OK, 1);
+    fresh();
+    line("22 00 20 01 00 3E 00 45", 0, "08 07 00 3A");
+    packet(64, ESPI_FATAL, 0);
+    packet(63, ESPI_OK, 1);
+    /* The state bytes of an engine that advertised 8 groups pack no state. */
+    fresh();
+    bytes(&state)[9] = 0x07;
+    line("25 FB", ESPI_NOT_SOUND, "");
+}
+
 /* ---- the customer's story: channel 0 off and on with an answer still open */
 
 static void customer(void)
@@ -346,7 +379,7 @@ static size_t some_command(uint8_t *b)
         n = 4 + (b[1] & 2 ? 8 : 4) + (b[0] == 0x00 ? size : 0);
         break;
     case 0x04:
-        b[1] = (uint8_t)below(4);
+        b[1] = (uint8_t)(below(8) == 0 ? below(64) : below(4));
         n = 2 + 2 * ((size_t)b[1] + 1);
         for (size_t i = 2; i < n; i += 2)
             b[i] = (uint8_t)below(9);
@@ -355,7 +388,7 @@ static size_t some_command(uint8_t *b)
     case 0x22: {
         uint16_t at = registers[below(7)];
         uint32_t value = at == 0x010   ? 1 + 2 * below(2) + 0x100 * below(4) + 0x1000 * below(8)
-                         : at == 0x020 ? below(2) + 0x10000 * below(9)
+                         : at == 0x020 ? below(2) + 0x10000 * below(64)
                                        : 0x80000000u * below(2) + below(0x10000000);
         if (at == 0x010 && below(4) == 0)
             value &= ~1u;
@@ -819,6 +852,7 @@ static void twin_run(unsigned long calls)
 int main(void)
 {
     bench_lines();
+    many_groups();
     customer();
     random_run(300000);
     readers();
@@ -828,6 +862,6 @@ int main(void)
     refusals_by_name();
     wires_by_name();
     twin_run(100000);
-    printf("boundary: bench lines, the customer's story, 300000 random calls, the header's names and readers, 100000 calls over a struct: ok\n");
+    printf("boundary: bench lines, packets of many groups, the customer's story, 300000 random calls, the header's names and readers, 100000 calls over a struct: ok\n");
     return 0;
 }
