@@ -8,6 +8,7 @@
  * - The slices of one call do not overlap.
  * - Each call gets the state bytes that the last one left, and no call is made during another: if an interrupt makes calls and the main loop too, one
  *   of them waits. The state bytes are opaque; copy them whole or not at all.
+ * - State bytes belong to the engine that made them. After an update of the engine call espi_start: kept bytes of an engine before 2.0 are number 11.
  * - The read store is left alone from an accepted answer to its last piece (PC_AVAIL drops then), and every exchange in between is lent the same bytes.
  * - A taken write's data stands at the start of the write store: copy it out before the next exchange.
  * - A write is taken before a later read is answered: on the bus a read must not pass a write, and no number refuses it here.
@@ -28,7 +29,7 @@
 #include <stdint.h>
 
 /* The major number goes up when a board has to change something, the minor one when something is added. ESPI_VERSION is their text, "major.minor". */
-#define ESPI_VERSION_MAJOR 1
+#define ESPI_VERSION_MAJOR 2
 #define ESPI_VERSION_MINOR 0
 #define ESPI_VERSION ESPI_TEXT_(ESPI_VERSION_MAJOR) "." ESPI_TEXT_(ESPI_VERSION_MINOR)
 #define ESPI_TEXT_(number) ESPI_TEXT_OF_(number)
