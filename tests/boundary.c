@@ -1,6 +1,6 @@
 /* What the proof cannot see of the C boundary: the archive as linked, guard bytes round every slice, refusals that write nothing, silence where
- * silent; and the header: its names, its readers, its calls over one struct. Bench lines of document 01, the customer's story, every name by what the
- * engine does with it, and two seeded random runs. Exit status 0 and one line at the end if all is well. */
+ * silent; and the header: its names, its readers, its calls over one struct. Bench lines of document 01, packets of many groups, the customer's story,
+ * every name by what the engine does with it, and two seeded random runs. Exit status 0 and one line at the end if all is well. */
 #include <stdio.h>
 #include <stdlib.h>
 #include <string.h>
@@ -862,6 +862,7 @@ int main(void)
     refusals_by_name();
     wires_by_name();
     twin_run(100000);
-    printf("boundary: bench lines, packets of many groups, the customer's story, 300000 random calls, the header's names and readers, 100000 calls over a struct: ok\n");
+    printf("boundary: bench lines, packets of many groups, the customer's story, 300000 random calls, the header's names and readers, "
+           "100000 calls over a struct: ok\n");
     return 0;
 }

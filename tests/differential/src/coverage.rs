@@ -198,7 +198,7 @@ impl Coverage {
             _ => Crc,
         };
         self.opcodes[row][end as usize] += 1;
-        let puts_64 = opcode == 0x04 && command[1..].len() == 2 + 2 * 64;
+        let puts_64 = opcode == 0x04 && command.len() == 3 + 2 * 64;
         self.case("64 groups over a count of 63", puts_64 && end == Size && before.operating_count() == 63);
         if end != Accepted {
             return;
