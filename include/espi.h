@@ -30,7 +30,7 @@
 
 /* The major number goes up when a board has to change something, the minor one when something is added. ESPI_VERSION is their text, "major.minor". */
 #define ESPI_VERSION_MAJOR 2
-#define ESPI_VERSION_MINOR 0
+#define ESPI_VERSION_MINOR 1
 #define ESPI_VERSION ESPI_TEXT_(ESPI_VERSION_MAJOR) "." ESPI_TEXT_(ESPI_VERSION_MINOR)
 #define ESPI_TEXT_(number) ESPI_TEXT_OF_(number)
 #define ESPI_TEXT_OF_(number) #number
@@ -57,7 +57,7 @@ extern "C" {
 
 /* Numbers. */
 #define ESPI_OK 0              /* accepted or deferred */
-#define ESPI_FATAL 1           /* exchange: no credit, too large, or a boundary crossed; FATAL reply */
+#define ESPI_FATAL 1           /* exchange: no credit, too large, a boundary crossed, or a wire's third change in a packet; FATAL reply */
 #define ESPI_FORBIDDEN 2       /* exchange: forbidden configuration value; NON_FATAL reply */
 #define ESPI_SHORT_STORE 10    /* a lent slice is too short */
 #define ESPI_NOT_SOUND 11      /* the state bytes pack no sound state */

@@ -1,6 +1,6 @@
 /* What the proof cannot see of the C boundary: the archive as linked, guard bytes round every slice, refusals that write nothing, silence where
- * silent; and the header: its names, its readers, its calls over one struct. Bench lines of document 01, packets of many groups, the customer's story,
- * every name by what the engine does with it, and two seeded random runs. Exit status 0 and one line at the end if all is well. */
+ * silent; and the header: its names, its readers, its calls over one struct. Bench lines of document 01, packets of many groups, third transitions, the
+ * customer's story, every name by what the engine does with it, and two seeded random runs. Exit status 0 and one line at the end if all is well. */
 #include <stdio.h>
 #include <stdlib.h>
 #include <string.h>
@@ -325,6 +325,52 @@ static void many_groups(void)
     fresh();
     bytes(&state)[9] = 0x07;
     line("25 FB", ESPI_NOT_SOUND, "");
+}
+
+/* ---- more than two changes of one wire */
+
+/* A packet: its number, and the wires of group 2 after it, bits 2:0. */
+static void put_line(const char *command, uint32_t number, uint32_t levels)
+{
+    line(command, number, number == ESPI_OK ? "08 07 00 3A" : "03 07 00 D6");
+    for (uint32_t bit = 0; bit < 3; bit++)
+        want(read_wire(2, bit) == (levels >> bit & 1) * 256, "wrong levels");
+}
+
+static void third_transition(void)
+{
+    fresh();
+    line("22 00 20 01 00 03 00 55", 0, "08 07 00 3A");
+    put_line("04 02 02 11 02 10 02 11 24", ESPI_FATAL, 0);
+    put_line("04 01 02 11 02 10 79", ESPI_OK, 0);
+    /* Spread over pairs of other wires, which stay too. */
+    put_line("04 03 02 11 02 22 02 10 02 11 00", ESPI_FATAL, 0);
+    put_line("04 03 02 11 03 11 02 10 02 11 00", ESPI_FATAL, 0);
+    want(read_wire(3, 0) == 0, "a refused packet has changed a wire");
+    /* One value four times is one transition; then the held value is high. */
+    put_line("04 03 02 11 02 11 02 11 02 11 00", ESPI_OK, 1);
+    put_line("04 02 02 10 02 11 02 10 00", ESPI_FATAL, 1);
+    put_line("04 02 02 11 02 10 02 11 00", ESPI_OK, 1);
+    /* An undefined bit, an up group, the valid bit clear. */
+    put_line("04 02 02 88 02 80 02 88 00", ESPI_OK, 1);
+    put_line("04 02 05 11 05 10 05 11 00", ESPI_OK, 1);
+    put_line("04 02 02 02 02 00 02 02 00", ESPI_OK, 1);
+    /* Two wires of a group, two each. */
+    put_line("04 02 02 66 02 20 02 40 00", ESPI_OK, 1);
+}
+
+/* The third in the last of 64 pairs. */
+static void third_in_the_last(void)
+{
+    uint8_t b[3 + 2 * 64] = {ESPI_OPCODE_PUT_VWIRE, 63};
+    fresh();
+    line("22 00 20 01 00 3F 00 50", 0, "08 07 00 3A");
+    doing = "a third transition in the last of 64 pairs";
+    for (size_t i = 2; i < 130; i += 2)
+        memcpy(b + i, i == 126 ? "\x02\x10" : "\x02\x11", 2);
+    want(exchange(b, 131) == 4 * 256 + ESPI_FATAL && read_wire(2, 0) == 0, "not refused");
+    memcpy(b + 128, "\x02\x10", 2);
+    want(exchange(b, 131) == 4 * 256 + ESPI_OK && read_wire(2, 0) == 0, "not accepted");
 }
 
 /* ---- the customer's story: channel 0 off and on with an answer still open */
@@ -853,6 +899,8 @@ int main(void)
 {
     bench_lines();
     many_groups();
+    third_transition();
+    third_in_the_last();
     customer();
     random_run(300000);
     readers();
@@ -862,7 +910,7 @@ int main(void)
     refusals_by_name();
     wires_by_name();
     twin_run(100000);
-    printf("boundary: bench lines, packets of many groups, the customer's story, 300000 random calls, the header's names and readers, "
+    printf("boundary: bench lines, packets of many groups, third transitions, the customer's story, 300000 random calls, the header's names and readers, "
            "100000 calls over a struct: ok\n");
     return 0;
 }

@@ -30,15 +30,20 @@ fn fatally(w: Wires) -> WiresChange
 
 // The pairs stand from the command's third byte on.
 fn put_vwire(c: Config, w: Wires, n: u32, b: &[u8]) -> WiresChange
-    requires { ⌜ 2 + n * 2 ≤ length (now b) ⌝ }
+    requires { ⌜ (soundWires (on1 (c .r020)) w ≡ true) × (2 + n * 2 ≤ length (now b)) ⌝ }
     ensures { λ r. ⌜ r ≡ W.putVwire c w n (take (n * 2) (drop 2 (now (b .entry)))) ⌝ }
 {
     let r = c.r020;
     if r.operating_count() < n {
         return fatally(w);
     }
+    let o = w.put(&b[2..], n as usize);
+    if o.third {
+        return fatally(w);
+    }
+    let next = o.next;
     WiresChange {
-        next: w.put(&b[2..], n as usize),
+        next,
         out: out::accept(Body::Nothing, Kept::Nothing),
     }
 }

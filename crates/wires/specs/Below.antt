@@ -62,3 +62,15 @@ none-counted (suc n) f e = go (some n f) (f n) e (none-counted n f)
 pub none-at : (n : ℕ) (f : ℕ → Bool) → ((k : ℕ) → k < n → f k ≡ false) → some n f ≡ false
 none-at zero f h = refl
 none-at (suc n) f h = ap (λ (b : Bool). b || f n) (none-at n f (λ k l. h k (omega arith))) ∙ h n (omega arith)
+
+pub at-none : (n : ℕ) (f : ℕ → Bool) → some n f ≡ false → (k : ℕ) → k < n → f k ≡ false
+at-none zero f e k h = absurd (omega arith)
+at-none (suc n) f e k h = let both = neither (some n f) (f n) e in go (eqb k n) refl (both .1) (at-none n f (both .0) k)
+  where
+    neither : (a b : Bool) → a || b ≡ false → (a ≡ false) × (b ≡ false)
+    neither true b q = absurd (true≢false q)
+    neither false b q = (refl, q)
+
+    go : (t : Bool) → eqb k n ≡ t → f n ≡ false → (k < n → f k ≡ false) → f k ≡ false
+    go true q last below = ap f (eqb-true k n q) ∙ last
+    go false q last below = below (omega (arith, eqb-false k n q))

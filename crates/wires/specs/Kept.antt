@@ -17,7 +17,7 @@ use Rattle.wires.specs.Table.{table, noRow, rowAt, isGroup, senders, gro
 use Rattle.wires.specs.Rows.{row-right, in-table, DefinedBit, Settable, settable-bit, sender-group, place-up}
 use Rattle.wires.specs.Turn.{after}
 use Rattle.wires.specs.Round.{AllBelow, none, more, after-below, turn-below}
-use Rattle.wires.specs.Nibbles.{bitOf, cleanTest, clean-view, clean-test, nibble-clean, mask-inside, one-bit}
+use Rattle.wires.specs.Nibbles.{bitOf, cleanTest, clean-view, clean-test, nibble-clean, mask-inside, one-bit, nibble-small}
 use Rattle.wires.specs.Groups.{senderSize, waiting, levelAt, markAt, withGroup, nibble, isDown, putPair, putPairs, settable, setWire, leftBy, afterSent, sentFrom, sent, differs, remarked, enabled, disabled, platformWires, freshWires, onlyDefined, markRight, groupRight, groupsRight, placeRight, soundWires, wholeWires}
 use Rattle.wires.specs.declared.WireRow.{WireRow}
 use Rattle.wires.specs.declared.Wires.{Wires}
@@ -248,11 +248,30 @@ sound-disabled on w e = sound-test false _ (remarked-kept false w 4 (omega arith
 pub sound-platform : (on : Bool) (w : Wires) → soundWires on w ≡ true → soundWires on (platformWires w) ≡ true
 sound-platform on w e = sound-test on _ (platform-kept w (sound-view on w e))
 
+-- a level is four bits
+pub sound-level : (on : Bool) (w : Wires) → soundWires on w ≡ true → (i : ℕ) → 2 ≤ i → i ≤ 7 → levelAt w i < 16
+sound-level on w e i h l = clean-view (rowAt (i - 2) .defined) (levelAt w i) (small-row i h l) (sound-view on w e .clean i h l) .small
+
 -- what a packet's bytes ask of the levels
 pub sound-levels : (on : Bool) (w : Wires) → soundWires on w ≡ true → (i : ℕ) → isUp i ≡ true → levelAt w i < 16
-sound-levels on w e i u =
-    let t = in-table i (and-left (isGroup i) _ u) in
-    clean-view (rowAt (i - 2) .defined) (levelAt w i) (small-row i (t .from) (t .upto)) (sound-view on w e .clean i (t .from) (t .upto)) .small
+sound-levels on w e i u = let t = in-table i (and-left (isGroup i) _ u) in sound-level on w e i (t .from) (t .upto)
+
+-- four bits stay four bits
+pair-small : (w : Wires) (i b j : ℕ) → levelAt w j < 16 → levelAt (putPair w i b) j < 16
+pair-small w i b j h =
+    pick-ind (λ (v : Wires). levelAt v j < 16) (isDown i)
+    (λ e.
+    let t = in-table i (and-left (isGroup i) (rowAt (i - 2) .down) e) in
+    let d = rowAt (i - 2) .defined in
+    set-cases (λ (x : ℕ). x < 16) (w .level) (i - 2) (j - 2) _ 0
+    (λ _. nibble-small (levelAt w i) (b % 16) (bitAnd (b / 16) d) (omega (arith, and-le-r (b / 16) d, small-row i (t .from) (t .upto)))) h)
+    (λ _. h)
+
+pub put-small : (w : Wires) (ps : List ℕ) (j : ℕ) → levelAt w j < 16 → levelAt (putPairs w ps) j < 16
+unfolding putPairs
+put-small w [] j h = h
+put-small w (i ∷ []) j h = h
+put-small w (i ∷ b ∷ ps) j h = put-small (putPair w i b) ps j (pair-small w i b j h)
 
 -- ---- the laws: six groups stay six
 

@@ -8,6 +8,9 @@ pub mod Sending
 pub mod Nibbles
 pub mod Kept
 pub mod Changes
+pub mod Transitions
+pub mod Lanes
+pub mod Course
 pub mod Sent
 pub mod Layout
 pub mod Tidy

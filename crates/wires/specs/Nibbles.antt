@@ -4,7 +4,7 @@ use mathlib.Core.Bool.{Bool, true, false, _&&_}
 use mathlib.Core.Path.{_≡_, refl, sym, ap, subst, _∙_}
 use native.Mathlib.Omega.{arith}
 use native.Mathlib.Nat.{mod-lt, mod-eq-of-lt}
-use lib.Bits.{bitAnd, bitOr, and-shr, or-shr, and-mod, or-mod, and-le-r, and-zero-l, and-zero-r, or-lt}
+use lib.Bits.{bitAnd, bitOr, bitXor, and-shr, or-shr, xor-shr, and-mod, or-mod, xor-mod, and-le-r, and-zero-l, and-zero-r, or-lt}
 use lib.Pow.{pow-lt, shl-shr}
 use lib.Dec.{eqb, ltb}
 use borrow.Author.Tests.{eqb-true, ltb-true, eq-eqb, lt-ltb}
@@ -32,8 +32,11 @@ binary x = go (x % 2) (mod-lt x (omega arith))
 pub and-bit : (a b k : ℕ) → bitOf (bitAnd a b) k ≡ bitAnd (bitOf a k) (bitOf b k)
 and-bit a b k = ap (λ (x : ℕ). x % 2) (and-shr a b k) ∙ and-mod (a / 2 ^ k) (b / 2 ^ k) 1
 
-or-bit : (a b k : ℕ) → bitOf (bitOr a b) k ≡ bitOr (bitOf a k) (bitOf b k)
+pub or-bit : (a b k : ℕ) → bitOf (bitOr a b) k ≡ bitOr (bitOf a k) (bitOf b k)
 or-bit a b k = ap (λ (x : ℕ). x % 2) (or-shr a b k) ∙ or-mod (a / 2 ^ k) (b / 2 ^ k) 1
+
+pub xor-bit : (a b k : ℕ) → bitOf (bitXor a b) k ≡ bitXor (bitOf a k) (bitOf b k)
+xor-bit a b k = ap (λ (x : ℕ). x % 2) (xor-shr a b k) ∙ xor-mod (a / 2 ^ k) (b / 2 ^ k) 1
 
 not-bit : (m k : ℕ) → m < 16 → k < 4 → bitOf (15 - m) k ≡ 1 - bitOf m k
 not-bit m k hm hk = eqb-true _ _ (at-both 16 4 (λ (x j : ℕ). eqb (bitOf (15 - x) j) (1 - bitOf x j)) refl m k hm hk)

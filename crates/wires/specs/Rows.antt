@@ -2,14 +2,14 @@
 use Prim.Native.Nat.{ℕ, zero, suc, _+_, _-_, _*_, _/_, _%_, _^_, _≤_, _<_}
 use mathlib.Core.Bool.{Bool, true, false, _&&_, _||_, not}
 use mathlib.Core.List.{List, [], _∷_}
-use mathlib.Core.Path.{_≡_, refl, sym, subst, _∙_}
+use mathlib.Core.Path.{_≡_, refl, sym, ap, subst, _∙_}
 use native.Mathlib.Omega.{arith}
 use native.Mathlib.Nat.{one-mul}
 use lib.Bits.{bitAnd}
 use lib.Pow.{shl-exact}
 use lib.Dec.{eqb, ltb, leb}
 use lib.ListN.{getD, length}
-use borrow.Author.Tests.{leb-true, ltb-true, eqb-true, le-leb, not-true}
+use borrow.Author.Tests.{leb-true, ltb-true, eqb-true, eqb-false, lt-ltb, le-leb, not-true}
 use Rattle.base.specs.Pick.{pick, and-left, and-right}
 use Rattle.base.specs.Bytes.{bit}
 use Rattle.wires.specs.Below.{every, some, at-every}
@@ -161,6 +161,17 @@ defined-bit i bit e =
       small = ltb-true bit 4 (and-left (ltb bit 4) _ e₁);
       one = eqb-true _ 1 (and-right (ltb bit 4) _ e₁);
     }
+
+not-one : (x : ℕ) → eqb (x % 2) 1 ≡ false → x % 2 ≡ 0
+not-one x e = omega (arith, eqb-false (x % 2) 1 e)
+
+-- a bit of a group that is not defined
+pub undefined-bit : (i bit : ℕ) → isGroup i ≡ true → bit < 4 → definedBit i bit ≡ false → rowAt (i - 2) .defined / 2 ^ bit % 2 ≡ 0
+undefined-bit i bit g h e =
+    not-one (rowAt (i - 2) .defined / 2 ^ bit)
+    (sym (ap (λ (t : Bool). t && eqb (rowAt (i - 2) .defined / 2 ^ bit % 2) 1) (lt-ltb bit 4 h))
+    ∙ sym (ap (λ (t : Bool). t && (ltb bit 4 && eqb (rowAt (i - 2) .defined / 2 ^ bit % 2) 1)) g)
+    ∙ e)
 
 pub record Settable (i bit value : ℕ) : Type 0 where
   pub defined : DefinedBit i bit

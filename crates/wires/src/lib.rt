@@ -7,7 +7,9 @@ ghost use mathlib.Core.List.{_++_};
 ghost use Rattle.base.specs.Bytes.{put, low4, low8};
 ghost use Rattle.wires.specs.Table.{senders, senderOf, isUp};
 ghost use Rattle.wires.specs.Sending.{begun, goTakes, goPast, sending};
-ghost use Rattle.wires.specs.Groups.{senderSize, groupAfter, upOr, pairAt, freshWires, withGroup, levelAt, nibble, putPair, putPairs, definedBit, settable, setWire, readWire, anyPending, wiresStatus, remarked, enabled, disabled, resetGroup, platformWires, inRow};
+ghost use Rattle.wires.specs.Groups.{senderSize, groupAfter, upOr, pairAt, freshWires, withGroup, levelAt, nibble, definedBit, settable, setWire, readWire, anyPending, wiresStatus, remarked, enabled, disabled, resetGroup, platformWires, inRow};
+ghost use Rattle.wires.specs.Transitions.{putting};
+ghost use Rattle.wires.specs.Course.{courseOf, counted, pastPair, withLevel, withLevels, Small};
 ghost use Rattle.wires.specs.Layout.{wiresBytes, wiresIn, holdsWires, levelsFit, marksIn, wordsIn, wiresOf};
 
 pub struct WireRow {
@@ -59,6 +61,9 @@ pub const TABLE: [WireRow; 6] = [
 // Where going round begins: "from 4 itself".
 const FIRST_PLACE: u8 = 4;
 
+// The wires that the host drives, the defined bits of the down groups, in one word: bit k of group i is its bit i * 4 + k.
+const HOST_WIRES: u32 = 0x70007700;
+
 // Index i stands at place i - 2 of both arrays; `place` is the index that the next GET_VWIRE begins with.
 pub struct Wires {
     pub level: [u8; 6],
@@ -71,6 +76,20 @@ pub struct Words {
     pub low: u64,
     pub high: u32,
     pub place: u8,
+}
+
+// What a PUT_VWIRE's pairs come to: whether a wire has a third transition, and the wires after them all.
+pub struct Putting {
+    pub third: bool,
+    pub next: Wires,
+}
+
+// The host's wires on their way through a packet: the value of each, and which have changed once, twice and a third time.
+pub struct Course {
+    pub level: u32,
+    pub once: u32,
+    pub twice: u32,
+    pub third: u32,
 }
 
 // What a GET_VWIRE sends, over the wires as they were: so many entries, going round from a place.
@@ -201,6 +220,33 @@ impl Going {
     }
 }
 
+impl Course {
+    // These wires have one more transition: the third of those that had two.
+    fn counted(self, changed: u32) -> Course
+        ensures { λ r. ⌜ r ≡ counted self changed ⌝ }
+    {
+        Course {
+            level: self.level ^ changed,
+            once: self.once | changed,
+            twice: self.twice | (self.once & changed),
+            third: self.third | (self.twice & changed),
+        }
+    }
+
+    // "A transition is a value differing from the one just before": of valid and defined bits of down groups.
+    fn past(self, index: u8, byte: u8) -> Course
+        ensures { λ r. ⌜ r ≡ pastPair self index byte ⌝ }
+    {
+        if 7 < index {
+            return self;
+        }
+        let at = (index as u32) * 4;
+        let value = ((byte % 16) as u32) << at;
+        let valid = (((byte / 16) as u32) << at) & HOST_WIRES;
+        self.counted((self.level ^ value) & valid)
+    }
+}
+
 // Index and data of a group, "with all defined bits valid".
 pub fn pair(group: u8, level: u8) -> [u8; 2]
     requires { ⌜ (isUp group ≡ true) × (level < 16) ⌝ }
@@ -267,35 +313,53 @@ impl Wires {
         next
     }
 
-    // Only valid and defined bits of a down group change.
-    fn put_pair(self, index: u8, byte: u8) -> Wires
-        ensures { λ r. ⌜ r ≡ putPair self index byte ⌝ }
+    // No wire of the host's has changed yet.
+    fn course(self) -> Course
+        requires { ⌜ Small self ⌝ }
+        ensures { λ r. ⌜ r ≡ courseOf self ⌝ }
     {
-        if index < 2 {
-            return self;
+        let two = (self.level[0] as u32) * 256;
+        let three = (self.level[1] as u32) * 4096;
+        let seven = (self.level[5] as u32) * 268435456;
+        Course {
+            level: two + three + seven,
+            once: 0,
+            twice: 0,
+            third: 0,
         }
-        if 7 < index {
-            return self;
-        }
-        let at = (index - 2) as usize;
-        if !TABLE[at].down {
-            return self;
-        }
-        let level = nibble_of(self.level[at], byte % 16, (byte / 16) & TABLE[at].defined);
-        self.with(index as usize, level, self.pending[at], self.place)
     }
 
-    pub fn put(self, pairs: &[u8], n: usize) -> Wires
-        requires { ⌜ n * 2 ≤ length (now pairs) ⌝ }
-        ensures { λ r. ⌜ r ≡ putPairs self (take (n * 2) (now (pairs .entry))) ⌝ }
+    fn with_level(self, index: usize, level: u8) -> Wires
+        requires { ⌜ (2 ≤ index) × (index ≤ 7) ⌝ }
+        ensures { λ r. ⌜ r ≡ withLevel self index level ⌝ }
     {
-        let mut next = self;
+        self.with(index, level, self.pending[index - 2], self.place)
+    }
+
+    // The levels that the host's wires have in a word.
+    fn with_levels(self, word: u32) -> Wires
+        ensures { λ r. ⌜ r ≡ withLevels self word ⌝ }
+    {
+        let two = self.with_level(2, (word / 256 % 16) as u8);
+        let three = two.with_level(3, (word / 4096 % 16) as u8);
+        three.with_level(7, (word / 268435456 % 16) as u8)
+    }
+
+    // One pass over the pairs; the wires change after it, at once.
+    pub fn put(self, pairs: &[u8], n: usize) -> Putting
+        requires { ⌜ (n * 2 ≤ length (now pairs)) × Small self ⌝ }
+        ensures { λ r. ⌜ r ≡ putting self (take (n * 2) (now (pairs .entry))) ⌝ }
+    {
+        let mut course = self.course();
         let mut i: usize = 0;
         while i < n {
-            next = next.put_pair(pairs[i * 2], pairs[i * 2 + 1]);
+            course = course.past(pairs[i * 2], pairs[i * 2 + 1]);
             i += 1;
         }
-        next
+        Putting {
+            third: course.third != 0,
+            next: self.with_levels(course.level),
+        }
     }
 
     pub fn set(self, on: bool, index: u32, bit: u32, value: u32) -> Wires

@@ -100,6 +100,59 @@ fn sixty_four_groups() {
     assert_eq!(levels(&mut board), [0x100, 0x100]);
 }
 
+/// packets at an operating count of 4 from SLP_S3# low on, and at 64; which wires are high after them.
+#[test]
+fn third_transition() {
+    const TAKEN: &str = "08 07 00 3A";
+    const REFUSED: &str = "03 07 00 D6";
+    let high = |board: &mut Board| -> Vec<(u32, u32)> {
+        let wires = [2, 3, 7].into_iter().flat_map(|index| (0..3).map(move |bit| (index, bit)));
+        wires.filter(|&(index, bit)| board.engine.read_wire(&board.state, index, bit) == 0x100).collect()
+    };
+    let at_reset = [(7, 1), (7, 2)];
+    let on4 = || {
+        let mut board = Board::fresh();
+        board.line("22 00 20 01 00 03 00 55", 0, TAKEN);
+        board
+    };
+    // One wire three times, there and back; the same over another group and one that is none.
+    for (packet, number, reply) in [
+        ("04 02 02 11 02 10 02 11 24", 1, REFUSED),
+        ("04 01 02 11 02 10 79", 0, TAKEN),
+        ("04 03 02 11 03 11 02 10 02 11 00", 1, REFUSED),
+        ("04 03 02 11 FF FF 02 10 02 11 00", 1, REFUSED),
+        // Beginning with the held value: group 7 bit 1 is high.
+        ("04 02 07 20 07 22 07 20 00", 1, REFUSED),
+        // The held value again is no transition.
+        ("04 02 07 22 07 20 07 22 00", 0, TAKEN),
+        // An undefined bit, a group of the board's, the valid bit clear.
+        ("04 02 02 88 02 80 02 88 00", 0, TAKEN),
+        ("04 02 05 11 05 10 05 11 00", 0, TAKEN),
+        ("04 02 02 01 02 00 02 01 00", 0, TAKEN),
+        // Two wires of a group, two transitions each.
+        ("04 03 02 11 02 22 02 20 02 10 00", 0, TAKEN),
+    ] {
+        let mut board = on4();
+        board.line(packet, number, reply);
+        assert_eq!(high(&mut board), at_reset, "wires after {packet}");
+    }
+    let mut board = on4();
+    board.line("04 03 02 11 02 11 02 11 02 11 00", 0, TAKEN);
+    assert_eq!(high(&mut board), [(2, 0), (7, 1), (7, 2)]);
+    // From high on three changes begin with low, and no wire changes.
+    board.line("04 03 02 10 03 11 02 11 02 10 00", 1, REFUSED);
+    assert_eq!(high(&mut board), [(2, 0), (7, 1), (7, 2)]);
+    board.line("04 03 02 11 02 10 03 11 02 11 00", 0, TAKEN);
+    assert_eq!(high(&mut board), [(2, 0), (3, 0), (7, 1), (7, 2)]);
+    // The last of 64 pairs.
+    let put = |last: &str| format!("04 3F {}02 10 {last} 00", "02 11 ".repeat(62));
+    let mut board = Board::fresh();
+    board.line("22 00 20 01 00 3F 00 50", 0, TAKEN).line(&put("02 11"), 1, REFUSED);
+    assert_eq!(high(&mut board), at_reset);
+    board.line(&put("03 11"), 0, TAKEN);
+    assert_eq!(high(&mut board), [(3, 0), (7, 1), (7, 2)]);
+}
+
 #[test]
 fn piece_lines() {
     const READ_1030: &str = "02 00 50 A0 00 00 10 30 FA";

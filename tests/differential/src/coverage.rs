@@ -1,5 +1,6 @@
 //! What a run has reached, and whether it is enough.
-use crate::engine::{OK, READ_STORE_LEN, WRITE_STORE_LEN};
+use crate::engine::{Engine, OK, READ_STORE_LEN, WRITE_STORE_LEN};
+use crate::fault;
 use crate::state::{Phase, Request, State};
 use crate::traffic::{Call, CALLS};
 
@@ -16,12 +17,13 @@ const NUMBERS: [&[u32]; 9] = [
     &[0, 10, 11, 22],
 ];
 
-/// How an exchange past 10 and 11 ended: its number, with the two conditions of number 1 apart.
+/// How an exchange past 10 and 11 ended: its number, with the three conditions of number 1 apart.
 #[derive(Clone, Copy, PartialEq, Eq)]
 enum End {
     Accepted,
     Credit,
     Size,
+    Third,
     Forbidden,
     Length,
     Opcode,
@@ -31,10 +33,11 @@ enum End {
 }
 use End::*;
 
-const ENDS: [(&str, End); 9] = [
+const ENDS: [(&str, End); 10] = [
     ("0", Accepted),
     ("1 credit", Credit),
     ("1 size", Size),
+    ("1 third transition", Third),
     ("2", Forbidden),
     ("12", Length),
     ("13", Opcode),
@@ -48,7 +51,7 @@ const SHORT: &[End] = &[Accepted, Credit, Size, Length, Off, Crc];
 /// One byte never crosses a block.
 const BYTE: &[End] = &[Accepted, Credit, Length, Off, Crc];
 const GET: &[End] = BYTE;
-const WIRES: &[End] = &[Accepted, Size, Length, Off, Crc];
+const WIRES: &[End] = &[Accepted, Size, Third, Length, Off, Crc];
 
 /// Every opcode with the ends that it can have.
 const OPCODES: [(u8, &str, &[End]); 21] = [
@@ -79,7 +82,7 @@ const MARKS: [(u8, &str); 6] =
     [(0x0F, "0Fh only"), (0x0B, "0Bh first"), (0x09, "09h middle"), (0x0D, "0Dh last"), (0x06, "06h I/O write"), (0x0E, "0Eh failure")];
 
 /// The cases that a run must meet besides.
-const CASES: [&str; 21] = [
+const CASES: [&str; 23] = [
     "CRC checked",
     "CRC not checked",
     "channel 0 on",
@@ -92,6 +95,8 @@ const CASES: [&str; 21] = [
     "packet that goes round from 6 to 4",
     "64 groups put",
     "64 groups over a count of 63",
+    "third transition in the last of 64 groups",
+    "wire that is put there and back",
     "posted write of 256 bytes",
     "answer of 4,096 bytes",
     "late answer while a request is open",
@@ -106,12 +111,12 @@ const CASES: [&str; 21] = [
 pub struct Coverage {
     calls: u64,
     numbers: [[u64; 24]; 9],
-    opcodes: [[u64; 9]; 21],
+    opcodes: [[u64; ENDS.len()]; OPCODES.len()],
     unknown_opcodes: [bool; 256],
     marks: [u64; 6],
     /// Reads handed over from the first piece to the last, by their number of pieces.
     reads: [u64; 65],
-    cases: [u64; 21],
+    cases: [u64; CASES.len()],
     pieces_so_far: u64,
 }
 
@@ -120,11 +125,11 @@ impl Default for Coverage {
         Coverage {
             calls: 0,
             numbers: [[0; 24]; 9],
-            opcodes: [[0; 9]; 21],
+            opcodes: [[0; ENDS.len()]; OPCODES.len()],
             unknown_opcodes: [false; 256],
             marks: [0; 6],
             reads: [0; 65],
-            cases: [0; 21],
+            cases: [0; CASES.len()],
             pieces_so_far: 0,
         }
     }
@@ -186,9 +191,12 @@ impl Coverage {
             0x01 | 0x05 => true,
             _ => false,
         };
+        let puts = opcode == 0x04;
+        let groups = command.len().saturating_sub(3) / 2;
         let end = match number {
             0 => Accepted,
             1 if no_credit => Credit,
+            1 if puts && groups <= before.operating_count() => Third,
             1 => Size,
             2 => Forbidden,
             12 => Length,
@@ -198,8 +206,10 @@ impl Coverage {
             _ => Crc,
         };
         self.opcodes[row][end as usize] += 1;
-        let puts_64 = opcode == 0x04 && command.len() == 3 + 2 * 64;
+        let puts_64 = puts && groups == 64;
         self.case("64 groups over a count of 63", puts_64 && end == Size && before.operating_count() == 63);
+        let third_at_63 = || Engine::default().third_transition(before, &command[2..2 + 2 * 63]);
+        self.case("third transition in the last of 64 groups", puts_64 && end == Third && !third_at_63());
         if end != Accepted {
             return;
         }
@@ -208,7 +218,11 @@ impl Coverage {
                 self.case("posted write of 256 bytes", after.write.as_ref().is_some_and(|write| write.length as usize == WRITE_STORE_LEN))
             }
             0x01 => self.record_completion(before, reply),
-            0x04 => self.case("64 groups put", puts_64),
+            0x04 => {
+                self.case("64 groups put", puts_64);
+                let there_and_back = Engine { fault: fault::SECOND_REFUSED }.third_transition(before, &command[2..2 + 2 * groups]);
+                self.case("wire that is put there and back", there_and_back);
+            }
             0x05 => {
                 let groups = usize::from(reply[1]) + 1;
                 self.case(["packet of 1 group", "packet of 2 groups", "packet of 3 groups"][groups - 1], true);

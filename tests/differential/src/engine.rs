@@ -472,7 +472,13 @@ impl Engine {
                 if pairs.len() / 2 > limit {
                     return Err(Refusal::Error(FATAL));
                 }
-                self.put_wires(now, pairs);
+                let third = self.third_transition(now, pairs);
+                if !third || self.wrong(fault::THIRD_APPLIED) {
+                    self.put_wires(now, pairs);
+                }
+                if third {
+                    return Err(Refusal::Error(FATAL));
+                }
                 (ACCEPT, 0)
             }
             Command::GetVwire => (ACCEPT, self.wire_packet(now, reply).ok_or(Refusal::Error(FATAL))?),
@@ -625,6 +631,37 @@ impl Engine {
     }
 
     // ---- wires (01, Wires)
+
+    /// Whether a wire has more than two transitions in a packet (02, Q-6).
+    pub fn third_transition(&self, now: &State, pairs: &[u8]) -> bool {
+        let most = match self.fault {
+            fault::SECOND_REFUSED => 1,
+            fault::THIRD_ALLOWED => 3,
+            _ => 2,
+        };
+        GROUPS.iter().enumerate().any(|(row, group)| {
+            let defined = if self.wrong(fault::UNDEFINED_COUNTED) { 0xF } else { group.defined };
+            let counts = (0..4).filter(|bit| defined >> bit & 1 == 1).map(|bit| self.transitions(now, pairs, row, bit));
+            let more = if self.wrong(fault::GROUP_COUNTED) { counts.sum::<usize>() > most } else { counts.max() > Some(most) };
+            more && (!group.up || self.wrong(fault::UP_GROUP_COUNTED))
+        })
+    }
+
+    /// How often a wire's value differs from the one just before, beginning with the held value. Pairs of other groups and
+    /// values that are not valid are passed over.
+    fn transitions(&self, now: &State, pairs: &[u8], row: usize, bit: u32) -> usize {
+        let last = if self.wrong(fault::TRANSITIONS_63) { 63 } else { 64 };
+        let mut values = vec![if self.wrong(fault::COUNTED_FROM_0) { 0 } else { now.levels[row] >> bit & 1 }];
+        if self.wrong(fault::HELD_NOT_COUNTED) {
+            values.clear();
+        }
+        for pair in pairs.chunks_exact(2).take(last).filter(|pair| usize::from(pair[0]) == FIRST_GROUP + row) {
+            if pair[1] >> (4 + bit) & 1 == 1 || self.wrong(fault::INVALID_COUNTED) {
+                values.push(pair[1] >> bit & 1);
+            }
+        }
+        values.windows(2).filter(|two| two[0] != two[1] || self.wrong(fault::REPEATS_COUNTED)).count()
+    }
 
     /// Pairs in order; only valid and defined bits of down groups change, other groups are passed over.
     fn put_wires(&self, now: &mut State, pairs: &[u8]) {
@@ -792,6 +829,8 @@ impl Calls for Engine {
                     pack(&State { write: None, ..old }, state);
                 } else if self.wrong(fault::SERIAL_AT_REFUSAL) && command[0] == 0x02 {
                     pack(&State { serial: old.serial.wrapping_add(1), ..old }, state);
+                } else if self.wrong(fault::THIRD_APPLIED) && command[0] == 0x04 {
+                    pack(&now, state);
                 }
                 (length as u32) << 8 | number
             }

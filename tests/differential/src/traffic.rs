@@ -2,7 +2,8 @@
 //! shown, and bent at the edges of every rule.
 use crate::engine::{crc, LOOK_REPORT_LEN, READ_STORE_LEN, REPLY_LEN, TAKE_REPORT_LEN, WRITE_STORE_LEN};
 use crate::state::{
-    forbidden, pack, within, Kind, Phase, Request, State, Write, CHANNEL_0, CHANNEL_1, ENABLE, GENERAL, GROUPS, READY, STATE_LEN,
+    forbidden, pack, within, Kind, Phase, Request, State, Write, CHANNEL_0, CHANNEL_1, ENABLE, FIRST_GROUP, GENERAL, GROUPS, READY,
+    STATE_LEN,
 };
 
 /// Random numbers by xorshift with a multiplication at the end.
@@ -469,6 +470,8 @@ impl Traffic {
         command
     }
 
+    /// Mostly no wire has a third transition, now and then one has three or more. The bits that do not count come as they
+    /// are. In one packet of four a wire takes the other value with nearly every pair.
     fn put_wires(&mut self, now: &State) -> Vec<u8> {
         let limit = now.operating_count();
         let count = match self.below(10) {
@@ -479,13 +482,38 @@ impl Traffic {
         };
         let ignored = self.pick(&[0x00, 0x00, 0x40, 0x80, 0xC0]);
         let mut command = vec![0x04, (count - 1) as u8 & 0x3F | ignored];
+        let most = self.pick(&[2, 2, 2, 2, 2, 3, 64]);
+        let swings = self.once_in(4);
+        let (swung, swung_bit) = (self.pick(&[2, 2, 3, 3, 7, 7, 4, 5, 6]), self.below(4));
+        let mut levels = now.levels;
+        let mut changes = [[0; 4]; 6];
         for _ in 0..count {
+            let mut data = self.random.byte();
             let index = match self.below(6) {
                 0 => self.pick(&[0, 1, 4, 5, 6, 8, 64, 128 + 2, 255]),
+                1..=4 if swings => swung,
                 _ => self.pick(&[2, 3, 7]),
             };
-            command.push(index);
-            command.push(self.random.byte());
+            if let Some(row) = usize::from(index).checked_sub(FIRST_GROUP).filter(|&row| row < GROUPS.len()) {
+                if swings && index == swung {
+                    let value = levels[row] >> swung_bit & 1 ^ 1;
+                    data = data & !(0x11 << swung_bit) | (0x10 | value) << swung_bit;
+                }
+                let counted = if GROUPS[row].up { 0 } else { GROUPS[row].defined };
+                for (bit, changes) in changes[row].iter_mut().enumerate() {
+                    let differs = (data ^ levels[row]) >> bit & 1 == 1;
+                    if !differs || data >> (4 + bit) & 1 == 0 {
+                        continue;
+                    }
+                    if counted >> bit & 1 == 1 && *changes == most {
+                        data ^= 1 << bit;
+                    } else {
+                        levels[row] ^= 1 << bit;
+                        *changes += 1;
+                    }
+                }
+            }
+            command.extend([index, data]);
         }
         command
     }

@@ -11,11 +11,13 @@ use Rattle.base.specs.Pick.{taken, passed}
 use Rattle.registers.specs.Registers.{operatingCount, on1, reachable}
 use Rattle.registers.specs.Laws.{reachable-r020, count-range}
 use Rattle.registers.specs.declared.Config.{Config}
-use Rattle.wires.specs.Groups.{putPairs, sent, anyPending, packetOf, afterSent, settable, setWire, soundWires}
+use Rattle.wires.specs.Transitions.{putting}
+use Rattle.wires.specs.Groups.{sent, anyPending, packetOf, afterSent, settable, setWire, soundWires}
 use Rattle.wires.specs.Sending as G
 use Rattle.wires.specs.Sent.{sent-none, sent-some}
 use Rattle.wires.specs.Kept.{sound-view}
 use Rattle.wires.specs.declared.Wires.{Wires}
+use Rattle.wires.specs.declared.Putting.{Putting}
 use Rattle.wires.specs.declared.Sending.{Sending}
 use Rattle.rules.specs.Rules.Out.{fatal, accept, number, keep}
 use Rattle.rules.specs.Rules.Wires.{change, putVwire, sentOut, getVwire, setting}
@@ -34,16 +36,22 @@ module _ (c : Config) (w : Wires) where
   unfolding putVwire
   put-over-count n count pairs r e h k = taken _ _ (ap (λ (z : ℕ). ltb z n) (sym e) ∙ h) k
 
-  pub put-done : (n count : ℕ) (b part : List ℕ) (next : Wires) (out : Out)
-      → count ≡ operatingCount (c .r020)
-      → ltb count n ≡ false
-      → part ≡ drop 2 b
-      → next ≡ putPairs w (take (n * 2) part)
-      → out ≡ accept B.Nothing K.Nothing
-      → change next out ≡ putVwire c w n (take (n * 2) (drop 2 b))
-  unfolding putVwire
-  put-done n count b part next out e h ep en k =
-      passed _ _ (ap (λ (z : ℕ). ltb z n) (sym e) ∙ h) (changed (en ∙ ap (λ (z : List ℕ). putPairs w (take (n * 2) z)) ep) k)
+  module _ (n count : ℕ) (b part : List ℕ) (o : Putting) (e : count ≡ operatingCount (c .r020)) (h : ltb count n ≡ false) (ep : part ≡ drop 2 b)
+      (eo : o ≡ putting w (take (n * 2) part)) where
+    within : ltb (operatingCount (c .r020)) n ≡ false
+    within = ap (λ (z : ℕ). ltb z n) (sym e) ∙ h
+
+    put-as : o ≡ putting w (take (n * 2) (drop 2 b))
+    put-as = eo ∙ ap (λ (z : List ℕ). putting w (take (n * 2) z)) ep
+
+    pub put-third : (r : WiresChange) → o .third ≡ true → r ≡ change w fatal → r ≡ putVwire c w n (take (n * 2) (drop 2 b))
+    unfolding putVwire
+    put-third r t k = passed _ _ within (taken _ _ (ap (λ (z : Putting). z .third) (sym put-as) ∙ t) k)
+
+    pub put-done : (out : Out) → o .third ≡ false → out ≡ accept B.Nothing K.Nothing → change (o .next) out ≡ putVwire c w n (take (n * 2) (drop 2 b))
+    unfolding putVwire
+    put-done out t k =
+        passed _ _ within (passed _ _ (ap (λ (z : Putting). z .third) (sym put-as) ∙ t) (changed (ap (λ (z : Putting). z .next) put-as) k))
 
   send-list : (ks : List ℕ) → 1 ≤ length ks → change (afterSent w ks) (accept (B.Groups (packetOf w ks)) K.Nothing) ≡ sentOut w ks
   send-list [] h = absurd (omega arith)

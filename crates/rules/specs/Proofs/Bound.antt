@@ -163,7 +163,7 @@ module _ (w : World) (sound : Sound (w .state)) (g : ℕ) (below : g < senders) 
 
   moves : {k : WireEvent} → wireEvent w c ≡ k → WireMove w c (step w c) k → isEnd k ≡ false → Moves machine senders g w c
   moves q (still e) n = stays (ap isGets q) (ap (λ (v : Wires). senderOf (v .place)) e) (rw e marked)
-  moves q (put b r x e) n =
+  moves q (put b r x t e) n =
       stays (ap isGets q) (ap (λ (v : Wires). senderOf (v .place)) e ∙ ap senderOf (put-place (wiresOf w) (pairs b)))
       (rw (e, put-marks (wiresOf w) (pairs b)) marked)
   moves q (sent k ks e f h) n =

@@ -5,6 +5,7 @@ use Rattle.crc.specs.Crc.{crc, crcFrom, crcByte, shifts, crcBit}
 use Rattle.registers.specs.Registers.{sizeOf}
 use Rattle.wires.specs.Turn.{after, turn, sizes}
 use Rattle.wires.specs.Groups.{putPairs, sentFrom, afterSent, pairBytes}
+use Rattle.wires.specs.Transitions.{valuesGiven, transitions, thirdTransition}
 use Rattle.pieces.specs.Marks.{markOf}
 use Rattle.pieces.specs.Pieces.{nextSize, nextMark}
 use Rattle.command.specs.Needs.{allFF}
@@ -26,10 +27,11 @@ a and b = (a, b)
 
 pub rows-hold : Holds rows
 unfolding rows step run performed served over crc crcFrom crcByte shifts crcBit sizeOf after turn sizes putPairs sentFrom afterSent pairBytes
-    markOf nextSize nextMark allFF admit upward handed status lift P.post P.ask P.getPc P.answerTo P.taken P.settle
+    valuesGiven transitions thirdTransition markOf nextSize nextMark allFF admit upward handed status lift P.post P.ask P.getPc P.answerTo P.taken P.settle
     W.putVwire W.getVwire W.setting W.settle E.setConfiguration E.decide E.exchange closed replyBytes
 rows-hold =
     refl and refl and refl and refl and refl and refl and refl and refl and refl and refl and refl and refl and refl and refl and refl and refl
     and refl and refl and refl and refl and refl and refl and refl and refl and refl and refl and refl and refl and refl and refl and refl and refl
     and refl and refl and refl and refl and refl and refl and refl and refl and refl and refl and refl and refl and refl and refl and refl and refl
+    and refl and refl and refl and refl and refl and refl and refl and refl and refl and refl
     and tt

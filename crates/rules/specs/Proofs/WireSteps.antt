@@ -15,11 +15,12 @@ use Rattle.wires.specs.Below.{at-every}
 use Rattle.wires.specs.Table.{rowAt, isGroup, senders, groupAt, senderOf}
 use Rattle.wires.specs.Groups as G
 use Rattle.wires.specs.Groups.{levelAt, markAt, isDown, definedBit, settable, afterSent, groupByte, pairBytes}
-use Rattle.wires.specs.Rows.{settable-bit, place-up}
+use Rattle.wires.specs.Rows.{undefined-bit, settable-bit, place-up}
 use Rattle.wires.specs.Turn.{after}
 use Rattle.wires.specs.Round.{AllBelow, none, more, after-below}
 use Rattle.wires.specs.Kept as K
 use Rattle.wires.specs.Changes.{put-read, put-undefined, put-passes, put-marks, put-place, set-read, set-level-other, set-mark-other, set-mark}
+use Rattle.wires.specs.Transitions.{thirdTransition, two-at-most}
 use Rattle.wires.specs.Sent.{waiters, queue, sent-queue, sent-count, sent-levels, sent-stays, sent-off, sent-gone}
 use Rattle.wires.specs.declared.Wires.{Wires}
 use Rattle.state.specs.Status.{status}
@@ -46,31 +47,25 @@ level-small w s i h l =
 
 -- ---- PUT_VWIRE
 
-not-one : (x : ℕ) → eqb (x % 2) 1 ≡ false → x % 2 ≡ 0
-not-one x e = omega (arith, eqb-false (x % 2) 1 e)
-
--- a bit of a group that is not defined
-undefined-off : (i bit : ℕ) → isDown i ≡ true → bit < 4 → definedBit i bit ≡ false → rowAt (i - 2) .defined / 2 ^ bit % 2 ≡ 0
-undefined-off i bit d h e =
-    not-one (rowAt (i - 2) .defined / 2 ^ bit)
-    (sym (ap (λ (t : Bool). t && eqb (rowAt (i - 2) .defined / 2 ^ bit % 2) 1) (lt-ltb bit 4 h))
-    ∙ sym (ap (λ (t : Bool). t && (ltb bit 4 && eqb (rowAt (i - 2) .defined / 2 ^ bit % 2) 1)) (and-left (isGroup i) _ d))
-    ∙ e)
-
-put-made : (w : World) (o : Outcome) (b : List ℕ) → Sound (w .state) → wiresOf (o .next) ≡ G.putPairs (wiresOf w) (pairs b) → Put w (o .next) (pairs b)
-put-made w o b s e =
+put-made : (w : World) (o : Outcome) (b : List ℕ) → Sound (w .state) → thirdTransition (wiresOf w) (pairs b) ≡ false
+    → wiresOf (o .next) ≡ G.putPairs (wiresOf w) (pairs b) → Put w (o .next) (pairs b)
+put-made w o b s two e =
     let v = wiresOf w in
     let f = wires-whole w s in
     record {
+      few = two-at-most v (pairs b) two;
       bits = λ i bit d t. ap (λ (x : Wires). G.readWire x i bit) e ∙ put-read i bit d t v (pairs b) f;
-      undefinedBits = λ i bit d h t. ap (λ (x : Wires). G.readWire x i bit) e ∙ put-undefined i bit d h (undefined-off i bit d h t) v (pairs b) f;
+      undefinedBits = λ i bit d h t. ap (λ (x : Wires). G.readWire x i bit) e ∙ put-undefined i bit d h (undefined-bit i bit (and-left (isGroup i) _ d) h t) v (pairs b) f;
       otherGroups = λ i h t. ap (λ (x : Wires). levelAt x i) e ∙ put-passes v (pairs b) i h t;
       marks = ap (λ (x : Wires). x .pending) e ∙ put-marks v (pairs b);
       place = ap (λ (x : Wires). x .place) e ∙ put-place v (pairs b);
     }
 
 put-of : (w : World) (b r : List ℕ) (o : Outcome) → Sound (w .state) → WireMove w (exchange b r) o puts → Put w (o .next) (pairs b)
-put-of w b r o s (put b′ r′ x e) = let q : b′ ≡ b = cc in put-made w o b s (e ∙ ap (λ (l : List ℕ). G.putPairs (wiresOf w) (pairs l)) q)
+put-of w b r o s (put b′ r′ x n e) =
+    let q : b′ ≡ b = cc in
+    put-made w o b s (ap (λ (l : List ℕ). thirdTransition (wiresOf w) (pairs l)) (sym q) ∙ n)
+    (e ∙ ap (λ (l : List ℕ). G.putPairs (wiresOf w) (pairs l)) q)
 
 -- ---- set and read
 
@@ -249,7 +244,7 @@ module _ (w : World) (s : Sound (w .state)) (i : ℕ) (from : 2 ≤ i) (upto : i
 
   raised-by : (c : Call) (o : Outcome) {k : WireEvent} → WireMove w c o k → markAt (wiresOf (o .next)) i ≡ true → Raised w c i
   raised-by c o (still e) t = absurd (same-off o (wiresOf w) e off t)
-  raised-by c o (put b r x e) t = absurd (same-off o _ e (ap (λ (l : List Bool). getD l (i - 2) false) (put-marks (wiresOf w) (pairs b)) ∙ off) t)
+  raised-by c o (put b r x n e) t = absurd (same-off o _ e (ap (λ (l : List Bool). getD l (i - 2) false) (put-marks (wiresOf w) (pairs b)) ∙ off) t)
   raised-by c o (sent k ks e f h) t = absurd (same-off o _ f (sent-off (wiresOf w) _ i off) t)
   raised-by c o (set j bit value x y e) t = set-raised c o j bit value x y (set-of w j bit value o s y e) t
   raised-by c o (enabled b r x e f) t =

@@ -174,7 +174,8 @@ module _ (w : World) where
       → Seen (exchange b r) (performed w b (lift wires (w .state) x))
   unfolding performed lift replyBytes
   acted-seen b r (W.overCount e) h = as-is (refused-wire (w .state) (exchange b r) _ refl) (still refl)
-  acted-seen b r (W.put e) (R.Wires.puts h) = as-is (command-event b r 0x04 puts h refl refl _ refl) (put b r refl refl)
+  acted-seen b r (W.third e f) h = as-is (refused-wire (w .state) (exchange b r) _ refl) (still refl)
+  acted-seen b r (W.put e f) (R.Wires.puts h) = as-is (command-event b r 0x04 puts h refl refl _ refl) (put b r refl f refl)
   acted-seen b r (W.nonePending e) h = as-is (refused-wire (w .state) (exchange b r) _ refl) (still refl)
   acted-seen b r (W.sentOff {k = k} {ks = ks} e) (R.Wires.gets h) =
       let v = wiresOf w in

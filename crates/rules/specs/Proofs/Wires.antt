@@ -20,11 +20,12 @@ use Rattle.base.specs.Pick.{pick, pick-ind}
 use Rattle.registers.specs.Registers.{operatingCount}
 use Rattle.registers.specs.declared.Config.{Config}
 use Rattle.wires.specs.Groups.{sent, settable, definedBit}
+use Rattle.wires.specs.Transitions.{thirdTransition}
 use Rattle.wires.specs.declared.Wires.{Wires}
 use Rattle.rules.specs.Rules.Out.{number}
 use Rattle.rules.specs.Rules.Wires as W
 use Rattle.rules.specs.Rules.Wires.{Act, puts, gets, Board, setWire, readWire}
-use Rattle.rules.specs.Statements.Wires.{Did, overCount, put, nonePending, sentOff, Settled, notBoards, set, noWire, read}
+use Rattle.rules.specs.Statements.Wires.{Did, overCount, third, put, nonePending, sentOff, Settled, notBoards, set, noWire, read}
 
 send-did : (c : Config) (w : Wires) (ks : List ℕ) → sent w (operatingCount (c .r020)) ≡ ks → Did c w gets (W.sentOut w ks)
 send-did c w [] e = nonePending e
@@ -32,7 +33,9 @@ send-did c w (k ∷ ks) e = sentOff e
 
 pub did : (c : Config) (w : Wires) (a : Act) → Did c w a (W.acting c w a)
 unfolding W.putVwire W.getVwire
-did c w (puts n pairs) = pick-ind (Did c w (puts n pairs)) (ltb (operatingCount (c .r020)) n) overCount put
+did c w (puts n pairs) =
+    pick-ind (Did c w (puts n pairs)) (ltb (operatingCount (c .r020)) n) overCount
+    (λ e. pick-ind (Did c w (puts n pairs)) (thirdTransition w pairs) (third e) (put e))
 did c w gets = send-did c w (sent w (operatingCount (c .r020))) refl
 
 read-settled : (c : Config) (w : Wires) (index bit : ℕ) (t : Bool) → definedBit index bit ≡ t

@@ -8,6 +8,7 @@ use Rattle.base.specs.Pick.{pick}
 use Rattle.registers.specs.Registers.{on1, operatingCount}
 use Rattle.registers.specs.declared.Config.{Config}
 use Rattle.wires.specs.Groups as G
+use Rattle.wires.specs.Transitions.{thirdTransition}
 use Rattle.wires.specs.Groups.{putPairs, sent, packetOf, afterSent, enabled, disabled, settable, definedBit, freshWires, platformWires}
 use Rattle.wires.specs.declared.Wires.{Wires}
 use Rattle.command.specs.declared.WiresCommand.{WiresCommand}
@@ -34,11 +35,13 @@ abbrev pub actOf : WiresCommand → List ℕ → Act
 actOf (PutVwire n) b = puts n (take (n * 2) (drop 2 b))
 actOf GetVwire b = gets
 
--- "PUT_VWIRE over the operating count is 1"; else it "applies pairs in order" (01, Size rules; Wires)
+-- "PUT_VWIRE over the operating count is 1" (01, Size rules); a third transition of a wire too: "such a PUT_VWIRE refused with FATAL (number 1) and no wire
+-- changed", "The check comes after the operating count" (02, Q-6); else it "applies pairs in order" (01, Wires)
 unfoldable pub putVwire : Config → Wires → ℕ → List ℕ → WiresChange
 putVwire c w n pairs =
     pick (ltb (operatingCount (c .r020)) n) (change w fatal)
-    (change (putPairs w pairs) (accept B.Nothing K.Nothing))
+    (pick (thirdTransition w pairs) (change w fatal)
+    (change (putPairs w pairs) (accept B.Nothing K.Nothing)))
 
 -- "GET_VWIRE with nothing pending" is 1; else the packet goes out, "and their pending marks go" (01, Replies and refusals; Wires)
 abbrev pub sentOut : Wires → List ℕ → WiresChange

@@ -35,6 +35,11 @@ abbrev pub sizeRows : (k : Channel) → Config → List ℕ → List Row
 sizeRows peripheral c b = P.sizeRows c b
 sizeRows wires c b = W.sizeRows c b
 
+-- "The check comes after the operating count" (02, Q-6): 1, channel 1's own
+abbrev pub transitionRows : (k : Channel) → Part k → List ℕ → List Row
+transitionRows peripheral p b = []
+transitionRows wires p b = W.transitionRows p b
+
 -- "their own from 20 up", each channel its own (01, Replies and refusals)
 abbrev pub boardRows : (k : Channel) → Part k → Board k → List Row
 boardRows peripheral p o = P.boardRows p o
@@ -123,15 +128,20 @@ valueForbidden a v =
 abbrev pub valueRows : List ℕ → List Row
 valueRows b = row 2 (eqb (byte b 0) 0x22 && valueForbidden (registerAt b) (registerValue b)) ∷ []
 
--- ---- an exchange: "10, 11, empty (12), 13, 14, a missing header byte needed next (12) or 15, exact length (12), 16, credit (1), size (1), 2"
+-- ---- an exchange: "10, 11, empty (12), 13, 14, a missing header byte needed next (12) or 15, exact length (12), 16, credit (1), size (1), 2"; a third
+-- transition (1) after size (02, Q-6)
 
 -- "size (1)", of all channels (01, Replies and refusals)
 abbrev pub allSizes : Config → List ℕ → List Row
 allSizes c b = byChannel (λ (k : Channel). sizeRows k c b)
 
--- after the decoder: credit, size, 2 ("16, credit (1), size (1), 2", 01, Replies and refusals)
+-- after the decoder: "16, credit (1), size (1), 2" (01, Replies and refusals); with size, "after the operating count", transitions (1) (02, Q-6)
 abbrev pub laterRows : State → List ℕ → List Row
-laterRows s b = byChannel (λ (k : Channel). creditRows k (part k s) b) ++ (allSizes (s .config) b ++ valueRows b)
+laterRows s b =
+    byChannel (λ (k : Channel). creditRows k (part k s) b)
+    ++ (allSizes (s .config) b
+    ++ (byChannel (λ (k : Channel). transitionRows k (part k s) b)
+    ++ valueRows b))
 
 -- the decoder's rows come first: "A decode that gives no command ends the exchange at once" (01, Replies and refusals)
 abbrev pub commandRows : State → List ℕ → List Row

@@ -1,4 +1,4 @@
--- P23. Bench lines (01, Bench lines; outside vectors; 02, Q-5): one table, one statement. A row: the calls before it from a fresh world, the command, its
+-- P23. Bench lines (01, Bench lines; outside vectors; 02, Q-5, Q-6): one table, one statement. A row: the calls before it from a fresh world, the command, its
 -- number and its whole reply. The set-ups are real commands; replies were made by hand and a CRC program that shares nothing with this repository.
 use Prim.Native.Nat.{ℕ, zero, suc}
 use mathlib.Core.List.{List, [], _∷_, _++_}
@@ -37,6 +37,22 @@ high (suc n) l = 0x02 ∷ 0x11 ∷ high n l
 -- PUT_VWIRE of 64 pairs; the last says that PLTRST# is high
 abbrev put64 : List ℕ
 put64 = 0x04 ∷ 0x3F ∷ high 63 (0x03 ∷ 0x22 ∷ 0x2D ∷ [])
+
+-- channel 1 on with an operating count of 4
+abbrev on4 : List ℕ
+on4 = 0x22 ∷ 0x00 ∷ 0x20 ∷ 0x01 ∷ 0x00 ∷ 0x03 ∷ 0x00 ∷ 0x55 ∷ []
+
+-- PUT_VWIRE: SLP_S3# high
+abbrev highOnce : List ℕ
+highOnce = 0x04 ∷ 0x00 ∷ 0x02 ∷ 0x11 ∷ 0x05 ∷ []
+
+-- PUT_VWIRE: SLP_S3# high, low, high
+abbrev highLowHigh : List ℕ
+highLowHigh = 0x04 ∷ 0x02 ∷ 0x02 ∷ 0x11 ∷ 0x02 ∷ 0x10 ∷ 0x02 ∷ 0x11 ∷ 0x24 ∷ []
+
+-- PUT_VWIRE of 64 pairs: SLP_S3# high 62 times, low, high
+abbrev third64 : List ℕ
+third64 = 0x04 ∷ 0x3F ∷ high 62 (0x02 ∷ 0x10 ∷ 0x02 ∷ 0x11 ∷ 0xCA ∷ [])
 
 -- 010h: read size 256, payload size 64
 abbrev r256p64 : List ℕ
@@ -172,6 +188,21 @@ rows =
     (0x08 ∷ 0x07 ∷ 0x00 ∷ 0x3A ∷ [])
     -- at an operating count of 63 they are too many
     ∷ row (send on63 ∷ []) put64 1
+    (0x03 ∷ 0x07 ∷ 0x00 ∷ 0xD6 ∷ [])
+    -- an operating count of 4, SLP_S3# low: a third transition is refused (02, Q-6)
+    ∷ row (send on4 ∷ []) highLowHigh 1
+    (0x03 ∷ 0x07 ∷ 0x00 ∷ 0xD6 ∷ [])
+    -- .. two are not
+    ∷ row (send on4 ∷ []) (0x04 ∷ 0x01 ∷ 0x02 ∷ 0x11 ∷ 0x02 ∷ 0x10 ∷ 0x79 ∷ []) 0
+    (0x08 ∷ 0x07 ∷ 0x00 ∷ 0x3A ∷ [])
+    -- SLP_S3# high: the same three pairs have two
+    ∷ row (send on4 ∷ send highOnce ∷ []) highLowHigh 0
+    (0x08 ∷ 0x07 ∷ 0x00 ∷ 0x3A ∷ [])
+    -- .. low, high, low have three
+    ∷ row (send on4 ∷ send highOnce ∷ []) (0x04 ∷ 0x02 ∷ 0x02 ∷ 0x10 ∷ 0x02 ∷ 0x11 ∷ 0x02 ∷ 0x10 ∷ 0x2A ∷ []) 1
+    (0x03 ∷ 0x07 ∷ 0x00 ∷ 0xD6 ∷ [])
+    -- the third in the last of 64 pairs
+    ∷ row (send on64 ∷ []) third64 1
     (0x03 ∷ 0x07 ∷ 0x00 ∷ 0xD6 ∷ [])
     ∷ []
 

@@ -10,6 +10,7 @@ use Rattle.wires.specs.Table.{rowAt}
 use Rattle.wires.specs.Groups as G
 use Rattle.wires.specs.Groups.{levelAt, markAt, groupByte, isDown, definedBit}
 use Rattle.wires.specs.Changes.{lastNamed}
+use Rattle.wires.specs.Transitions.{valuesGiven, transitions}
 use Rattle.wires.specs.Sent.{pendingCount}
 use Rattle.wires.specs.declared.Wires.{Wires}
 use Rattle.state.specs.Status.{status}
@@ -27,8 +28,10 @@ wireOf w i bit = G.readWire (wiresOf w) i bit
 
 -- ---- PUT_VWIRE
 
--- "applies pairs in order; only valid and defined bits of down groups change, other groups are passed over"
+-- few: no "third transition of a wire in one packet" (02, Q-6); then it "applies pairs in order; only valid and defined bits of down groups change, other
+-- groups are passed over" (01, Wires)
 pub record Put (w v : World) (given : List ℕ) : Type 0 where
+  pub few : (i bit : ℕ) → isDown i ≡ true → definedBit i bit ≡ true → transitions (wireOf w i bit ∷ valuesGiven given i bit) ≤ 2
   pub bits : (i bit : ℕ) → isDown i ≡ true → definedBit i bit ≡ true → wireOf v i bit ≡ lastNamed given i bit (wireOf w i bit)
   pub undefinedBits : (i bit : ℕ) → isDown i ≡ true → bit < 4 → definedBit i bit ≡ false → wireOf v i bit ≡ wireOf w i bit
   pub otherGroups : (i : ℕ) → 2 ≤ i → isDown i ≡ false → levelAt (wiresOf v) i ≡ levelAt (wiresOf w) i

@@ -1,10 +1,11 @@
 -- All that a call can do to the wires, by the call's event. The theorems about wires go by cases on it and look at no command again.
 use Prim.Native.Nat.{ℕ, _-_}
-use mathlib.Core.Bool.{true}
+use mathlib.Core.Bool.{true, false}
 use mathlib.Core.List.{List, _∷_}
 use mathlib.Core.Path.{_≡_}
 use lib.ListN.{length}
 use Rattle.wires.specs.Groups as G
+use Rattle.wires.specs.Transitions.{thirdTransition}
 use Rattle.wires.specs.Groups.{settable, putPairs, pairBytes, afterSent, freshWires, platformWires}
 use Rattle.state.specs.Status.{status}
 use Rattle.rules.specs.Rules.Wires as W
@@ -22,12 +23,13 @@ setsWire index bit value = board wires (W.setWire index bit value)
 abbrev pub readsWire : (index bit : ℕ) → Call
 readsWire index bit = board wires (W.readWire index bit)
 
--- put: "PUT_VWIRE applies pairs in order"; sent: "GET_VWIRE sends min(pending, operating count) groups"; set: "The board sets one defined bit of an up
+-- put: "PUT_VWIRE applies pairs in order", and no wire has "a third transition" (02, Q-6); sent: "GET_VWIRE sends min(pending, operating count) groups"; set: "The board sets one defined bit of an up
 -- group"; enabled: "Enabling it from disabled"; disabled: "Disabling channel 1 drops pending marks and keeps values" (01, Wires); wiped, platformWiped:
 -- "eSPI reset also resets all registers and groups", "Platform reset also resets 010h and wire groups 6 and 7" (01, Requests, answers, pieces)
 pub data WireMove (w : World) (c : Call) (o : Outcome) : WireEvent → Type 0 where
   still : wiresOf (o .next) ≡ wiresOf w → WireMove w c o idle
-  put : (b r : List ℕ) → c ≡ exchange b r → wiresOf (o .next) ≡ putPairs (wiresOf w) (pairs b) → WireMove w c o puts
+  put : (b r : List ℕ) → c ≡ exchange b r → thirdTransition (wiresOf w) (pairs b) ≡ false → wiresOf (o .next) ≡ putPairs (wiresOf w) (pairs b)
+      → WireMove w c o puts
   sent : (k : ℕ) (ks : List ℕ) → G.sent (wiresOf w) (countOf w) ≡ k ∷ ks
       → wiresOf (o .next) ≡ afterSent (wiresOf w) (G.sent (wiresOf w) (countOf w))
       → o .reply ≡ closed (0x08 ∷ (length (G.sent (wiresOf w) (countOf w)) - 1) ∷ pairBytes (wiresOf w) (G.sent (wiresOf w) (countOf w)))

@@ -10,6 +10,7 @@ use lib.Dec.{ltb}
 use Rattle.registers.specs.Registers.{on1, operatingCount}
 use Rattle.registers.specs.declared.Config.{Config}
 use Rattle.wires.specs.Groups as G
+use Rattle.wires.specs.Transitions.{thirdTransition}
 use Rattle.wires.specs.Groups.{putPairs, sent, packetOf, afterSent, settable, definedBit}
 use Rattle.wires.specs.declared.Wires.{Wires}
 use Rattle.rules.specs.Rules.Numbers.{noSuchWire}
@@ -21,11 +22,14 @@ use Rattle.rules.specs.declared.WiresChange.{WiresChange}
 
 -- ---- commands
 
--- overCount: "PUT_VWIRE over the operating count is 1"; nonePending: 1, "GET_VWIRE with nothing pending" (01, Replies and refusals); put: "PUT_VWIRE applies
--- pairs in order"; sentOff: "GET_VWIRE sends min(pending, operating count) groups" (01, Wires)
+-- overCount: "PUT_VWIRE over the operating count is 1"; nonePending: 1, "GET_VWIRE with nothing pending" (01, Replies and refusals); third: "refused with
+-- FATAL (number 1) and no wire changed" (02, Q-6); put: "PUT_VWIRE applies pairs in order"; sentOff: "GET_VWIRE sends min(pending, operating count) groups"
+-- (01, Wires)
 pub data Did (c : Config) (w : Wires) : Act → WiresChange → Type 0 where
   overCount : {n : ℕ} {pairs : List ℕ} → ltb (operatingCount (c .r020)) n ≡ true → Did c w (puts n pairs) (change w fatal)
-  put : {n : ℕ} {pairs : List ℕ} → ltb (operatingCount (c .r020)) n ≡ false → Did c w (puts n pairs) (change (putPairs w pairs) (accept B.Nothing K.Nothing))
+  third : {n : ℕ} {pairs : List ℕ} → ltb (operatingCount (c .r020)) n ≡ false → thirdTransition w pairs ≡ true → Did c w (puts n pairs) (change w fatal)
+  put : {n : ℕ} {pairs : List ℕ} → ltb (operatingCount (c .r020)) n ≡ false → thirdTransition w pairs ≡ false
+      → Did c w (puts n pairs) (change (putPairs w pairs) (accept B.Nothing K.Nothing))
   nonePending : sent w (operatingCount (c .r020)) ≡ [] → Did c w gets (change w fatal)
   sentOff : {k : ℕ} {ks : List ℕ} → sent w (operatingCount (c .r020)) ≡ k ∷ ks
       → Did c w gets (change (afterSent w (k ∷ ks)) (accept (B.Groups (packetOf w (k ∷ ks))) K.Nothing))

@@ -11,7 +11,7 @@ use Rattle.engine.proofs.wires_channel.decide.Tie as tie
 put-vwire-requires : tie.Need-put-vwire-requires
 put-vwire-requires c κs =
     let f = subst (λ (z : WiresCommand). WiresFits z (now (c .before .before .before .before .args .b))) (c .before .o .given .1)
-    (c .before .before .before .before .pre .2) in omega (arith, f .0)
+    (c .before .before .before .before .pre .2) in (c .before .before .before .before .pre .1, omega (arith, f .0))
 
 returns : tie.Need-returns
 unfolding decide

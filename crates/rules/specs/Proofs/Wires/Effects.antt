@@ -24,7 +24,8 @@ use Rattle.rules.specs.declared.WiresChange.{WiresChange}
 pub command-row : {c : Config} {v : Wires} {b : List ℕ} {a : W.Act} {x : WiresChange} → L.Did c v a x → S.Wires b a
     → Becomes wires (commandPart c v b) (λ l. l) b x
 command-row (L.overCount e) r z = absurd (omega arith)
-command-row (L.put e) (S.Wires.puts h) z = (rw h, over-none)
+command-row (L.third e f) r z = absurd (omega arith)
+command-row (L.put e f) (S.Wires.puts h) z = (rw h, over-none)
 command-row (L.nonePending e) r z = absurd (omega arith)
 command-row {v = v} (L.sentOff e) (S.Wires.gets h) z = (rw h (ap (afterSent v) (sym e)), over-none)
 

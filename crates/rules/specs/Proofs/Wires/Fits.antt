@@ -13,12 +13,13 @@ use Rattle.wires.specs.Sent.{sent-fits}
 use Rattle.wires.specs.declared.Wires.{Wires}
 use Rattle.rules.specs.Rules.Wires.{Act}
 use Rattle.rules.specs.Rules.Fits.{OutFits}
-use Rattle.rules.specs.Statements.Wires.{Did, overCount, put, nonePending, sentOff}
+use Rattle.rules.specs.Statements.Wires.{Did, overCount, third, put, nonePending, sentOff}
 use Rattle.rules.specs.declared.WiresChange.{WiresChange}
 
 pub fits : (m : ℕ) {c : Config} {w : Wires} {a : Act} {x : WiresChange} → soundWires (on1 (c .r020)) w ≡ true → Did c w a x → OutFits m w (x .out)
 fits m h (overCount e) = (tt, tt)
-fits m h (put e) = (tt, tt)
+fits m h (third e f) = (tt, tt)
+fits m h (put e f) = (tt, tt)
 fits m h (nonePending e) = (tt, tt)
 fits m {c} {w} h (sentOff e) =
     let n = ap length e in

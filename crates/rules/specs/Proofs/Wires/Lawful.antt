@@ -14,7 +14,8 @@ use Rattle.rules.specs.declared.WiresChange.{WiresChange}
 
 pub acts : {c : Config} {p : Wires} {a : W₀.Act} {x : WiresChange} → W.Did c p a x → Acts wires p a x
 acts (W.overCount e) = L.Acts.refused
-acts (W.put e) = L.Acts.accepted _ _ _ refl refl
+acts (W.third e f) = L.Acts.refused
+acts (W.put e f) = L.Acts.accepted _ _ _ refl refl
 acts (W.nonePending e) = L.Acts.refused
 acts (W.sentOff e) = L.Acts.accepted _ _ _ refl refl
 
@@ -26,7 +27,8 @@ settles (W.read e) = L.Settles.accepted _ _ refl
 
 pub acts-keep : {c : Config} {p : Wires} {a : W₀.Act} {x : WiresChange} → W.Did c p a x → keptCount (x .out .kept) ≤ 0
 acts-keep (W.overCount e) = zero-le
-acts-keep (W.put e) = zero-le
+acts-keep (W.third e f) = zero-le
+acts-keep (W.put e f) = zero-le
 acts-keep (W.nonePending e) = zero-le
 acts-keep (W.sentOff e) = zero-le
 

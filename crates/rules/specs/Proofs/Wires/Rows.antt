@@ -12,6 +12,7 @@ use Rattle.registers.specs.Registers.{on1, operatingCount}
 use Rattle.registers.specs.declared.Config.{Config}
 use Rattle.wires.specs.Groups.{sent, anyPending, soundWires, definedBit, settable}
 use Rattle.wires.specs.Kept.{sound-view}
+use Rattle.wires.specs.Transitions.{thirdTransition}
 use Rattle.wires.specs.Sent.{sent-none, sent-some, pending-any}
 use Rattle.wires.specs.declared.Wires.{Wires}
 use Rattle.state.specs.declared.State.{State}
@@ -20,14 +21,14 @@ use Rattle.rules.specs.Statements.Fields.{byte, groups, pairs}
 use Rattle.rules.specs.Statements.Reads as Read
 use Rattle.rules.specs.Statements.Rows.{firstOf}
 use Rattle.rules.specs.Statements.Wires as W
-use Rattle.rules.specs.Statements.Wires.Rows.{groupPending, wireDefined, wireOfBoard, boardRows}
+use Rattle.rules.specs.Statements.Wires.Rows.{groupPending, moreThanTwo, moreInGroup, wireDefined, wireOfBoard, boardRows}
 use Rattle.rules.specs.Statements.FirstApplies.{laterRows}
 use Rattle.rules.specs.declared.WiresChange.{WiresChange}
 
 -- ---- the number by the tests that led to it
 
 abbrev numberFor : Config → Wires → Act → ℕ
-numberFor c w (puts n pairs) = pick (ltb (operatingCount (c .r020)) n) 1 0
+numberFor c w (puts n pairs) = pick (ltb (operatingCount (c .r020)) n) 1 (pick (thirdTransition w pairs) 1 0)
 numberFor c w gets = pick (not (groupPending w)) 1 0
 
 -- GET_VWIRE: nothing is sent exactly where nothing is pending
@@ -50,17 +51,40 @@ module _ (c : Config) (w : Wires) (sound : soundWires (on1 (c .r020)) w ≡ true
       go false h = let v = sound-view (on1 (c .r020)) w sound in absurd (omega (arith, ap length (sym e ∙ sent-none w count (v .from) (v .upto) h)))
 
   did-number : {a : Act} {x : WiresChange} → W.Did c w a x → x .out .number ≡ numberFor c w a
-  did-number (W.overCount e) = taken 1 0 e refl
-  did-number (W.put e) = passed 1 0 e refl
+  did-number (W.overCount e) = taken 1 _ e refl
+  did-number (W.third e f) = passed 1 _ e (taken 1 0 f refl)
+  did-number (W.put e f) = passed 1 _ e (passed 1 0 f refl)
   did-number (W.nonePending e) = taken 1 0 (none-pending e) refl
   did-number (W.sentOff e) = passed 1 0 (some-pending e) refl
 
 -- ---- the rows of its commands: those of another opcode compute away
 
+-- the wires of the host's: bits 2:0 of groups 2, 3 and 7
+module _ (w : Wires) (b : List ℕ) where
+  nine : (p q r s t u x y z : Bool)
+      → ((((((((p || q) || r) || false) || (((s || t) || u) || false)) || false) || false) || false) || (((x || y) || z) || false))
+      ≡ ((p || (q || r)) || ((s || (t || u)) || (x || (y || z))))
+  nine true q r s t u x y z = refl
+  nine false true r s t u x y z = refl
+  nine false false true s t u x y z = refl
+  nine false false false true t u x y z = refl
+  nine false false false false true u x y z = refl
+  nine false false false false false true x y z = refl
+  nine false false false false false false true y z = refl
+  nine false false false false false false false true z = refl
+  nine false false false false false false false false true = refl
+  nine false false false false false false false false false = refl
+
+  third-as : thirdTransition w (pairs b) ≡ (moreInGroup w b 2 || (moreInGroup w b 3 || moreInGroup w b 7))
+  unfolding thirdTransition
+  third-as =
+      nine (moreThanTwo w b 2 0) (moreThanTwo w b 2 1) (moreThanTwo w b 2 2) (moreThanTwo w b 3 0) (moreThanTwo w b 3 1) (moreThanTwo w b 3 2)
+      (moreThanTwo w b 7 0) (moreThanTwo w b 7 1) (moreThanTwo w b 7 2)
+
 module _ (s : State) where
   put-rows : (b : List ℕ) → byte b 0 ≡ 0x04 → numberFor (s .config) (s .wires) (puts (groups b) (pairs b)) ≡ firstOf (laterRows s b)
   put-rows [] h = absurd (omega arith)
-  put-rows (op ∷ r) h = rw h refl
+  put-rows (op ∷ r) h = rw h (ap (λ (t : Bool). pick (ltb (operatingCount (s .config .r020)) (groups (0x04 ∷ r))) 1 (pick t 1 0)) (third-as (s .wires) (0x04 ∷ r)))
 
   get-rows : (b : List ℕ) → byte b 0 ≡ 0x05 → numberFor (s .config) (s .wires) gets ≡ firstOf (laterRows s b)
   get-rows [] h = absurd (omega arith)

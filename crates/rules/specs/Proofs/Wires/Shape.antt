@@ -42,6 +42,7 @@ module _ (s : State) (reads : List ℕ) where
   pub acts-shape : (op : ℕ) {a : W₀.Act} {x : WiresChange} → W.Did (s .config) (s .wires) a x → WireOpcode a op → ShapeOf s reads op (lift wires s x)
   unfolding lift replyBytes closed
   acts-shape op (W.overCount e) h = refl
-  acts-shape op (W.put e) h = at s op 0x04 h (bare s 0x04 0x08 _ refl)
+  acts-shape op (W.third e f) h = refl
+  acts-shape op (W.put e f) h = at s op 0x04 h (bare s 0x04 0x08 _ refl)
   acts-shape op (W.nonePending e) h = refl
   acts-shape op (W.sentOff {k} {ks} e) h = at s op 0x05 h (packet-shape _ _ k ks (omega arith) e)

@@ -12,7 +12,7 @@ use Rattle.rules.specs.Rules.Reset.{Reset, start, espiReset, platformRes
 use Rattle.rules.specs.Rules.Wires as W₀
 use Rattle.rules.specs.Rules.Wires.{Act, Board}
 use Rattle.rules.specs.Rules.Exchange.{configReset}
-use Rattle.rules.specs.Statements.Wires.{Did, overCount, put, nonePending, sentOff, Settled, notBoards, set, noWire, read}
+use Rattle.rules.specs.Statements.Wires.{Did, overCount, third, put, nonePending, sentOff, Settled, notBoards, set, noWire, read}
 use Rattle.rules.specs.declared.WiresChange.{WiresChange}
 
 pub record WiresOk (on : Bool) (w : Wires) : Type 0 where
@@ -43,7 +43,8 @@ edge-ok false false w h = h
 
 pub acts-ok : {on : Bool} {c : Config} {w : Wires} {a : Act} {x : WiresChange} → WiresOk on w → Did c w a x → WiresOk on (x .next)
 acts-ok h (overCount e) = h
-acts-ok h (put e) = put-ok h _
+acts-ok h (third e f) = h
+acts-ok h (put e f) = put-ok h _
 acts-ok h (nonePending e) = h
 acts-ok {on} {c} {w} h (sentOff e) = subst (λ (l : List ℕ). WiresOk on (afterSent w l)) e (send-ok h _)
 

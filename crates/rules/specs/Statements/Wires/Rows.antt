@@ -1,4 +1,4 @@
--- Channel 1's rows, in document 01's order and words: credit (1), size (1), and its board calls' own (22).
+-- Channel 1's rows, in the order and words of documents 01 and 02: credit (1), size (1), transitions (1), and its board calls' own (22).
 use Prim.Native.Nat.{ℕ, _+_}
 use mathlib.Core.Bool.{Bool, false, _&&_, _||_, not}
 use mathlib.Core.List.{List, [], _∷_}
@@ -6,9 +6,11 @@ use lib.Dec.{eqb, ltb}
 use lib.ListN.{getD}
 use Rattle.registers.specs.Registers.{bits}
 use Rattle.registers.specs.declared.Config.{Config}
+use Rattle.wires.specs.Groups.{readWire as levelOf}
+use Rattle.wires.specs.Transitions.{valuesGiven, transitions}
 use Rattle.wires.specs.declared.Wires.{Wires}
 use Rattle.rules.specs.Rules.Wires.{Board, setWire, readWire}
-use Rattle.rules.specs.Statements.Fields.{byte, groups}
+use Rattle.rules.specs.Statements.Fields.{byte, groups, pairs}
 use Rattle.rules.specs.Statements.Rows.{Row, row}
 
 -- the marks of groups 4, 5 and 6; group 2 stands first ("up groups alone are pending", 01, Sound state)
@@ -22,6 +24,18 @@ creditRows w b = row 1 (eqb (byte b 0) 0x05 && not (groupPending w)) ∷ []
 -- "PUT_VWIRE over the operating count is 1" (01, Size rules)
 abbrev pub sizeRows : Config → List ℕ → List Row
 sizeRows c b = row 1 (eqb (byte b 0) 0x04 && ltb (bits 21 16 (c .r020 .value) + 1) (groups b)) ∷ []
+
+-- "A transition is a value differing from the one just before, beginning with the held value" (02, Q-6): a wire has more than two
+abbrev pub moreThanTwo : Wires → List ℕ → ℕ → ℕ → Bool
+moreThanTwo w b i bit = ltb 2 (transitions (levelOf w i bit ∷ valuesGiven (pairs b) i bit))
+
+-- one of a group's three wires, bits 2:0 (01, Wires: "2 down 7h; 3 down 7h ..; 7 down 7h")
+abbrev pub moreInGroup : Wires → List ℕ → ℕ → Bool
+moreInGroup w b i = moreThanTwo w b i 0 || (moreThanTwo w b i 1 || moreThanTwo w b i 2)
+
+-- "a third transition of a wire in one packet", of a wire of a group that goes down: 2, 3 or 7 (02, Q-6; 01, Wires)
+abbrev pub transitionRows : Wires → List ℕ → List Row
+transitionRows w b = row 1 (eqb (byte b 0) 0x04 && (moreInGroup w b 2 || (moreInGroup w b 3 || moreInGroup w b 7))) ∷ []
 
 -- the defined bits of the table: 2, 3 and 7 have 7h, 4 has Dh, 5 and 6 have Fh (01, Wires; 004, tables 9 to 14)
 abbrev pub wireDefined : ℕ → ℕ → Bool

@@ -1,39 +1,47 @@
 use Prim.Native.Nat.{ℕ, _≤_, _+_, _*_, _-_}
 use mathlib.Core.Path.{_≡_, refl, sym, ap, _∙_}
 use native.Mathlib.Omega.{arith}
-use lib.ListN.{take, drop}
-use Rattle.wires.specs.declared.Wires.{Wires}
-use Rattle.wires.specs.Changes.{pairs-next, pairs-done}
-use Rattle.wires.specs.Groups.{putPairs}
+use lib.ListN.{length, take, drop}
+use borrow.Author.Tests.{eq-eqb}
+use Rattle.base.specs.Pick.{and-true}
+use Rattle.wires.specs.declared.Course.{Course}
+use Rattle.wires.specs.Course.{courseOf, pastPairs, pairs-next, pairs-done, put-done}
+use borrow.Author.Needs.{needs}
 use Rattle.wires.proofs.Wires.put.Statement.{statement}
 use Rattle.wires.proofs.Wires.put.Tie as tie
 
 abbrev Inv-loop : tie.InvT-loop
-Inv-loop pairs n next₀ i₀ next i = (i ≤ n) × (putPairs next (drop (i * 2) (take (n * 2) pairs)) ≡ putPairs next₀ (take (n * 2) pairs))
+Inv-loop self pairs n course₀ i₀ course i =
+    (i ≤ n) × (pastPairs course (drop (i * 2) (take (n * 2) pairs)) ≡ pastPairs (courseOf self) (take (n * 2) pairs))
 
 abbrev μ-loop : tie.MeasureT-loop
-μ-loop pairs n next₀ i₀ next i = n - i
+μ-loop self pairs n course₀ i₀ course i = n - i
+
+course-requires : tie.Need-course-requires Inv-loop μ-loop
+course-requires c κs = c .before .pre .1
 
 loop-holds : tie.Need-loop-holds Inv-loop μ-loop
-loop-holds c = (omega arith, refl)
+loop-holds c =
+    let a = c .before .before .args in
+    (omega arith, ap (λ (v : Course). pastPairs v (take (a .n * 2) (a .pairs .now))) (c .course .ensures))
 
-mul-put-pair : tie.Need-mul-put-pair Inv-loop μ-loop
-mul-put-pair c = omega arith
+mul-past : tie.Need-mul-past Inv-loop μ-loop
+mul-past c = omega arith
 
-shared-slice-read-put-pair : tie.Need-shared-slice-read-put-pair Inv-loop μ-loop
-shared-slice-read-put-pair c = omega arith
+shared-slice-read-past : tie.Need-shared-slice-read-past Inv-loop μ-loop
+shared-slice-read-past c = omega (arith, c .before .before .before .before .before .pre .0)
 
-mul-put-pair-2 : tie.Need-mul-put-pair-2 Inv-loop μ-loop
-mul-put-pair-2 c = omega arith
+mul-past-2 : tie.Need-mul-past-2 Inv-loop μ-loop
+mul-past-2 c = omega arith
 
-add-put-pair : tie.Need-add-put-pair Inv-loop μ-loop
-add-put-pair c = omega arith
+add-past : tie.Need-add-past Inv-loop μ-loop
+add-past c = omega arith
 
-shared-slice-read-put-pair-2 : tie.Need-shared-slice-read-put-pair-2 Inv-loop μ-loop
-shared-slice-read-put-pair-2 c = omega arith
+shared-slice-read-past-2 : tie.Need-shared-slice-read-past-2 Inv-loop μ-loop
+shared-slice-read-past-2 c = omega (arith, c .before .before .before .before .before .before .pre .0)
 
-put-pair-requires : tie.Need-put-pair-requires Inv-loop μ-loop
-put-pair-requires c κs = tt
+past-requires : tie.Need-past-requires Inv-loop μ-loop
+past-requires c κs = tt
 
 add-i : tie.Need-add-i Inv-loop μ-loop
 add-i c = omega arith
@@ -44,20 +52,30 @@ loop-less c = omega arith
 loop-again : tie.Need-loop-again Inv-loop μ-loop
 loop-again c =
     let l = c .before .before .before .before .loop in
-    let a = c .before .before .before .before .before .before .args in (
+    let s = c .before .before .before .before .before .before .before in
+    let a = s .args in (
       omega arith,
-      ap (λ (w : Wires). putPairs w (drop ((l .i + 1) * 2) (take (a .n * 2) (a .pairs .now)))) (c .put-pair .ensures)
-          ∙ pairs-next (l .next) (a .pairs .now) (a .n) (l .i) (c .before .before .before .loop-test .taken)
-          (c .before .before .before .before .before .before .pre)
+      ap (λ (v : Course). pastPairs v (drop ((l .i + 1) * 2) (take (a .n * 2) (a .pairs .now)))) (c .past .ensures)
+          ∙ pairs-next (l .course) (a .pairs .now) (a .n) (l .i) (c .before .before .before .loop-test .taken) (s .pre .0)
           ∙ l .inv .1,
     )
 
+with-levels-requires : tie.Need-with-levels-requires Inv-loop μ-loop
+with-levels-requires c κs = tt
+
 returns : tie.Need-returns Inv-loop μ-loop
 returns c =
-    let l = c .before .loop in
-    let a = c .before .before .before .args in
+    let l = c .before .before .before .loop in
+    let s = c .before .before .before .before .before .before in
+    let a = s .args in
+    let levels : length (a .self .level) ≡ 6 = search needs in
+    let marks : length (a .self .pending) ≡ 6 = search needs in
     let e : l .i ≡ a .n = omega arith in
-    sym (pairs-done (l .next) (a .pairs .now) (a .n)) ∙ ap (λ (i : ℕ). putPairs (l .next) (drop (i * 2) (take (a .n * 2) (a .pairs .now)))) (sym e) ∙ l .inv .1
+    put-done (a .self) (and-true (eq-eqb _ 6 levels) (eq-eqb _ 6 marks)) (s .pre .1) (take (a .n * 2) (a .pairs .now)) (l .course) _
+    (sym (pairs-done (l .course) (a .pairs .now) (a .n))
+    ∙ ap (λ (i : ℕ). pastPairs (l .course) (drop (i * 2) (take (a .n * 2) (a .pairs .now)))) (sym e)
+    ∙ l .inv .1)
+    (c .with-levels .ensures)
 
 pub put-spec : {M : Type 1} → statement M
 put-spec =
@@ -65,14 +83,16 @@ put-spec =
     (tie.spec
     Inv-loop
     μ-loop
+    course-requires
     loop-holds
-    mul-put-pair
-    shared-slice-read-put-pair
-    mul-put-pair-2
-    add-put-pair
-    shared-slice-read-put-pair-2
-    put-pair-requires
+    mul-past
+    shared-slice-read-past
+    mul-past-2
+    add-past
+    shared-slice-read-past-2
+    past-requires
     add-i
     loop-less
     loop-again
+    with-levels-requires
     returns)
