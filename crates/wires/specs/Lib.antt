@@ -11,6 +11,8 @@ pub mod Changes
 pub mod Transitions
 pub mod Lanes
 pub mod Course
+pub mod OneWire
+pub mod WholePacket
 pub mod Sent
 pub mod Layout
 pub mod Tidy

@@ -1,6 +1,6 @@
 -- P19 and P20 of `step`, from the view and the laws of the wires.
-use Prim.Native.Nat.{ℕ, zero, suc, _+_, _-_, _/_, _%_, _^_, _<_, _≤_}
-use mathlib.Core.Bool.{Bool, true, false, _&&_, not, true≢false}
+use Prim.Native.Nat.{ℕ, zero, suc, _+_, _-_, _<_, _≤_}
+use mathlib.Core.Bool.{Bool, true, false, not, true≢false}
 use mathlib.Core.List.{List, [], _∷_, _++_, List·Memᴰ, List·Memᴰ·head, List·Memᴰ·tail, List·Memᴰ·not-nil, List·Memᴰ·cases-cons}
 use mathlib.Core.Logic.{⊎-elim}
 use mathlib.Core.Path.{_≡_, refl, sym, ap, ap₂, subst, _∙_}
@@ -8,13 +8,13 @@ use native.Mathlib.Omega.{arith}
 use lib.Bits.{bitAnd}
 use lib.Dec.{eqb, ltb}
 use lib.ListN.{getD, length, take}
-use borrow.Author.Tests.{eqb-true, eqb-false, eq-eqb, ltb-true, lt-ltb, not-true}
+use borrow.Author.Tests.{eqb-true, eqb-false, eq-eqb, ltb-true, not-true}
 use Rattle.base.specs.Pick.{or-second, pick, and-left, and-right}
 use Rattle.registers.specs.declared.Config.{Config}
 use Rattle.wires.specs.Below.{at-every}
 use Rattle.wires.specs.Table.{rowAt, isGroup, senders, groupAt, senderOf}
 use Rattle.wires.specs.Groups as G
-use Rattle.wires.specs.Groups.{levelAt, markAt, isDown, definedBit, settable, afterSent, groupByte, pairBytes}
+use Rattle.wires.specs.Groups.{levelAt, markAt, settable, afterSent, groupByte, pairBytes}
 use Rattle.wires.specs.Rows.{undefined-bit, settable-bit, place-up}
 use Rattle.wires.specs.Turn.{after}
 use Rattle.wires.specs.Round.{AllBelow, none, more, after-below}
@@ -55,7 +55,8 @@ put-made w o b s two e =
     record {
       few = two-at-most v (pairs b) two;
       bits = λ i bit d t. ap (λ (x : Wires). G.readWire x i bit) e ∙ put-read i bit d t v (pairs b) f;
-      undefinedBits = λ i bit d h t. ap (λ (x : Wires). G.readWire x i bit) e ∙ put-undefined i bit d h (undefined-bit i bit (and-left (isGroup i) _ d) h t) v (pairs b) f;
+      undefinedBits = λ i bit d h t.
+          ap (λ (x : Wires). G.readWire x i bit) e ∙ put-undefined i bit d h (undefined-bit i bit (and-left (isGroup i) _ d) h t) v (pairs b) f;
       otherGroups = λ i h t. ap (λ (x : Wires). levelAt x i) e ∙ put-passes v (pairs b) i h t;
       marks = ap (λ (x : Wires). x .pending) e ∙ put-marks v (pairs b);
       place = ap (λ (x : Wires). x .place) e ∙ put-place v (pairs b);

@@ -23,9 +23,10 @@ setsWire index bit value = board wires (W.setWire index bit value)
 abbrev pub readsWire : (index bit : ℕ) → Call
 readsWire index bit = board wires (W.readWire index bit)
 
--- put: "PUT_VWIRE applies pairs in order", and no wire has "a third transition" (02, Q-6); sent: "GET_VWIRE sends min(pending, operating count) groups"; set: "The board sets one defined bit of an up
--- group"; enabled: "Enabling it from disabled"; disabled: "Disabling channel 1 drops pending marks and keeps values" (01, Wires); wiped, platformWiped:
--- "eSPI reset also resets all registers and groups", "Platform reset also resets 010h and wire groups 6 and 7" (01, Requests, answers, pieces)
+-- put: "PUT_VWIRE applies pairs in order", and no wire has "a third transition" (02, Q-6); sent: "GET_VWIRE sends min(pending, operating count) groups";
+-- set: "The board sets one defined bit of an up group"; enabled: "Enabling it from disabled"; disabled: "Disabling channel 1 drops pending marks and keeps
+-- values" (01, Wires); wiped, platformWiped: "eSPI reset also resets all registers and groups", "Platform reset also resets 010h and wire groups 6 and 7"
+-- (01, Requests, answers, pieces)
 pub data WireMove (w : World) (c : Call) (o : Outcome) : WireEvent → Type 0 where
   still : wiresOf (o .next) ≡ wiresOf w → WireMove w c o idle
   put : (b r : List ℕ) → c ≡ exchange b r → thirdTransition (wiresOf w) (pairs b) ≡ false → wiresOf (o .next) ≡ putPairs (wiresOf w) (pairs b)

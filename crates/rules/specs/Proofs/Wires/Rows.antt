@@ -84,7 +84,8 @@ module _ (w : Wires) (b : List ℕ) where
 module _ (s : State) where
   put-rows : (b : List ℕ) → byte b 0 ≡ 0x04 → numberFor (s .config) (s .wires) (puts (groups b) (pairs b)) ≡ firstOf (laterRows s b)
   put-rows [] h = absurd (omega arith)
-  put-rows (op ∷ r) h = rw h (ap (λ (t : Bool). pick (ltb (operatingCount (s .config .r020)) (groups (0x04 ∷ r))) 1 (pick t 1 0)) (third-as (s .wires) (0x04 ∷ r)))
+  put-rows (op ∷ r) h =
+      rw h (ap (λ (t : Bool). pick (ltb (operatingCount (s .config .r020)) (groups (0x04 ∷ r))) 1 (pick t 1 0)) (third-as (s .wires) (0x04 ∷ r)))
 
   get-rows : (b : List ℕ) → byte b 0 ≡ 0x05 → numberFor (s .config) (s .wires) gets ≡ firstOf (laterRows s b)
   get-rows [] h = absurd (omega arith)

@@ -1,11 +1,12 @@
 use Prim.Native.Nat.{ℕ, _≤_, _+_, _*_, _-_}
-use mathlib.Core.Path.{_≡_, refl, sym, ap, _∙_}
+use mathlib.Core.Path.{_≡_, sym, ap, _∙_}
 use native.Mathlib.Omega.{arith}
 use lib.ListN.{length, take, drop}
 use borrow.Author.Tests.{eq-eqb}
 use Rattle.base.specs.Pick.{and-true}
 use Rattle.wires.specs.declared.Course.{Course}
-use Rattle.wires.specs.Course.{courseOf, pastPairs, pairs-next, pairs-done, put-done}
+use Rattle.wires.specs.Course.{courseOf, pastPairs, pairs-next, pairs-done}
+use Rattle.wires.specs.WholePacket.{put-done}
 use borrow.Author.Needs.{needs}
 use Rattle.wires.proofs.Wires.put.Statement.{statement}
 use Rattle.wires.proofs.Wires.put.Tie as tie
