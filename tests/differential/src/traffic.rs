@@ -470,8 +470,9 @@ impl Traffic {
         command
     }
 
-    /// Mostly no wire has a third transition, now and then one has three or more. The bits that do not count come as they
-    /// are. In one packet of four a wire takes the other value with nearly every pair.
+    /// Mostly no wire has a third transition; now and then one has, in the last pair or anywhere, or more of them. The bits
+    /// that do not count come as they are. Wires change with every pair or seldom, so that the last pairs of a long packet
+    /// still do something; in one packet of four one wire takes the other value with nearly every pair.
     fn put_wires(&mut self, now: &State) -> Vec<u8> {
         let limit = now.operating_count();
         let count = match self.below(10) {
@@ -483,11 +484,14 @@ impl Traffic {
         let ignored = self.pick(&[0x00, 0x00, 0x40, 0x80, 0xC0]);
         let mut command = vec![0x04, (count - 1) as u8 & 0x3F | ignored];
         let most = self.pick(&[2, 2, 2, 2, 2, 3, 64]);
+        let most_at_last = self.pick(&[2, 2, 3]).max(most);
+        let seldom = self.pick(&[1, 1 + count / 4]);
         let swings = self.once_in(4);
         let (swung, swung_bit) = (self.pick(&[2, 2, 3, 3, 7, 7, 4, 5, 6]), self.below(4));
         let mut levels = now.levels;
         let mut changes = [[0; 4]; 6];
-        for _ in 0..count {
+        for at in 1..=count {
+            let most = if at == count { most_at_last } else { most };
             let mut data = self.random.byte();
             let index = match self.below(6) {
                 0 => self.pick(&[0, 1, 4, 5, 6, 8, 64, 128 + 2, 255]),
@@ -505,7 +509,7 @@ impl Traffic {
                     if !differs || data >> (4 + bit) & 1 == 0 {
                         continue;
                     }
-                    if counted >> bit & 1 == 1 && *changes == most {
+                    if counted >> bit & 1 == 1 && (*changes == most || at < count && !self.random.once_in(seldom)) {
                         data ^= 1 << bit;
                     } else {
                         levels[row] ^= 1 << bit;
