@@ -44,7 +44,7 @@ seen-third one = refl
 seen-third two = refl
 seen-third (more n h) = ap bit (sym (lt-ltb 2 n h))
 
--- a valid value, and one that is not
+-- a valid value changes a wire exactly where it differs, and is its value then
 valid-value : {l v : ℕ} → Binary l → Binary v → (bitAnd (bitXor l v) (bitAnd 1 1) ≡ bit (not (eqb l v))) × (bitXor l (bit (not (eqb l v))) ≡ v)
 valid-value off off = (refl, refl)
 valid-value off on = (refl, refl)
@@ -84,9 +84,7 @@ module _ (i k : ℕ) (low : i < 8) (small : k < 4) where
 
   -- the words after a change of these wires, this one's bit being x
   counted-bit : {c : Course} {l n : ℕ} (x y : ℕ) → bitOf y p ≡ x → Binary x → Has c l n → Has (counted c y) (bitXor l x) (n + x)
-  counted-bit {c} {l} {n} x y e b h =
-      let o = bitOf (c .once) p in
-      let t = bitOf (c .twice) p in
+  counted-bit {c} x y e b h =
       record {
         level = xor-bit (c .level) y p ∙ ap₂ bitXor (h .level) e;
         seen = rw (

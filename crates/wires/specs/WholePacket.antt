@@ -25,10 +25,10 @@ use Rattle.wires.specs.OneWire.{none, seen-third, Has, other-pairs, Ran,
 use Rattle.wires.specs.declared.Wires.{Wires}
 use Rattle.wires.specs.declared.Course.{Course}
 
--- the down groups are 2, 3 and 7
 down-low : (i : ℕ) → isDown i ≡ true → i < 8
 down-low i e = omega (arith, in-table i (and-left (isGroup i) (rowAt (i - 2) .down) e) .upto)
 
+-- the down groups are 2, 3 and 7
 down-one : (Q : ℕ → Type 0) → Q 2 → Q 3 → Q 7 → (i : ℕ) → isDown i ≡ true → Q i
 down-one Q a b c zero e = clash e
 down-one Q a b c (suc zero) e = clash e

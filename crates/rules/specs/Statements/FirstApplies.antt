@@ -1,4 +1,4 @@
--- P6. "The first that applies counts" (01, Replies and refusals): for each call a list of rows, in document 01's order and words; the call's
+-- P6. "The first that applies counts" (01, Replies and refusals): for each call a list of rows, in the order and words of 01 and 02; the call's
 -- number is that of the first row that applies, and 0 exactly where none does. One row is a test of the engine's definitions: 11's is the
 -- loader's, and `Packing` says beside it what that means. A channel's own rows are its Rows.
 use Prim.Native.Nat.{ℕ, _%_, _≤_}
