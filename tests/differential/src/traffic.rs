@@ -111,6 +111,33 @@ pub const ROOM: Lengths = Lengths {
     report: 60,
 };
 
+/// A wire packet that is being made: the value of each wire so far, and how often it has changed.
+struct Packet {
+    levels: [u8; 6],
+    changes: [[usize; 4]; 6],
+}
+
+impl Packet {
+    /// A data byte that changes no wire of the host's more than `most` times, nor one whose change is held back; the bits that
+    /// do not count stay as they are.
+    fn calmed(&mut self, row: usize, mut data: u8, most: usize, mut held_back: impl FnMut() -> bool) -> u8 {
+        let counted = if GROUPS[row].up { 0 } else { GROUPS[row].defined };
+        for bit in 0..4 {
+            let differs = (data ^ self.levels[row]) >> bit & 1 == 1;
+            if !differs || data >> (4 + bit) & 1 == 0 {
+                continue;
+            }
+            if counted >> bit & 1 == 1 && (self.changes[row][bit] == most || held_back()) {
+                data ^= 1 << bit;
+            } else {
+                self.levels[row] ^= 1 << bit;
+                self.changes[row][bit] += 1;
+            }
+        }
+        data
+    }
+}
+
 pub struct Traffic {
     pub random: Random,
     /// In calm times nothing is reset, disabled or put in place of the state, so that long reads are finished.
@@ -488,10 +515,8 @@ impl Traffic {
         let seldom = self.pick(&[1, 1 + count / 4]);
         let swings = self.once_in(4);
         let (swung, swung_bit) = (self.pick(&[2, 2, 3, 3, 7, 7, 4, 5, 6]), self.below(4));
-        let mut levels = now.levels;
-        let mut changes = [[0; 4]; 6];
+        let mut packet = Packet { levels: now.levels, changes: [[0; 4]; 6] };
         for at in 1..=count {
-            let most = if at == count { most_at_last } else { most };
             let mut data = self.random.byte();
             let index = match self.below(6) {
                 0 => self.pick(&[0, 1, 4, 5, 6, 8, 64, 128 + 2, 255]),
@@ -500,22 +525,14 @@ impl Traffic {
             };
             if let Some(row) = usize::from(index).checked_sub(FIRST_GROUP).filter(|&row| row < GROUPS.len()) {
                 if swings && index == swung {
-                    let value = levels[row] >> swung_bit & 1 ^ 1;
+                    let value = packet.levels[row] >> swung_bit & 1 ^ 1;
                     data = data & !(0x11 << swung_bit) | (0x10 | value) << swung_bit;
                 }
-                let counted = if GROUPS[row].up { 0 } else { GROUPS[row].defined };
-                for (bit, changes) in changes[row].iter_mut().enumerate() {
-                    let differs = (data ^ levels[row]) >> bit & 1 == 1;
-                    if !differs || data >> (4 + bit) & 1 == 0 {
-                        continue;
-                    }
-                    if counted >> bit & 1 == 1 && (*changes == most || at < count && !self.random.once_in(seldom)) {
-                        data ^= 1 << bit;
-                    } else {
-                        levels[row] ^= 1 << bit;
-                        *changes += 1;
-                    }
-                }
+                data = if at == count {
+                    packet.calmed(row, data, most_at_last, || false)
+                } else {
+                    packet.calmed(row, data, most, || !self.random.once_in(seldom))
+                };
             }
             command.extend([index, data]);
         }
