@@ -198,14 +198,19 @@ remarked-next on w next p i h l e f =
           ∙ ap (paste (w .pending) 0 marks) s,
     )
 
+-- levels, marks and place are the wires
+pub same-wires : {v w : Wires} → v .level ≡ w .level → v .pending ≡ w .pending → v .place ≡ w .place → v ≡ w
+same-wires {v} {w} e f g =
+    ap (λ (l : List ℕ). record { level = l; pending = v .pending; place = v .place }) e
+    ∙ ap (λ (m : List Bool). record { level = w .level; pending = m; place = v .place }) f
+    ∙ ap (λ (n : ℕ). record { level = w .level; pending = w .pending; place = n }) g
+
 pub remarked-all : (on : Bool) (w next : Wires) (p : ℕ) → length (w .pending) ≡ 6 → next .level ≡ w .level
     → next .pending ≡ paste (w .pending) 0 (remarked on w p .pending) 6 → next .place ≡ p → next ≡ remarked on w p
 remarked-all on w next p l e f g =
     let marks : List Bool = remarked on w p .pending in
     let q : next .pending ≡ marks = f ∙ ap (λ (t : List Bool). marks ++ t) (drop-of-length-le (w .pending) {i = 6} (omega arith)) in
-    ap (λ (l : List ℕ). record { level = l; pending = next .pending; place = next .place }) e
-    ∙ ap (λ (m : List Bool). record { level = w .level; pending = m; place = next .place }) q
-    ∙ ap (λ (n : ℕ). record { level = w .level; pending = marks; place = n }) g
+    same-wires e q g
 
 remarked-kept : {was : Bool} (on : Bool) (w : Wires) (p : ℕ) → 4 ≤ p → p ≤ 6 → Sound was w → Sound on (remarked on w p)
 remarked-kept on w p from upto s =

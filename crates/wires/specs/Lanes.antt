@@ -3,16 +3,13 @@ use Prim.Native.Nat.{ℕ, zero, suc, _+_, _-_, _*_, _/_, _%_, _^_, _<_}
 use mathlib.Core.Bool.{Bool, true, false}
 use mathlib.Core.Path.{_≡_, refl, sym, ap, _∙_}
 use native.Mathlib.Omega.{arith}
-use native.Mathlib.Nat.{zero-div, mul-assoc}
+use native.Mathlib.Nat.{mul-assoc}
 use lib.Bits.{shifted-even}
 use lib.Dec.{eqb, ltb}
 use lib.Pow.{pow-add, shl-shr, shr-shr}
 use borrow.Author.Tests.{eqb-true, eqb-false, ltb-true, ltb-false}
 use Rattle.base.specs.Pick.{pick}
-use Rattle.wires.specs.Nibbles.{bitOf}
-
-pub none-bit : (p : ℕ) → bitOf 0 p ≡ 0
-none-bit p = ap (λ (x : ℕ). x % 2) (zero-div (2 ^ p))
+use Rattle.wires.specs.Nibbles.{bitOf, zero-bit}
 
 -- a bit of a word is one of what is shifted down
 pub lane-bit : (x n k : ℕ) → bitOf x (n + k) ≡ bitOf (x / 2 ^ n) k
@@ -31,7 +28,7 @@ low-bit x (suc (suc (suc (suc k)))) h = absurd (omega arith)
 above : (x n k : ℕ) → x < 16 → bitOf (x * 2 ^ n) (n + (4 + k)) ≡ 0
 above x n k h =
     let e : x / 16 ≡ 0 = omega arith in
-    lane-bit (x * 2 ^ n) n (4 + k) ∙ ap (λ (y : ℕ). bitOf y (4 + k)) (shl-shr x n) ∙ lane-bit x 4 k ∙ ap (λ (y : ℕ). bitOf y k) e ∙ none-bit k
+    lane-bit (x * 2 ^ n) n (4 + k) ∙ ap (λ (y : ℕ). bitOf y (4 + k)) (shl-shr x n) ∙ lane-bit x 4 k ∙ ap (λ (y : ℕ). bitOf y k) e ∙ zero-bit k
 
 beneath : (x p k : ℕ) → bitOf (x * 2 ^ (suc k + p)) p ≡ 0
 beneath x p k =

@@ -3,13 +3,13 @@ use Prim.Native.Nat.{ℕ, zero, suc, _-_, _*_, _/_, _%_, _^_, _≤_, _<_}
 use mathlib.Core.Bool.{Bool, true, false, _&&_}
 use mathlib.Core.Path.{_≡_, refl, sym, ap, subst, _∙_}
 use native.Mathlib.Omega.{arith}
-use native.Mathlib.Nat.{mod-lt, mod-eq-of-lt}
+use native.Mathlib.Nat.{zero-div, mod-lt, mod-eq-of-lt}
 use lib.Bits.{bitAnd, bitOr, bitXor, and-shr, or-shr, xor-shr, and-mod, or-mod, xor-mod, and-le-r, and-zero-l, and-zero-r, or-lt}
 use lib.Pow.{pow-lt, shl-shr}
 use lib.Dec.{eqb, ltb}
 use borrow.Author.Tests.{eqb-true, ltb-true, eq-eqb, lt-ltb}
 use Rattle.base.specs.Pick.{pick, and-left, and-right, and-true}
-use Rattle.wires.specs.Below.{every, at-every, every-at, at-both}
+use Rattle.wires.specs.Below.{every, every-at, at-both}
 use Rattle.wires.specs.Groups.{nibble}
 
 -- ---- bits
@@ -48,8 +48,8 @@ same-bits x y hx hy z =
     let a = every-at 4 (λ (j : ℕ). eqb (bitOf x j) (bitOf y j)) (λ k l. eq-eqb _ _ (z k l)) in
     eqb-true x y (subst (λ (t : Bool). pick t (eqb x y) true ≡ true) a e)
 
-zero-bit : (k : ℕ) → k < 4 → bitOf 0 k ≡ 0
-zero-bit k h = eqb-true _ _ (at-every 4 (λ (j : ℕ). eqb (bitOf 0 j) 0) refl k h)
+pub zero-bit : (k : ℕ) → bitOf 0 k ≡ 0
+zero-bit k = ap (λ (x : ℕ). x % 2) (zero-div (2 ^ k))
 
 pub one-bit : (b k : ℕ) → b < 4 → k < 4 → bitOf (2 ^ b) k ≡ pick (eqb k b) 1 0
 one-bit b k hb hk = eqb-true _ _ (at-both 4 4 (λ (x j : ℕ). eqb (bitOf (2 ^ x) j) (pick (eqb j x) 1 0)) refl b k hb hk)
@@ -103,7 +103,7 @@ clean-view d x h e =
           ∙ ap (bitAnd (bitOf x k)) (sym (not-bit d k h hk))
           ∙ sym (and-bit x (15 - d) k)
           ∙ ap (λ (y : ℕ). bitOf y k) z
-          ∙ zero-bit k hk;
+          ∙ zero-bit k;
     }
 
 pub clean-test : (d x : ℕ) → d < 16 → Clean d x → cleanTest d x ≡ true
@@ -117,7 +117,7 @@ clean-test d x h c =
 
     outside : (k : ℕ) → k < 4 → bitOf (bitAnd x (15 - d)) k ≡ bitOf 0 k
     outside k hk =
-        and-bit x (15 - d) k ∙ ap (bitAnd (bitOf x k)) (not-bit d k h hk) ∙ covered k hk (binary (d / 2 ^ k)) refl ∙ sym (zero-bit k hk)
+        and-bit x (15 - d) k ∙ ap (bitAnd (bitOf x k)) (not-bit d k h hk) ∙ covered k hk (binary (d / 2 ^ k)) refl ∙ sym (zero-bit k)
 
 -- only defined bits change
 pub nibble-clean : (d old val mask : ℕ) → mask < 16 → ((k : ℕ) → k < 4 → bitOf d k ≡ 0 → bitOf mask k ≡ 0) → Clean d old → Clean d (nibble old val mask)

@@ -13,10 +13,10 @@ use borrow.Author.Tests.{eqb-true, eq-eqb}
 use Rattle.base.specs.Pick.{pick-ind, and-left}
 use Rattle.base.specs.Bytes.{bit}
 use Rattle.wires.specs.Table.{rowAt, isGroup}
-use Rattle.wires.specs.Nibbles.{bitOf, binary, same-bits}
-use Rattle.wires.specs.Lanes.{none-bit, lane-bit, low-bit, zero-word}
+use Rattle.wires.specs.Nibbles.{bitOf, binary, zero-bit, same-bits}
+use Rattle.wires.specs.Lanes.{lane-bit, low-bit, zero-word}
 use Rattle.wires.specs.Rows.{in-table, undefined-bit}
-use Rattle.wires.specs.Kept.{clash, whole-level, whole-put, put-small}
+use Rattle.wires.specs.Kept.{clash, same-wires, whole-level, whole-put, put-small}
 use Rattle.wires.specs.Groups.{levelAt, isDown, definedBit, readWire, putPairs, wholeWires}
 use Rattle.wires.specs.Changes.{lastNamed, put-read, put-undefined, put-passes, put-marks, put-place}
 use Rattle.wires.specs.Transitions.{valuesGiven, transitions, transitionsOf, thirdOf, thirdTransition, putting, third-at, none-third}
@@ -58,12 +58,6 @@ six (a ∷ b ∷ c ∷ d ∷ e ∷ []) h = absurd (omega arith)
 six (a ∷ b ∷ c ∷ d ∷ e ∷ f ∷ []) h = refl
 six (a ∷ b ∷ c ∷ d ∷ e ∷ f ∷ g ∷ l) h = absurd (omega arith)
 
-same-wires : {v w : Wires} → v .level ≡ w .level → v .pending ≡ w .pending → v .place ≡ w .place → v ≡ w
-same-wires {v} {w} e f g =
-    ap (λ (l : List ℕ). record { level = l; pending = v .pending; place = v .place }) e
-    ∙ ap (λ (m : List Bool). record { level = w .level; pending = m; place = v .place }) f
-    ∙ ap (λ (n : ℕ). record { level = w .level; pending = w .pending; place = n }) g
-
 level-marks : (w : Wires) (i x : ℕ) → withLevel w i x .pending ≡ w .pending
 level-marks w i x = set-getD (w .pending) (i - 2) false
 
@@ -103,7 +97,7 @@ module _ (w : Wires) (whole : wholeWires w ≡ true) (small : Small w) where
   begin-bit i k d h = sym (lane (courseOf w .level) i k h) ∙ ap (λ (x : ℕ). bitOf x k) (begin-lane i d)
 
   begins : (i k : ℕ) (h : i < 8) (l : k < 4) → Has i k h l (courseOf w) (bitOf (courseOf w .level) (i * 4 + k)) 0
-  begins i k h l = record { level = refl; seen = rw (none-bit (i * 4 + k)) none }
+  begins i k h l = record { level = refl; seen = rw (zero-bit (i * 4 + k)) none }
 
   module _ (ps : List ℕ) where
     abbrev end : Course
@@ -185,7 +179,7 @@ module _ (w : Wires) (whole : wholeWires w ≡ true) (small : Small w) where
     none-thirds : end .third ≡ 0 → thirdTransition w ps ≡ false
     none-thirds e =
         none-third w ps
-        (λ i k h l. bit-off (thirdOf w ps i k) (sym (third-bit i k h l) ∙ ap (λ (x : ℕ). bitOf x (i * 4 + k)) e ∙ none-bit (i * 4 + k)))
+        (λ i k h l. bit-off (thirdOf w ps i k) (sym (third-bit i k h l) ∙ ap (λ (x : ℕ). bitOf x (i * 4 + k)) e ∙ zero-bit (i * 4 + k)))
 
     third-is : not (eqb (end .third) 0) ≡ thirdTransition w ps
     third-is = go (thirdTransition w ps) (eqb (end .third) 0) refl refl

@@ -5,10 +5,9 @@ use mathlib.Core.List.{List, [], _∷_, _++_, List·Memᴰ, List·Memᴰ·head, 
 use mathlib.Core.Logic.{⊎-elim}
 use mathlib.Core.Path.{_≡_, refl, sym, ap, ap₂, subst, _∙_}
 use native.Mathlib.Omega.{arith}
-use lib.Bits.{bitAnd}
-use lib.Dec.{eqb, ltb}
+use lib.Dec.{eqb}
 use lib.ListN.{getD, length, take}
-use borrow.Author.Tests.{eqb-true, eqb-false, eq-eqb, ltb-true, not-true}
+use borrow.Author.Tests.{eqb-true, eqb-false, eq-eqb, not-true}
 use Rattle.base.specs.Pick.{or-second, pick, and-left, and-right}
 use Rattle.registers.specs.declared.Config.{Config}
 use Rattle.wires.specs.Below.{at-every}
@@ -37,13 +36,12 @@ use Rattle.rules.specs.Statements.WireView.{setsWire, readsWire, WireMov
 use Rattle.rules.specs.Statements.WireSteps.{wireOf, Put, Set, nextUp, marked, pairsOf, SomeGot, Raised, byChange, byEnabling, WireSteps}
 use Rattle.rules.specs.Proofs.Cases as D
 use Rattle.rules.specs.Proofs.Cases.{board-long}
+use Rattle.rules.specs.Proofs.SoundParts.{parts}
 use Rattle.rules.specs.Proofs.WireView.{command-event, wire-view, wires-sound, wires-whole}
 use Rattle.rules.specs.declared.WiresChange.{WiresChange}
 
 level-small : (w : World) → Sound (w .state) → (i : ℕ) → 2 ≤ i → i ≤ 7 → levelAt (wiresOf w) i < 16
-level-small w s i h l =
-    let x = levelAt (wiresOf w) i in
-    ltb-true x 16 (and-right (eqb (bitAnd x (15 - rowAt (i - 2) .defined)) 0) (ltb x 16) (wires-sound w s .clean i h l))
+level-small w s = K.sound-level (on wires (w .state .config)) (wiresOf w) (parts s .each wires .right)
 
 -- ---- PUT_VWIRE
 
