@@ -21,15 +21,17 @@ use rules::WiresChange;
 use state::State;
 use wires::Wires;
 ghost use mathlib.Core.Path.{_≡_};
+ghost use Prim.Native.Nat.{_≤_};
 ghost use lib.ListN.{length};
 ghost use Rattle.command.specs.Facts.{CommandFits, PeripheralFits, WiresFits};
-ghost use Rattle.state.specs.Layout.{unpacked};
+ghost use Rattle.state.specs.Layout.{stateLength, unpacked};
 ghost use Rattle.rules.specs.Rules.Reset.{espiReset, platformReset};
 ghost use Rattle.rules.specs.Rules.Peripheral.{succeeded, answerTo, taken};
 ghost use Rattle.rules.specs.Rules.Wires.{setting};
 ghost use Rattle.rules.specs.Rules.Channel.{peripheral, wires, actOf};
 ghost use Rattle.rules.specs.Rules.Lift.{withStatus, lift};
 ghost use Rattle.rules.specs.Rules.Exchange.{wasReset, acted, decide, exchange};
+ghost use Rattle.rules.specs.Rules.Calls.{kept};
 ghost use Rattle.engine.specs.Carried.{Loadable, Stays, carried, carriedBy, showing, quiet, refusedBy};
 
 // A plan without its next state, which stands in the state's bytes.
@@ -107,6 +109,15 @@ fn act_peripheral(c: Config, o: PeripheralCommand, b: &[u8], state: &mut [u8]) -
     }
 }
 
+// The platform reset on the bytes.
+fn reset_in(state: &mut [u8])
+    requires { ⌜ stateLength ≤ length (now state) ⌝ }
+    ensures { λ _. ⌜ now (state .exit) ≡ kept (wasReset platformReset (unpacked (now (state .entry)))) (now (state .entry)) ⌝ }
+{
+    state::pack(platform_reset(state::unpack(state)), state);
+}
+
+// Where a PUT_VWIRE has lowered PLTRST# the platform reset follows its reply, which is made by then.
 fn act_wires(c: Config, o: WiresCommand, b: &[u8], state: &mut [u8]) -> Outgoing
     requires { ⌜ Loadable (now state) × (c ≡ unpacked (now state) .config) × WiresFits o (now b) ⌝ }
     ensures { λ r. ⌜
@@ -114,7 +125,13 @@ fn act_wires(c: Config, o: WiresCommand, b: &[u8], state: &mut [u8]) -> Outgoing
         ≡ carriedBy (acted wires (unpacked (now (state .entry))) (actOf wires (unpacked (now (state .entry)) .config) o (now (b .entry)))) (now (state .entry))
         ⌝ }
 {
-    lift_wires(wires_channel::decide(c, Wires::unpack(state), o, b), state)
+    let w = Wires::unpack(state);
+    let was = wires_channel::pltrst(w);
+    let out = lift_wires(wires_channel::decide(c, w, o, b), state);
+    if was & !wires_channel::pltrst(Wires::unpack(state)) {
+        reset_in(state);
+    }
+    out
 }
 
 // ---- above all channels

@@ -9,6 +9,7 @@ use wires::Wires;
 ghost use mathlib.Core.Path.{_≡_};
 ghost use mathlib.Core.Bool.{true};
 ghost use Prim.Native.Nat.{_+_, _*_, _≤_};
+ghost use lib.Dec.{eqb};
 ghost use lib.ListN.{length, take, drop};
 ghost use Rattle.registers.specs.Registers.{reachable, on1};
 ghost use Rattle.wires.specs.Groups.{soundWires};
@@ -74,6 +75,14 @@ pub(crate) fn decide(c: Config, w: Wires, o: WiresCommand, b: &[u8]) -> WiresCha
         WiresCommand::PutVwire(n) => put_vwire(c, w, n, b),
         WiresCommand::GetVwire => get_vwire(c, w),
     }
+}
+
+// PLTRST#, bit 1 of group 3, is high.
+pub(crate) fn pltrst(w: Wires) -> bool
+    ensures { λ r. ⌜ r ≡ eqb (W.pltrst w) 1 ⌝ }
+{
+    let level = w.level;
+    level[1] / 2 % 2 == 1
 }
 
 // The board sets one wire.

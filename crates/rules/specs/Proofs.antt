@@ -44,6 +44,7 @@ pub mod Fits
 pub mod Sizes
 pub mod Status
 pub mod StatusSays
+pub mod StatusShown
 pub mod PostedWrites
 pub mod WholeRows
 pub mod WholeCalls

@@ -39,7 +39,7 @@ pub packed-bytes : (s : State) → sound s ≡ true → (k : ℕ) → getD (pack
 packed-bytes s e = packed-all s (λ k. part-bytes k (on k (s .config)) (part k s) (sound-parts s e .each k)) .byte
 
 -- what bytes make fits
-unpacked-fits : (l : List ℕ) → ((k : ℕ) → getD l k 0 < 256) → fits (unpacked l) ≡ true
+pub unpacked-fits : (l : List ℕ) → ((k : ℕ) → getD l k 0 < 256) → fits (unpacked l) ≡ true
 unfolding unpacked
 unpacked-fits l byte =
     fit-made (unpacked l)

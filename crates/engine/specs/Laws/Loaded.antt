@@ -1,17 +1,17 @@
 -- The bytes of a sound state: what the channels find in them, and a change of channel 0 carried out on them.
-use Prim.Native.Nat.{ℕ, _≤_}
-use mathlib.Core.Bool.{Bool, true, false}
+use Prim.Native.Nat.{ℕ, _/_, _≤_}
+use mathlib.Core.Bool.{Bool, true, false, _&&_, not}
 use mathlib.Core.List.{List, _++_}
-use mathlib.Core.Path.{_≡_, refl, sym, ap, subst, _∙_}
+use mathlib.Core.Path.{_≡_, refl, sym, ap, ap₂, subst, _∙_}
 use native.Mathlib.Omega.{arith}
 use lib.Dec.{eqb}
 use lib.ListN.{length, drop, take-append-drop}
-use Rattle.base.specs.Pick.{pick}
+use Rattle.base.specs.Pick.{pick, taken, passed}
 use Rattle.base.specs.Bytes.{put}
 use Rattle.registers.specs.Registers.{reachable, on1}
 use Rattle.registers.specs.Layout.{configIn}
 use Rattle.registers.specs.declared.Config.{Config}
-use Rattle.wires.specs.Groups.{soundWires}
+use Rattle.wires.specs.Groups.{levelAt, soundWires}
 use Rattle.wires.specs.Layout.{wiresIn}
 use Rattle.wires.specs.declared.Wires.{Wires}
 use Rattle.peripheral.specs.Sound.{soundRequest}
@@ -21,23 +21,36 @@ use Rattle.peripheral.specs.Stored.{Stands, status-stored}
 use Rattle.state.specs.Status.{status}
 use Rattle.state.specs.Layout.{stateLength, unpacked}
 use Rattle.state.specs.Parts.{front, behind, front-length, packed-at}
+use Rattle.state.specs.Sound.{Sound}
+use Rattle.state.specs.Packing.{unpacked-fits, unpacked-over}
 use Rattle.state.specs.Facts.{sound-config, sound-request, sound-wires}
 use Rattle.state.specs.declared.State.{State}
+use Rattle.command.specs.Facts.{IsBytes}
 use Rattle.command.specs.declared.PeripheralCommand.{PeripheralCommand}
 use Rattle.command.specs.declared.WiresCommand.{WiresCommand}
 use Rattle.rules.specs.Rules.Calls.{kept}
-use Rattle.rules.specs.Rules.Exchange.{setConfiguration, reset008h}
+use Rattle.rules.specs.Rules.Reset.{platformReset}
+use Rattle.rules.specs.Rules.Exchange.{setConfiguration, reset008h, wasReset, thenReset, acted}
 use Rattle.rules.specs.Rules.Peripheral as P
 use Rattle.rules.specs.Rules.Wires as W
 use Rattle.rules.specs.Rules.Channel as C
 use Rattle.rules.specs.Rules.Channel.{peripheral, wires}
 use Rattle.rules.specs.Rules.Lift.{lift, show, withStatus}
+use Rattle.rules.specs.Proofs.Events.{one-or-zero}
+use Rattle.rules.specs.Proofs.Plans.{did}
+use Rattle.rules.specs.Proofs.SoundParts.{parts, with-part}
+use Rattle.rules.specs.Proofs.Wires.{lowers}
+use Rattle.rules.specs.Proofs.Wires.Lowering.{lowers-accepts}
+use Rattle.rules.specs.Proofs.Wires.Sound.{acts-ok}
 use Rattle.rules.specs.declared.Body.{Body}
 use Rattle.rules.specs.declared.Out.{Out}
 use Rattle.rules.specs.declared.Reply.{Reply}
 use Rattle.rules.specs.declared.PeripheralChange.{PeripheralChange}
+use Rattle.rules.specs.declared.WiresChange.{WiresChange}
+use Rattle.rules.specs.declared.Plan.{Plan}
 use Rattle.engine.specs.Carried.{Loadable, Stays, Changed, changedTo, changedBy, Carried, carried, carriedBy, outgoing, showing}
-use Rattle.engine.specs.Laws.Stored.{lift-carried}
+use Rattle.engine.specs.Laws.Stored.{again, lift-carried}
+use Rattle.engine.specs.Laws.Wires.{low-as}
 use Rattle.engine.specs.declared.Outgoing.{Outgoing}
 
 -- ---- the parts where they stand
@@ -90,16 +103,78 @@ pub wires-decided : (l : List ℕ) (c : Config) (w : Wires) (o : WiresCommand) (
 unfolding W.decide unpacked
 wires-decided l c w o b e f = ap (λ (z : Config). W.acting z w (W.actOf o b)) e ∙ ap (λ (z : Wires). W.acting (configIn l) z (W.actOf o b)) f
 
+-- a change that is another, lifted
+pub lifted-by : (k : C.Channel) (l : List ℕ) {x y : C.Change k} {z : Carried} → z ≡ carriedBy (lift k (unpacked l) x) l → x ≡ y
+    → z ≡ carriedBy (lift k (unpacked l) y) l
+lifted-by k l e f = e ∙ ap (λ (c : C.Change k). carriedBy (lift k (unpacked l) c) l) f
+
+-- what goes out of a change, with this state's status
+abbrev goesWith : State → Out → Outgoing
+goesWith s out = record { number = out .number; reply = withStatus (out .say) (status s); kept = out .kept }
+
+-- a command of channel 1 put back, and the platform reset where PLTRST# went low (02, Q-1)
+module _ (l b : List ℕ) (o : WiresCommand) (h : Loadable l) (bytes : IsBytes l) where
+  abbrev s : State
+  s = unpacked l
+
+  abbrev a : W.Act
+  a = W.actOf o b
+
+  abbrev x : WiresChange
+  x = W.acting (s .config) (s .wires) a
+
+  -- the state that it leaves, before a reset
+  abbrev t : State
+  t = C.put wires (x .next) s
+
+  left-sound : Sound t
+  left-sound =
+      let p = parts (record { isSound = h .good; isFit = unpacked-fits l bytes }) in
+      with-part wires (x .next) p (acts-ok (p .each wires) (did wires (s .config) (s .wires) a))
+
+  module _ (out : Outgoing) (l₁ : List ℕ) (e : carried out l₁ ≡ carriedBy (lift wires s x) l) where
+    stored : l₁ ≡ kept t l
+    unfolding lift
+    stored = ap (λ (z : Carried). z .state) e
+
+    sent : out ≡ goesWith t (x .out)
+    unfolding lift
+    sent = ap (λ (z : Carried). z .goes) e
+
+    found : unpacked l₁ ≡ t
+    found = ap unpacked stored ∙ unpacked-over t l left-sound
+
+    module _ (w w₁ : Wires) (was is : Bool) (ew : w ≡ wiresIn l) (e₁ : w₁ ≡ wiresIn l₁) (eb : was ≡ eqb (W.pltrst w) 1) (ea : is ≡ eqb (W.pltrst w₁) 1) where
+      after : w₁ ≡ x .next
+      unfolding unpacked
+      after = e₁ ∙ ap (λ (z : State). z .wires) found
+
+      follows : {u : Bool} → was && not is ≡ u → W.resetFollows (s .wires) a (x .next) ≡ u
+      unfolding unpacked
+      follows f =
+          sym (low-as (s .config) (s .wires) o b)
+          ∙ ap₂ (λ (z : Wires) (u : Bool). eqb (W.pltrst z) 1 && u) (sym ew) (sym (one-or-zero (levelAt (x .next) 3 / 2)))
+          ∙ sym (ap₂ (λ (p q : Bool). p && not q) eb (ea ∙ ap (λ (z : Wires). eqb (W.pltrst z) 1) after)) ∙ f
+
+      pub high-carried : was && not is ≡ false → carried out l₁ ≡ carriedBy (acted wires s a) l
+      high-carried f = e ∙ ap (λ (p : Plan). carriedBy p l) (passed _ _ (follows f) refl)
+
+      pub low-carried : (l₂ : List ℕ) → was && not is ≡ true → l₂ ≡ kept (wasReset platformReset (unpacked l₁)) l₁
+          → carried out l₂ ≡ carriedBy (acted wires s a) l
+      low-carried l₂ f e₂ =
+          ap₂ (λ (r : Outgoing) (m : List ℕ). carried r m) goes (e₂ ∙ ap (λ (z : State). kept (wasReset platformReset z) l₁) found ∙ again t l l₁ stored _)
+          ∙ ap (λ (p : Plan). carriedBy p l) (taken _ _ (follows f) refl)
+        where
+          -- an accepted packet's reply, with the status before the reset
+          goes : out ≡ outgoing (thenReset t)
+          goes = sent ∙ ap (goesWith t) (lowers-accepts (lowers (did wires (s .config) (s .wires) a) (follows f)))
+
 pub set-there : (l : List ℕ) (c : Config) (w : Wires) (index bit value : ℕ) → c ≡ configIn l → w ≡ wiresIn l
     → W.setting c w index bit value ≡ W.setting (unpacked l .config) (unpacked l .wires) index bit value
 unfolding unpacked
 set-there l c w index bit value e f = ap (λ (z : Config). W.setting z w index bit value) e ∙ ap (λ (z : Wires). W.setting (configIn l) z index bit value) f
 
--- a change that is another, lifted; a state that is the bytes', configured or cleared
-pub lifted-by : (k : C.Channel) (l : List ℕ) {x y : C.Change k} {z : Carried} → z ≡ carriedBy (lift k (unpacked l) x) l → x ≡ y
-    → z ≡ carriedBy (lift k (unpacked l) y) l
-lifted-by k l e f = e ∙ ap (λ (c : C.Change k). carriedBy (lift k (unpacked l) c) l) f
-
+-- a state that is the bytes', configured or cleared
 pub set-unpacked : (l : List ℕ) (a v : ℕ) {s : State} {z : Carried} → z ≡ carriedBy (setConfiguration s a v) l → s ≡ unpacked l
     → z ≡ carriedBy (setConfiguration (unpacked l) a v) l
 set-unpacked l a v e f = e ∙ ap (λ (t : State). carriedBy (setConfiguration t a v) l) f

@@ -67,7 +67,7 @@ module _ (s : State) (l₀ l : List ℕ) (e : l ≡ kept s l₀) where
   found = ap (take stateLength) e ∙ take-over (packed s) l₀ stateLength (packed-length s)
 
   -- what is put over the state's bytes is put over those before
-  again : (t : State) → kept t l ≡ kept t l₀
+  pub again : (t : State) → kept t l ≡ kept t l₀
   again t = ap (kept t) e ∙ over-over (packed s) (packed t) l₀ (le-of-eq (packed-length s ∙ sym (packed-length t)))
 
   config-stored : (c : Config) → B.put 0 (configBytes c) l ≡ kept (each (λ k q. q) c s) l₀

@@ -5,14 +5,16 @@ use mathlib.Core.Path.{_≡_, refl, ap, _∙_, subst}
 use Rattle.base.specs.Pick.{and-left, and-right}
 use Rattle.rules.specs.Rules.Channel.{Channel}
 use Rattle.rules.specs.Rules.Step.{World, Call, step, run, handedOver, allHanded}
-use Rattle.rules.specs.Statements.Events.{ends, unended}
+use Rattle.rules.specs.Statements.Events.{pltrstFalls, ends, unended}
 use Rattle.rules.specs.Statements.Requests.{Event, eventOf, event, without, got, gotBy, sameStore, storeHandedOn, readHandedOn}
 use Rattle.rules.specs.Statements.Answers.{askedTimes}
+use Rattle.rules.specs.Statements.Words.{pltrstRead}
+use Rattle.rules.specs.Statements.WireView.{readsWire}
 use Rattle.rules.specs.Statements.WireEvents.{wireEventOf, wireEvent, getsIn}
 use Rattle.promises.specs.ByteRuns.{ByteWorld, byteStep, byteRun}
 use Rattle.promises.specs.Statements.Lifted.{Holding, worldOf, lentReply, lentReport, Meets}
 use Rattle.promises.specs.Proofs.Lifted.{call-lifts, run-lifts}
-use Rattle.promises.specs.Statements.Words.{stateIn, byteEnds, byteUnended, byteEvent, byteWireEvent, byteWithout, byteGotBy, byteGot}
+use Rattle.promises.specs.Statements.Words.{stateIn, byteEnds, byteFalls, bytePltrst, byteUnended, byteEvent, byteWireEvent, byteWithout, byteGotBy, byteGot}
 use Rattle.promises.specs.Statements.Words.{byteAskedTimes, byteHandedOn, byteGetsIn}
 
 -- the bytes v hold the world w
@@ -47,6 +49,12 @@ module _ {v : ByteWorld} {w : World} (s : Stands v w) where
   run-at cs b =
       let r = run-lifts v (s .holding) cs b in
       record { holding = r .holding; world = r .world ∙ ap (λ (t : World). run t cs) (s .world) }
+
+  pub falls-at : (c : Call) → handedOver c ≡ true → byteFalls v c ≡ pltrstFalls w c
+  falls-at c b = rw (call-at c b .number, state-at)
+
+  pub pltrst-at : bytePltrst v ≡ pltrstRead w
+  pltrst-at = call-at (readsWire 3 1) refl .value
 
   pub ends-at : (k : Channel) (c : Call) → handedOver c ≡ true → byteEnds k v c ≡ ends k w c
   ends-at k c b = rw (call-at c b .number, state-at)

@@ -1,8 +1,8 @@
 -- The promises over bytes, each from its statement over `step` through the bridge.
 use Prim.Native.Nat.{ℕ, _+_, _^_, _≤_, _<_}
 use mathlib.Core.Bool.{Bool, true, false, not, true≢false}
-use mathlib.Core.List.{List, [], _∷_, _++_}
-use mathlib.Core.Path.{_≡_, refl, sym, ap, _∙_, subst}
+use mathlib.Core.List.{List, [], _∷_, _++_, map}
+use mathlib.Core.Path.{_≡_, refl, sym, ap, ap₂, _∙_, subst}
 use native.Mathlib.Omega.{arith}
 use lib.ListN.{length, drop, length-take}
 use borrow.Author.Tests.{le-ltb, lt-ltb, not-true}
@@ -16,14 +16,16 @@ use Rattle.rules.specs.Rules.Channel.{Channel, peripheral, wires}
 use Rattle.rules.specs.Rules.Calls.{word}
 use Rattle.rules.specs.Rules.Reply.{closed}
 use Rattle.rules.specs.Rules.Step as S
-use Rattle.rules.specs.Rules.Step.{World, Call, Outcome, exchange, board, step, run, handedOver, allHanded, areBytes, shortStores}
+use Rattle.rules.specs.Rules.Reset.{platformReset}
+use Rattle.rules.specs.Rules.Step.{World, Call, Outcome, reset, exchange, board, step, run, handedOver, allHanded, areBytes, shortStores}
 use Rattle.rules.specs.Statements.Requests as R
 use Rattle.rules.specs.Statements.Requests.{isTell, isAsk, showsBit, raises, event, got, gotBy, answersWith, held, serialOf}
 use Rattle.rules.specs.Statements.Words as Y
-use Rattle.rules.specs.Statements.Words.{Exactly, getPc}
+use Rattle.rules.specs.Statements.Words.{Exactly, Ending, getPc}
+use Rattle.rules.specs.Statements.Events.{pltrstFalls}
 use Rattle.rules.specs.Statements.Demand3 as D
 use Rattle.rules.specs.Statements.Apart as A
-use Rattle.rules.specs.Statements.Apart.{Seen, seen, seeing, others, isCallOf, Alike, SameButWires, SameButPeripheral}
+use Rattle.rules.specs.Statements.Apart.{Seen, seen, seeing, remains, isCallOf, Alike, SameButWires, SameButPeripheral}
 use Rattle.rules.specs.Proofs.Words.{byte-words}
 use Rattle.rules.specs.Proofs.Demand3.{demand3}
 use Rattle.rules.specs.Proofs.Answers.{serials-told}
@@ -33,10 +35,10 @@ use Rattle.rules.specs.Proofs.Refusals.{past-over}
 use Rattle.promises.specs.ByteRuns.{ByteWorld, ByteOutcome, byteStep, byteRun}
 use Rattle.promises.specs.Statements.Lifted.{Holding, worldOf, valueOf, replyIn, lentReply, lentReport, Meets}
 use Rattle.promises.specs.Proofs.Lifted.{call-lifts}
-use Rattle.promises.specs.Statements.Words.{stateIn, serialIn, byteSince, byteWithout, byteAnswers, byteGot, byteGotBy, ByteSeen, byteSeen, byteSeeing}
+use Rattle.promises.specs.Statements.Words.{stateIn, serialIn, byteSince, byteWithout, byteAnswers, byteGot, byteGotBy, byteEnds, ByteSeen, byteSeen, byteRemains, byteSeeing}
 use Rattle.promises.specs.Statements.Promises as P
 use Rattle.promises.specs.Statements.Promises.{Accepts, InBytes, Over, Delivers, Asked, Waits, Answered, ToldIn, AskedIn, RunsAlike, answeredAt}
-use Rattle.promises.specs.Proofs.Bridge.{Stands, stands, head-handed, tail-handed, state-at, call-at, next-at, run-at, ends-at, event-at}
+use Rattle.promises.specs.Proofs.Bridge.{Stands, stands, head-handed, tail-handed, state-at, call-at, next-at, run-at, falls-at, pltrst-at, ends-at, event-at}
 use Rattle.promises.specs.Proofs.Bridge.{wire-at, got-by, without-at, unended-at, got-at, asked-at, gets-at, handed-on}
 
 pub bridged : P.Bridged
@@ -65,6 +67,13 @@ module _ (v : ByteWorld) (h : Holding v) (c : Call) (b : handedOver c ≡ true) 
       let n = call-at (stands h) c b .number in
       (λ k. let a = p .0 (sym e ∙ k) in (n ∙ a .0, a .1), λ a. e ∙ p .1 (sym n ∙ a .0, a .1))
 
+  -- the levels of PLTRST# as they are read off words
+  ends-as : (k : Channel) {m n x y : ℕ} → m ≡ x → n ≡ y → Exactly (byteEnds k v c ≡ true) (Accepts v c (Ending k (stateIn v .config) x y c))
+      → Exactly (byteEnds k v c ≡ true) (Accepts v c (Ending k (stateIn v .config) m n c))
+  ends-as k {m} {n} {x} {y} e f p =
+      subst (λ (z : ℕ). Exactly (byteEnds k v c ≡ true) (Accepts v c (Ending k (stateIn v .config) z n c))) (sym e)
+      (subst (λ (z : ℕ). Exactly (byteEnds k v c ≡ true) (Accepts v c (Ending k (stateIn v .config) x z c))) (sym f) p)
+
   in-bytes : InBytes v c
   in-bytes =
       let w = worldOf v in
@@ -77,7 +86,7 @@ module _ (v : ByteWorld) (h : Holding v) (c : Call) (b : handedOver c ≡ true) 
         ask = both e (byte-words .ask w c);
         tell = both e (byte-words .tell w c);
         end = (λ k. x ∙ p .0 (sym e ∙ k), λ k. e ∙ p .1 (sym x ∙ k));
-        ends = λ k. both (ends-at s k c b) (byte-words .ends k w c);
+        ends = λ k. ends-as k (pltrst-at s) (pltrst-at (next-at s c b)) (both (ends-at s k c b) (byte-words .ends k w c));
       }
 
 pub events-in-bytes : P.EventsInBytes
@@ -405,11 +414,17 @@ dressed [] ts = []
 dressed (c ∷ cs) [] = []
 dressed (c ∷ cs) (t ∷ ts) = dress c t ∷ dressed cs ts
 
-module _ (c : Call) (os : List Call) (t : Seen) (ts : List Seen) {x : ByteSeen} {xs : List ByteSeen} (e : x ≡ dress c t) (f : xs ≡ dressed os ts) where
-  one-more : (b : Bool) → pick b xs (x ∷ xs) ≡ dressed (pick b os (c ∷ os)) (pick b ts (t ∷ ts))
+-- the reset in the place of a packet, or the call itself
+abbrev kept : (b f : Bool) → Call → List Call
+kept b f c = pick b (pick f (reset platformReset ∷ []) []) (c ∷ [])
+
+module _ (c : Call) (os : List Call) (ts : List Seen) (on : Call → ByteSeen) (of : Call → Seen) {xs : List ByteSeen}
+    (e : on c ≡ dress c (of c)) (g : on (reset platformReset) ≡ dress (reset platformReset) (of (reset platformReset))) (f : xs ≡ dressed os ts) where
+  one-more : (b t : Bool) → map on (kept b t c) ++ xs ≡ dressed (kept b t c ++ os) (map of (kept b t c) ++ ts)
   unfolding dressed
-  one-more true = f
-  one-more false = rw (e, f)
+  one-more true true = rw (g, f)
+  one-more true false = f
+  one-more false t = rw (e, f)
 
 module _ (x : Channel) where
   seen-at : (c : Call) {o : ByteOutcome} {p : Outcome} → Meets (lentReply c) (lentReport c) o p → byteSeen x o ≡ dress c (seen x p)
@@ -420,37 +435,55 @@ module _ (x : Channel) where
       rw (m .value, m .reply) (past-over (p .reply) (lentReply c) (p .value) short) in
       rw (past, m .said, m .word, m .report)
 
-  seeing-at : {v : ByteWorld} {w : World} → Stands v w → (cs : List Call) → allHanded cs ≡ true → byteSeeing x v cs ≡ dressed (others x cs) (seeing x w cs)
-  unfolding byteSeeing others seeing dressed
+  seeing-at : {v : ByteWorld} {w : World} → Stands v w → (cs : List Call) → allHanded cs ≡ true → byteSeeing x v cs ≡ dressed (remains x w cs) (seeing x w cs)
+  unfolding byteSeeing remains seeing dressed
   seeing-at s [] b = refl
   seeing-at {v} {w} s (c ∷ cs) b =
       let h = head-handed c cs b in
-      one-more c (others x cs) (seen x (step w c)) (seeing x (step w c .next) cs)
-      (seen-at c (call-at s c h)) (seeing-at (next-at s c h) cs (tail-handed c cs b)) (isCallOf x c)
+      let R = reset platformReset in
+      ap (λ (t : Bool). map (λ (d : Call). byteSeen x (byteStep v d)) (kept (isCallOf x c) t c) ++ byteSeeing x (byteStep v c .next) cs) (falls-at s c h)
+      ∙ one-more c (remains x (step w c .next) cs) (seeing x (step w c .next) cs) (λ (d : Call). byteSeen x (byteStep v d)) (λ (d : Call). seen x (step w d))
+      (seen-at c (call-at s c h)) (seen-at R (call-at s R refl)) (seeing-at (next-at s c h) cs (tail-handed c cs b)) (isCallOf x c) (pltrstFalls w c)
+
+  remains-at : {v : ByteWorld} {w : World} → Stands v w → (cs : List Call) → allHanded cs ≡ true → byteRemains x v cs ≡ remains x w cs
+  unfolding byteRemains remains
+  remains-at s [] b = refl
+  remains-at {v} {w} s (c ∷ cs) b =
+      let h = head-handed c cs b in
+      ap₂ (λ (t : Bool) (l : List Call). kept (isCallOf x c) t c ++ l) (falls-at s c h) (remains-at (next-at s c h) cs (tail-handed c cs b))
 
   -- runs of states that are alike, over bytes
   module _ (Same : World → World → Type 0) where
-    alike-at : (v u : ByteWorld) → Holding v → Holding u → (cs ds : List Call) → allHanded cs ≡ true → allHanded ds ≡ true → others x cs ≡ others x ds
-        → A.RunsAlike x Same (worldOf v) (worldOf u) cs ds → RunsAlike x Same v u cs ds
+    alike-at : (v u : ByteWorld) → Holding v → Holding u → (cs ds : List Call) → allHanded cs ≡ true → allHanded ds ≡ true
+        → remains x (worldOf v) cs ≡ remains x (worldOf u) ds → A.RunsAlike x Same (worldOf v) (worldOf u) cs ds → RunsAlike x Same v u cs ds
     alike-at v u hv hu cs ds b d e k =
         let s = run-at (stands hv) cs b in
         let t = run-at (stands hu) ds d in
         record {
           calls =
               seeing-at (stands hv) cs b ∙ ap (λ (l : List Call). dressed l (seeing x (worldOf v) cs)) e
-              ∙ ap (dressed (others x ds)) (k .calls) ∙ sym (seeing-at (stands hu) ds d);
+              ∙ ap (dressed (remains x (worldOf u) ds)) (k .calls) ∙ sym (seeing-at (stands hu) ds d);
           after = subst (Same (worldOf (byteRun v cs))) (sym (t .world)) (subst (λ (w : World). Same w (run (worldOf u) ds)) (sym (s .world)) (k .after));
         }
 
+left-at : (x : Channel) (v u : ByteWorld) → Holding v → Holding u → (cs ds : List Call) → allHanded cs ≡ true → allHanded ds ≡ true
+    → byteRemains x v cs ≡ byteRemains x u ds → remains x (worldOf v) cs ≡ remains x (worldOf u) ds
+left-at x v u hv hu cs ds b d e = sym (remains-at x (stands hv) cs b) ∙ e ∙ remains-at x (stands hu) ds d
+
 pub none-tells : P.NoneTells
-none-tells x v u hv hu same cs ds b d e = alike-at x (Alike x) v u hv hu cs ds b d e (A′.none-tells x (worldOf v) (worldOf u) cs ds same e)
+none-tells x v u hv hu same cs ds b d e =
+    let r = left-at x v u hv hu cs ds b d e in
+    alike-at x (Alike x) v u hv hu cs ds b d r (A′.none-tells x (worldOf v) (worldOf u) cs ds same r)
 
 pub wires-apart : P.WiresApart
-wires-apart v u hv hu same cs ds b d e = alike-at wires SameButWires v u hv hu cs ds b d e (A′.wires-apart (worldOf v) (worldOf u) cs ds same e)
+wires-apart v u hv hu same cs ds b d e =
+    let r = left-at wires v u hv hu cs ds b d e in
+    alike-at wires SameButWires v u hv hu cs ds b d r (A′.wires-apart (worldOf v) (worldOf u) cs ds same r)
 
 pub peripheral-apart : P.PeripheralApart
 peripheral-apart v u hv hu same cs ds b d e =
-    alike-at peripheral SameButPeripheral v u hv hu cs ds b d e (A′.peripheral-apart (worldOf v) (worldOf u) cs ds same e)
+    alike-at peripheral SameButPeripheral v u hv hu cs ds b d (A′.remains-others cs (worldOf v) ∙ e ∙ sym (A′.remains-others ds (worldOf u)))
+    (A′.peripheral-apart (worldOf v) (worldOf u) cs ds same e)
 
 pub promises : P.Promises
 promises =

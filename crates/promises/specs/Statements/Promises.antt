@@ -31,9 +31,9 @@ use Rattle.rules.specs.Statements.Bound.{Carries}
 use Rattle.rules.specs.Statements.Apart.{others, Alike, SameButWires, SameButPeripheral}
 use Rattle.promises.specs.ByteRuns.{ByteWorld, ByteOutcome, byteStep, byteRun}
 use Rattle.promises.specs.Statements.Lifted.{Holding, worldOf, replyIn, lentReply, lentReport, Meets}
-use Rattle.promises.specs.Statements.Words.{numberAt, stateIn, serialIn, byteSince, byteEnds, byteUnended, byteEvent, byteWireEvent}
+use Rattle.promises.specs.Statements.Words.{numberAt, stateIn, serialIn, byteSince, bytePltrst, byteEnds, byteUnended, byteEvent, byteWireEvent}
 use Rattle.promises.specs.Statements.Words.{byteWithout, byteAnswers, byteRequests, byteGotBy, byteGot, byteAskedTimes, byteHandedOn}
-use Rattle.promises.specs.Statements.Words.{byteGetsIn, byteSeeing}
+use Rattle.promises.specs.Statements.Words.{byteGetsIn, byteRemains, byteSeeing}
 
 -- ---- the bridge: at every place of a run, what a statement over `step` and `run` says is said of the bytes
 
@@ -72,7 +72,7 @@ pub record InBytes (v : ByteWorld) (c : Call) : Type 0 where
   pub ask : Exactly (byteEvent v c ≡ asks) (Accepts v c (NonPosted c))
   pub tell : Exactly (byteEvent v c ≡ tells) (Accepts v c (Answer c))
   pub end : Exactly (byteEvent v c ≡ R.ends) (byteEnds peripheral v c ≡ true)
-  pub ends : (k : Channel) → Exactly (byteEnds k v c ≡ true) (Accepts v c (Ending k (stateIn v .config) c))
+  pub ends : (k : Channel) → Exactly (byteEnds k v c ≡ true) (Accepts v c (Ending k (stateIn v .config) (bytePltrst v) (bytePltrst (byteStep v c .next)) c))
 
 -- of every call on bytes that hold a state: so of every call of every run (`Bridge`) (the words of 00, demand 3)
 abbrev pub EventsInBytes : Type 0
@@ -287,23 +287,25 @@ pub record RunsAlike (x : Channel) (Same : World → World → Type 0) (v u : By
   pub calls : byteSeeing x v cs ≡ byteSeeing x u ds
   pub after : Same (worldOf (byteRun v cs)) (worldOf (byteRun u ds))
 
--- "equal resets, equal calls and commands on channel 0, status and configuration" (01, Wires), and so for any channel x (02, Q-14)
-abbrev pub Apart : (x : Channel) → (World → World → Type 0) → Type 0
-Apart x Same = (v u : ByteWorld) → Holding v → Holding u → Same (worldOf v) (worldOf u)
-    → (cs ds : List Call) → allHanded cs ≡ true → allHanded ds ≡ true → others x cs ≡ others x ds → RunsAlike x Same v u cs ds
+-- "equal resets, equal calls and commands on channel 0, status and configuration" (01, Wires), and so for any channel x (02, Q-14): equal in what is left
+-- of the runs
+abbrev pub Apart : (x : Channel) → (World → World → Type 0) → (ByteWorld → List Call → List Call) → Type 0
+Apart x Same left = (v u : ByteWorld) → Holding v → Holding u → Same (worldOf v) (worldOf u)
+    → (cs ds : List Call) → allHanded cs ≡ true → allHanded ds ≡ true → left v cs ≡ left u ds → RunsAlike x Same v u cs ds
 
 -- "State the wire-independence rule for every pair of the four channels" (02, Q-14), of the two that there are
 abbrev pub NoneTells : Type 0
-NoneTells = (x : Channel) → Apart x (Alike x)
+NoneTells = (x : Channel) → Apart x (Alike x) (byteRemains x)
 
 -- P22: the same registers, queues and stores; its mirror: the same registers and wires, stores that are long enough in both or in neither
--- ("Wire traffic and channel 0: two runs .. give each peripheral command the same reply but for status bit 6 and the CRC byte", 01, Wires)
+-- ("Wire traffic and channel 0: two runs .. give each peripheral command the same reply but for status bit 6 and the CRC byte", 01, Wires; "for runs with
+-- the same such packets", 02, Q-1)
 abbrev pub WiresApart : Type 0
-WiresApart = Apart wires SameButWires
+WiresApart = Apart wires SameButWires (byteRemains wires)
 
 -- .. and the rule the other way round: "One argument should serve all pairs" (02, Q-14)
 abbrev pub PeripheralApart : Type 0
-PeripheralApart = Apart peripheral SameButPeripheral
+PeripheralApart = Apart peripheral SameButPeripheral (λ v. others peripheral)
 
 -- ---- all of it
 

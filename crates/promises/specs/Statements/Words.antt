@@ -1,20 +1,22 @@
 -- The words of the promises over bytes: those of Events, Requests, Answers, WireEvents and Apart, read off words, replies and state bytes.
 use Prim.Native.Nat.{ℕ, _+_}
 use mathlib.Core.Bool.{Bool, true, _&&_, not}
-use mathlib.Core.List.{List, [], _∷_, _++_}
+use mathlib.Core.List.{List, [], _∷_, _++_, map}
 use lib.Dec.{eqb}
 use lib.ListN.{drop}
 use Rattle.base.specs.Pick.{pick}
 use Rattle.state.specs.Layout.{unpacked}
 use Rattle.state.specs.declared.State.{State}
 use Rattle.rules.specs.Rules.Channel.{Channel, peripheral, wires}
-use Rattle.rules.specs.Rules.Step.{World, Call}
+use Rattle.rules.specs.Rules.Reset.{platformReset}
+use Rattle.rules.specs.Rules.Step.{World, Call, reset}
 use Rattle.rules.specs.Statements.Refusals.{numberOf}
-use Rattle.rules.specs.Statements.Events.{ending}
+use Rattle.rules.specs.Statements.Events.{lowering, ending}
 use Rattle.rules.specs.Statements.Requests as R
 use Rattle.rules.specs.Statements.Requests.{Event, acceptedEvent, isTell, isAsk, completionIn, sameStore}
 use Rattle.rules.specs.Statements.WireEvents as W
 use Rattle.rules.specs.Statements.WireEvents.{WireEvent, acceptedWire, oneIfGets}
+use Rattle.rules.specs.Statements.WireView.{readsWire}
 use Rattle.rules.specs.Statements.Apart.{isCallOf, replyBut}
 use Rattle.promises.specs.ByteRuns.{ByteWorld, ByteOutcome, byteStep, byteRun}
 use Rattle.promises.specs.Statements.Lifted.{worldOf, valueOf, replyIn}
@@ -44,11 +46,19 @@ unfoldable pub byteWithout : (ByteWorld → Call → Bool) → ByteWorld → Lis
 byteWithout p v [] = true
 byteWithout p v (c ∷ cs) = not (p v c) && byteWithout p (byteStep v c .next) cs
 
--- ---- events: refused calls are none; of the state only bit 0 of the channel's register is read, for a disabling
+-- ---- events: refused calls are none; of the state only bit 0 of the channel's register is read, for a disabling, and the wires, for PLTRST#
 
 -- "a start, an eSPI reset, a platform reset or a disabling of" the channel, "refused ones apart" (00, demand 3)
 abbrev pub byteEnds : Channel → ByteWorld → Call → Bool
 byteEnds k v c = byteAccepted v c && ending k (stateIn v) c
+
+-- an accepted PUT_VWIRE that "ends with PLTRST# low that was high before" (02, Q-1)
+abbrev pub byteFalls : ByteWorld → Call → Bool
+byteFalls v c = byteAccepted v c && lowering (stateIn v) c
+
+-- PLTRST#, as the board reads it: bit 1 of group 3 (004, table 10; 01, What the engine covers: "read a wire")
+abbrev pub bytePltrst : ByteWorld → ℕ
+bytePltrst v = valueOf (byteStep v (readsWire 3 1) .word)
 
 -- no such event in the run: "Until a start, .." (00, demand 3)
 abbrev pub byteUnended : Channel → ByteWorld → List Call → Bool
@@ -111,8 +121,17 @@ pub record ByteSeen : Type 0 where
 abbrev pub byteSeen : Channel → ByteOutcome → ByteSeen
 byteSeen x o = record { word = o .word; reply = replyBut x (replyIn o); past = drop (valueOf (o .word)) (o .reply); report = o .report }
 
--- what the calls of a run show, x's own apart ("give each peripheral command the same reply", 01, Wires: here every call that is not x's)
+-- what remains of a call: of x's own nothing, but a platform reset in the place of a packet that counts "as a platform reset" (02, Q-1)
+abbrev pub byteRemaining : Channel → ByteWorld → Call → List Call
+byteRemaining x v c = pick (isCallOf x c) (pick (byteFalls v c) (reset platformReset ∷ []) []) (c ∷ [])
+
+-- .. and of a run: "that rule holds for runs with the same such packets" (02, Q-1)
+unfoldable pub byteRemains : Channel → ByteWorld → List Call → List Call
+byteRemains x v [] = []
+byteRemains x v (c ∷ cs) = byteRemaining x v c ++ byteRemains x (byteStep v c .next) cs
+
+-- what the calls of a run show, x's own apart ("give each peripheral command the same reply", 01, Wires: here every call that is not x's); a packet that
+-- counts "as a platform reset" (02, Q-1) shows what such a reset shows there
 unfoldable pub byteSeeing : Channel → ByteWorld → List Call → List ByteSeen
 byteSeeing x v [] = []
-byteSeeing x v (c ∷ cs) =
-    pick (isCallOf x c) (byteSeeing x (byteStep v c .next) cs) (byteSeen x (byteStep v c) ∷ byteSeeing x (byteStep v c .next) cs)
+byteSeeing x v (c ∷ cs) = map (λ (d : Call). byteSeen x (byteStep v d)) (byteRemaining x v c) ++ byteSeeing x (byteStep v c .next) cs

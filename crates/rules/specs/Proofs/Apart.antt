@@ -1,11 +1,11 @@
--- No channel tells on another: one argument for every channel. A call of x's own leaves all that is not x's; any other call goes the same way in two
--- worlds that are alike but for x, for its channel sees its own part and stores alone. So a run shows what it shows without x's calls.
+-- No channel tells on another: one argument for every channel. A call of x's own leaves all that is not x's, or is a platform reset of it; any other call goes
+-- the same way in two worlds that are alike but for x, for its channel sees its own part and stores alone. So a run shows what it shows without x's calls.
 use Prim.Native.Nat.{ℕ, _+_, _-_, _*_, _/_, _%_}
-use mathlib.Core.Bool.{Bool, true, false, _||_, true≢false}
-use mathlib.Core.List.{List, [], _∷_, _++_}
+use mathlib.Core.Bool.{Bool, true, false, _&&_, _||_, true≢false, and-false}
+use mathlib.Core.List.{List, [], _∷_, _++_, map}
 use mathlib.Core.Path.{_≡_, refl, sym, ap, subst, _∙_}
 use native.Mathlib.Omega.{arith}
-use lib.Dec.{ltb}
+use lib.Dec.{eqb, ltb}
 use lib.ListN.{getD, length, take, length-append}
 use lib.Seq.{take-at, getD-at, getD-append-add}
 use borrow.Author.Tests.{ne-eqb}
@@ -19,20 +19,22 @@ use Rattle.state.specs.Parts.{sum, sum-as}
 use Rattle.state.specs.Status.{status}
 use Rattle.state.specs.declared.State.{State}
 use Rattle.rules.specs.Rules.Out.{responseByte}
-use Rattle.rules.specs.Rules.Channel.{Channel, peripheral, wires, Part, Command, Act, Board, Change, change, nextOf, outOf, actOf, acting, settle, reportOf, valueOf, given, bits, ownKept, part, put, each, on, enableEdge, same}
+use Rattle.rules.specs.Rules.Reset.{Reset, platformReset}
+use Rattle.rules.specs.Rules.Channel.{Channel, peripheral, wires, Part, Command, Act, Board, Change, change, nextOf, outOf, actOf, acting, resetFollows, settle, reportOf, valueOf, given, bits, ownKept, part, put, each, on, enableEdge, same}
 use Rattle.rules.specs.Rules.Channel as N
 use Rattle.rules.specs.Rules.Lift.{lift, withStatus, show}
-use Rattle.rules.specs.Rules.Exchange.{reconfigured, configReset}
+use Rattle.rules.specs.Rules.Exchange.{reconfigured, configReset, wasReset, thenReset}
 use Rattle.rules.specs.Rules.Reply.{closed, replyBytes, keptBytes}
-use Rattle.rules.specs.Rules.Step.{World, Call, Outcome, exchange, board, reset, short, lend, step, run, performed, served, shortStores, shortFor, writeLength, readLength, replyLength}
-use Rattle.rules.specs.Statements.Plans.{Settled, Admits}
+use Rattle.rules.specs.Rules.Step.{World, Call, Outcome, exchange, board, reset, short, lend, step, run, only, withState, performed, served, shortStores, shortFor, writeLength, readLength, replyLength}
+use Rattle.rules.specs.Statements.Plans.{Did, Settled, Admits, commandOf}
 use Rattle.rules.specs.Statements.Channels.{Acts, Settles}
 use Rattle.rules.specs.Statements.Channels as L
+use Rattle.rules.specs.Statements.Events.{accepted, lowersPltrst, lowering, pltrstFalls}
 use Rattle.rules.specs.Statements.Fields.{byte}
 use Rattle.rules.specs.Statements.Sizes.{isOf}
 use Rattle.rules.specs.Statements.Both as T
 use Rattle.rules.specs.Statements.Both.{Both, SameRoom}
-use Rattle.rules.specs.Statements.Apart.{storesOf, clear, isCommandOf, isCallOf, others, replyBut, Seen, seen, seeing, RunsAlike, StatesAlike, Alike, NoneTells, SameButWires, WiresApart, SameButPeripheral, PeripheralApart}
+use Rattle.rules.specs.Statements.Apart.{storesOf, clear, isCommandOf, isCallOf, others, remaining, remains, replyBut, Seen, seen, seeing, RunsAlike, StatesAlike, Alike, NoneTells, SameButWires, WiresApart, SameButPeripheral, PeripheralApart}
 use Rattle.rules.specs.Proofs.Plans as Q
 use Rattle.rules.specs.Proofs.Channels as L₁
 use Rattle.rules.specs.Proofs.Peripheral.Apart as P₁
@@ -40,8 +42,10 @@ use Rattle.rules.specs.Proofs.Peripheral.Status.{avail-bit}
 use Rattle.rules.specs.Proofs.Wires.Apart as W₁
 use Rattle.rules.specs.Proofs.Stores.{lacks, SameLack, bodyIn, Owns, kept-other}
 use Rattle.rules.specs.Proofs.Whose.{begins, own-command}
-use Rattle.rules.specs.Proofs.Effects.{above}
-use Rattle.rules.specs.Proofs.Cases.{both}
+use Rattle.rules.specs.Proofs.Fields.{outside}
+use Rattle.rules.specs.Proofs.Events.{no-lowering}
+use Rattle.rules.specs.Proofs.Effects.{unlowered, lowers-is, above}
+use Rattle.rules.specs.Proofs.Cases.{both, reset-is}
 use Rattle.rules.specs.Proofs.Lift.{out-change, part-stays, lift-change, put-config, put-both, part-each, same-is, same-turned, own-or-other, planned}
 use Rattle.rules.specs.Proofs.Reads.{reads}
 use Rattle.rules.specs.Proofs.Reply.{closed-as, closed-length, status-bits, status-small, over-long}
@@ -166,6 +170,9 @@ each-alike : (x : Channel) (f g : (k : Channel) → Part k → Part k) (c d : Co
 each-alike x f g c d s t e u h =
     record { config = e; parts = λ y n. part-each f c s y ∙ ap (f y) (h .parts y n) ∙ u y (part y t) ∙ sym (part-each g d t y) }
 
+reset-alike : (x : Channel) (r : Reset) (s t : State) → StatesAlike x s t → StatesAlike x (wasReset r s) (wasReset r t)
+reset-alike x r s t h = each-alike x (λ k. N.reset k r) (λ k. N.reset k r) _ _ s t (ap (configReset r) (h .config)) (λ k p. refl) h
+
 -- ---- stores: what is a channel's own
 
 owns : (k : Channel) → Owns k
@@ -220,14 +227,6 @@ module _ (x : Channel) (w v : World) (h : Alike x w v) where
     acts-together b (L.Acts.accepted q body kept o n) =
         out-together b q 0 (Y.Said _ body) kept (owns k .bytes body w v o (h .state .parts k other) (h .stores k other)) n
 
-    -- its change is the same in both
-    acting-alike : (o : Command k) (b : List ℕ)
-        → acting k (w .state .config) (part k (w .state)) (actOf k (w .state .config) o b) ≡ acting k (v .state .config) (part k (v .state))
-        (actOf k (v .state .config) o b)
-    acting-alike o b =
-        ap (λ (c : Config). acting k c (part k (w .state)) (actOf k c o b)) (h .state .config)
-        ∙ ap (λ (p : Part k). acting k (v .state .config) p (actOf k (v .state .config) o b)) (h .state .parts k other)
-
     settle-alike : (o : Board k) → settle k (w .state .config) (part k (w .state)) o ≡ settle k (v .state .config) (part k (v .state)) o
     settle-alike o =
         ap (λ (c : Config). settle k c (part k (w .state)) o) (h .state .config)
@@ -258,6 +257,30 @@ module _ (x : Channel) (w v : World) (h : Alike x w v) where
     settles-together o {p = p} (L.Settles.refused n a b e f) = settled-together o p _ (owns k .nothing)
     settles-together o (L.Settles.accepted q kept n) = settled-together o q _ n
 
+    -- and a reset follows in both or in neither
+    follows-together : (b : List ℕ) {p : Part k} {a : Act k} {c : Change k} → Acts k p a c → (t : Bool)
+        → Together x (performed w b (pick t (thenReset (put k (nextOf k c) (w .state))) (lift k (w .state) c)))
+        (performed v b (pick t (thenReset (put k (nextOf k c) (v .state))) (lift k (v .state) c)))
+    unfolding over
+    follows-together b {c = c} d true =
+        let g = put-alike x k (nextOf k c) (w .state) (v .state) (h .state) in
+        exchanged-together b 0 (Y.Said Accept B.Nothing) K.Nothing _ _ _ _ g (reset-alike x platformReset _ _ g) refl (h .room)
+    follows-together b d false = acts-together b d
+
+    -- the command in the other world, under a configuration and a part
+    abbrev actedUnder : Command k → List ℕ → Config → Part k → Outcome
+    actedUnder o b c p = performed v b (pick (resetFollows k p (actOf k c o b) (nextOf k (acting k c p (actOf k c o b))))
+        (thenReset (put k (nextOf k (acting k c p (actOf k c o b))) (v .state))) (lift k (v .state) (acting k c p (actOf k c o b))))
+
+    acted-together : (o : Command k) (b : List ℕ) → Together x (T.actedOn k o b w) (T.actedOn k o b v)
+    acted-together o b =
+        let c₀ = w .state .config in
+        let p₀ = part k (w .state) in
+        let a₀ = actOf k c₀ o b in
+        subst (λ (p : Part k). Together x (T.actedOn k o b w) (actedUnder o b (v .state .config) p)) (h .state .parts k other)
+        (subst (λ (c : Config). Together x (T.actedOn k o b w) (actedUnder o b c (part k (w .state)))) (h .state .config)
+        (follows-together b (L₁.acts k c₀ p₀ a₀ (acting k c₀ p₀ a₀) (Q.did k c₀ p₀ a₀)) (resetFollows k p₀ a₀ (nextOf k (acting k c₀ p₀ a₀)))))
+
   reconfigured-alike : (a n : ℕ)
       → StatesAlike x (reconfigured (w .state) (writeAt (w .state .config) a n)) (reconfigured (v .state) (writeAt (v .state .config) a n))
   reconfigured-alike a n =
@@ -266,15 +289,12 @@ module _ (x : Channel) (w v : World) (h : Alike x w v) where
 
   other-call : {c : Call} {o q : Outcome} → Both w v c o q → isCallOf x c ≡ false → Together x o q
   unfolding seen
-  other-call (T.idle n) e = record { alike = refl; next = h }
-  other-call (T.status {b = b}) e = above-together b 0 (Y.Said Accept B.Nothing) (w .state) (v .state) (h .state) refl
-  other-call (T.register {b = b} a) e =
+  other-call (T.idle n l) e = record { alike = refl; next = h }
+  other-call (T.status {b = b} a) e = above-together b 0 (Y.Said Accept B.Nothing) (w .state) (v .state) (h .state) refl
+  other-call (T.register {b = b} a l) e =
       subst (λ (c : Config). Together x (T.registered b a w) (performed v b (show (B.Word (readAt c a)) (v .state)))) (h .state .config)
       (above-together b 0 (Y.Said Accept (B.Word (readAt (w .state .config) a))) (w .state) (v .state) (h .state) refl)
-  other-call (T.acted {b = b} k o r a) e =
-      let n = sym (own-command x k (w .state) b o a) ∙ e in
-      subst (λ (c : Change k). Together x (T.actedOn k o b w) (performed v b (lift k (v .state) c))) (acting-alike k n o b)
-      (acts-together k n b (L₁.acts k _ _ _ _ (Q.did k _ _ _)))
+  other-call (T.acted {b = b} k o r a) e = acted-together k (sym (own-command x k (w .state) b o a) ∙ e) o b
   other-call (T.settles k o r) e =
       subst (λ (c : Change k). Together x (T.boarded k o w) (served k v o (lift k (v .state) c))) (settle-alike k e o)
       (settles-together k e o (L₁.board-settles k (w .state) o))
@@ -288,7 +308,7 @@ module _ (x : Channel) (w v : World) (h : Alike x w v) where
       record {
         alike = refl;
         next = record {
-          state = each-alike x (λ k. N.reset k r) (λ k. N.reset k r) _ _ (w .state) (v .state) (ap (configReset r) (h .state .config)) (λ k p. refl) (h .state);
+          state = reset-alike x r (w .state) (v .state) (h .state);
           stores = h .stores;
           room = h .room;
         };
@@ -354,23 +374,79 @@ module _ (k : Channel) (w : World) where
       kept-own {p = p} (L.Settles.refused n a b e f) = ap (λ (out : Out). ownKept k (out .kept)) (out-change k p _) ∙ owns k .nothing
       kept-own (L.Settles.accepted q kept n) = ap (λ (out : Out). ownKept k (out .kept)) (out-change k q _) ∙ n
 
+-- a platform reset of the world
+abbrev wiped : World → World
+wiped w = withState w (wasReset platformReset (w .state))
+
 module _ (x : Channel) (w : World) where
   no-command : (b : List ℕ) (o : C₀.Command) (op : ℕ) → Admits (w .state) b o → byte b 0 ≡ op → isOf x op ≡ false → isCommandOf x b ≡ true → ⊥
   no-command b o op a e f g = true≢false (sym g ∙ begins x (w .state) b o a ∙ ap (isOf x) e ∙ f)
 
-  own-call : {c : Call} {o q : Outcome} → Both w w c o q → isCallOf x c ≡ true → Alike x (o .next) w
-  unfolding performed over
-  own-call (T.idle n) e = self x w
-  own-call T.status e = self x w
-  own-call (T.register a) e = self x w
-  own-call (T.acted {b = b} {r = r} k o s a) e =
-      let n = same-is x k (sym (own-command x k (w .state) b o a) ∙ e) in
-      subst (λ (z : Channel). Alike z (T.actedOn k o b w .next) w) n (acts-own k w b r (L₁.acts k _ _ _ _ (Q.did k _ _ _)) s)
-  own-call (T.settles k o s) e =
-      subst (λ (z : Channel). Alike z (T.boarded k o w .next) w) (same-is x k e) (settled-own k w o _ (Q.settled k _ _ o) s)
+  -- what x's own call leaves of the rest: the world as it was, or a platform reset of it
+  abbrev Leaves : Call → Outcome → Type 0
+  Leaves c o = Alike x (o .next) (pick (accepted o && lowering (w .state) c) (wiped w) w)
+
+  by-fall : (c : Call) (o : Outcome) (t : Bool) → accepted o && lowering (w .state) c ≡ t → Alike x (o .next) (pick t (wiped w) w) → Leaves c o
+  by-fall c o t e h = subst (λ (u : Bool). Alike x (o .next) (pick u (wiped w) w)) (sym e) h
+
+  module _ (k : Channel) (o : Command k) (b r : List ℕ) (a : Admits (w .state) b (commandOf k o)) where
+    abbrev act : Act k
+    act = actOf k (w .state .config) o b
+
+    abbrev c : Change k
+    c = acting k (w .state .config) (part k (w .state)) act
+
+    abbrev On : Bool → Outcome
+    On t = performed w b (pick t (thenReset (put k (nextOf k c) (w .state))) (lift k (w .state) c))
+
+    did : Did k (w .state .config) (part k (w .state)) act c
+    did = Q.did k (w .state .config) (part k (w .state)) act
+
+    stays-high : resetFollows k (part k (w .state)) act (nextOf k c) ≡ false → accepted (On false) && lowersPltrst (w .state) b ≡ false
+    unfolding performed lift
+    stays-high f = by (eqb (outOf k c .number) 0) refl
+      where
+        by : (t : Bool) → eqb (outOf k c .number) 0 ≡ t → t && lowersPltrst (w .state) b ≡ false
+        by true n = unlowered k (w .state) b o c a did f n
+        by false n = refl
+
+    goes-low : resetFollows k (part k (w .state)) act (nextOf k c) ≡ true → accepted (On true) && lowersPltrst (w .state) b ≡ true
+    unfolding performed
+    goes-low f = lowers-is k (w .state) b o c a did f
+
+    reset-own : Alike k (On true .next) (wiped w)
+    unfolding performed over
+    reset-own =
+        record {
+          state = reset-alike k platformReset (put k (nextOf k c) (w .state)) (w .state) (put-own k (nextOf k c) (w .state));
+          stores = λ y e. refl;
+          room = λ reply. refl;
+        }
+
+    own-acted : same x k ≡ true → shortStores r w ≡ false → Leaves (exchange b r) (T.actedOn k o b w)
+    own-acted n s = go (resetFollows k (part k (w .state)) act (nextOf k c)) refl
+      where
+        go : (t : Bool) → resetFollows k (part k (w .state)) act (nextOf k c) ≡ t → Leaves (exchange b r) (On t)
+        go true f = by-fall (exchange b r) (On true) true (goes-low f) (subst (λ (z : Channel). Alike z (On true .next) (wiped w)) (same-is x k n) reset-own)
+        go false f =
+            by-fall (exchange b r) (On false) false (stays-high f)
+            (subst (λ (z : Channel). Alike z (On false .next) w) (same-is x k n)
+            (acts-own k w b r (L₁.acts k (w .state .config) (part k (w .state)) act c did) s))
+
+  own-call : {c : Call} {o q : Outcome} → Both w w c o q → isCallOf x c ≡ true → Leaves c o
+  unfolding performed served over
+  own-call {c} (T.idle n h) e =
+      by-fall c (only n w) false (ap (λ (t : Bool). t && lowering (w .state) c) (ne-eqb n 0 (λ z. omega (arith, h)))) (self x w)
+  own-call {c} {o} (T.status {b} a) e = by-fall c o false (no-lowering (w .state) b (ap (λ (op : ℕ). eqb op 0x04) (reads (w .state) b _ a))) (self x w)
+  own-call {c} {o} (T.register {b} n a) e =
+      by-fall c o false (no-lowering (w .state) b (ap (λ (op : ℕ). eqb op 0x04) (reads (w .state) b _ a .opcode))) (self x w)
+  own-call (T.acted {b} {r} k o s a) e = own-acted k o b r a (sym (own-command x k (w .state) b o a) ∙ e) s
+  own-call {c} {q} (T.settles k o s) e =
+      by-fall c q false (and-false (accepted q))
+      (subst (λ (z : Channel). Alike z (T.boarded k o w .next) w) (same-is x k e) (settled-own k w o _ (Q.settled k _ _ o) s))
   own-call T.forbidden e = self x w
-  own-call (T.configured {b = b} a n r) e = absurd (no-command b _ 0x22 r (reads (w .state) b _ r .opcode) (above x .at22) e)
-  own-call (T.cleared {b = b} r) e = absurd (no-command b _ 0xFF r (reads (w .state) b _ r) (above x .atFF) e)
+  own-call (T.configured {b} a n r) e = absurd (no-command b _ 0x22 r (reads (w .state) b _ r .opcode) (above x .at22) e)
+  own-call (T.cleared {b} r) e = absurd (no-command b _ 0xFF r (reads (w .state) b _ r) (above x .atFF) e)
   own-call T.wiped e = absurd (true≢false (sym e))
   own-call T.lent e = absurd (true≢false (sym e))
 
@@ -383,23 +459,6 @@ same-room x w v h (board k o) e = owns k .shortAlike w v o (h .stores k e)
 same-room x w v h (short state c) e = tt
 same-room x w v h (lend write read) e = tt
 
-module _ (x : Channel) (w : World) (c : Call) (cs : List Call) where
-  others-own : isCallOf x c ≡ true → others x (c ∷ cs) ≡ others x cs
-  unfolding others
-  others-own e = rw e
-
-  others-other : isCallOf x c ≡ false → others x (c ∷ cs) ≡ c ∷ others x cs
-  unfolding others
-  others-other e = rw e
-
-  seeing-own : isCallOf x c ≡ true → seeing x w (c ∷ cs) ≡ seeing x (step w c .next) cs
-  unfolding seeing
-  seeing-own e = rw e
-
-  seeing-other : isCallOf x c ≡ false → seeing x w (c ∷ cs) ≡ seen x (step w c) ∷ seeing x (step w c .next) cs
-  unfolding seeing
-  seeing-other e = rw e
-
 self-room : (w : World) (c : Call) → SameRoom w w c
 self-room w (reset r) = tt
 self-room w (exchange b r) = refl
@@ -407,26 +466,55 @@ self-room w (board k o) = refl
 self-room w (short state c) = tt
 self-room w (lend write read) = tt
 
-sifted : (x : Channel) (cs : List Call) (w v : World) → Alike x w v → RunsAlike x (Alike x) w v cs (others x cs)
-unfolding others seeing run
-sifted x [] w v h = record { calls = refl; after = h }
-sifted x (c ∷ cs) w v h = go (isCallOf x c) refl (sifted x cs)
+-- what remains of a call: nothing, or one call that is not x's and leaves the same of what is not x's
+data Left (x : Channel) (w : World) (c : Call) : List Call → Type 0 where
+  nothing : Alike x (step w c .next) w → Left x w c []
+  one : (d : Call) → isCallOf x d ≡ false → Alike x (step w c .next) (step w d .next) → Left x w c (d ∷ [])
+
+left-of : (x : Channel) (w : World) (c : Call) → Left x w c (remaining x w c)
+left-of x w c = by (isCallOf x c) refl
   where
-    go : (t : Bool) → isCallOf x c ≡ t → ((w v : World) → Alike x w v → RunsAlike x (Alike x) w v cs (others x cs))
-        → RunsAlike x (Alike x) w v (c ∷ cs) (others x (c ∷ cs))
-    go true e rest =
-        let r = rest (step w c .next) v (joined (own-call x w (both w w c refl (self-room w c)) e) h) in
-        subst (RunsAlike x (Alike x) w v (c ∷ cs)) (sym (others-own x w c cs e)) (record { calls = seeing-own x w c cs e ∙ r .calls; after = r .after })
-    go false e rest =
-        let o = other-call x w v h (both w v c (h .state .config) (same-room x w v h c e)) e in
-        let r = rest (step w c .next) (step v c .next) (o .next) in
-        subst (RunsAlike x (Alike x) w v (c ∷ cs)) (sym (others-other x w c cs e))
+    fallen : (t : Bool) → Alike x (step w c .next) (pick t (wiped w) w) → Left x w c (pick t (reset platformReset ∷ []) [])
+    fallen true h = one (reset platformReset) refl (subst (λ (o : Outcome). Alike x (step w c .next) (o .next)) (sym (reset-is w platformReset)) h)
+    fallen false h = nothing h
+
+    by : (t : Bool) → isCallOf x c ≡ t → Left x w c (pick t (pick (pltrstFalls w c) (reset platformReset ∷ []) []) (c ∷ []))
+    by true e = fallen (pltrstFalls w c) (own-call x w (both w w c refl (self-room w c)) e)
+    by false e = one c e (self x (step w c .next))
+
+-- a call that is not x's
+remaining-other : (x : Channel) (w : World) (c : Call) → isCallOf x c ≡ false → remaining x w c ≡ c ∷ []
+remaining-other x w c e = rw e
+
+module _ (x : Channel) (w : World) (c : Call) (cs : List Call) where
+  remains-as : {l : List Call} → remaining x w c ≡ l → remains x w (c ∷ cs) ≡ l ++ remains x (step w c .next) cs
+  unfolding remains
+  remains-as e = ap (λ (z : List Call). z ++ remains x (step w c .next) cs) e
+
+  seeing-as : {l : List Call} → remaining x w c ≡ l → seeing x w (c ∷ cs) ≡ map (λ (d : Call). seen x (step w d)) l ++ seeing x (step w c .next) cs
+  unfolding seeing
+  seeing-as e = ap (λ (z : List Call). map (λ (d : Call). seen x (step w d)) z ++ seeing x (step w c .next) cs) e
+
+sifted : (x : Channel) (cs : List Call) (w v : World) → Alike x w v → RunsAlike x (Alike x) w v cs (remains x w cs)
+unfolding remains seeing run
+sifted x [] w v h = record { calls = refl; after = h }
+sifted x (c ∷ cs) w v h = go (remaining x w c) refl (left-of x w c) (sifted x cs)
+  where
+    go : (l : List Call) → remaining x w c ≡ l → Left x w c l → ((w v : World) → Alike x w v → RunsAlike x (Alike x) w v cs (remains x w cs))
+        → RunsAlike x (Alike x) w v (c ∷ cs) (remains x w (c ∷ cs))
+    go l e (nothing a) rest =
+        let r = rest (step w c .next) v (joined a h) in
+        subst (RunsAlike x (Alike x) w v (c ∷ cs)) (sym (remains-as x w c cs e)) (record { calls = seeing-as x w c cs e ∙ r .calls; after = r .after })
+    go l e (one d n a) rest =
+        let o = other-call x w v h (both w v d (h .state .config) (same-room x w v h d n)) n in
+        let r = rest (step w c .next) (step v d .next) (joined a (o .next)) in
+        subst (RunsAlike x (Alike x) w v (c ∷ cs)) (sym (remains-as x w c cs e))
         (record {
           calls =
-              seeing-other x w c cs e
+              seeing-as x w c cs e
               ∙ ap (λ (z : Seen). z ∷ seeing x (step w c .next) cs) (o .alike)
-              ∙ ap (λ (z : List Seen). seen x (step v c) ∷ z) (r .calls)
-              ∙ sym (seeing-other x v c (others x cs) e);
+              ∙ ap (λ (z : List Seen). seen x (step v d) ∷ z) (r .calls)
+              ∙ sym (seeing-as x v d (remains x (step w c .next) cs) (remaining-other x v d n));
           after = r .after;
         })
 
@@ -457,6 +545,32 @@ from-wires h =
 pub wires-apart : WiresApart
 wires-apart w v cs ds h e = let r = none-tells wires w v cs ds (to-wires h) e in record { calls = r .calls; after = from-wires (r .after) }
 
+-- of channel 0's own calls none lowers PLTRST#
+first-opcode : (b : List ℕ) → isCommandOf peripheral b ≡ true → isOf peripheral (byte b 0) ≡ true
+first-opcode [] e = absurd (true≢false (sym e))
+first-opcode (op ∷ rest) e = e
+
+peripheral-high : (s : State) (c : Call) → isCallOf peripheral c ≡ true → lowering s c ≡ false
+peripheral-high s (reset r) e = refl
+peripheral-high s (exchange b r) e = no-lowering s b (outside (isOf peripheral) (byte b 0) 0x04 refl (first-opcode b e))
+peripheral-high s (board k o) e = refl
+peripheral-high s (short state c) e = refl
+peripheral-high s (lend write read) e = refl
+
+-- so what remains is the run without them
+pub remains-others : (cs : List Call) (w : World) → remains peripheral w cs ≡ others peripheral cs
+unfolding remains others
+remains-others [] w = refl
+remains-others (c ∷ cs) w = by (isCallOf peripheral c) refl (remains-others cs (step w c .next))
+  where
+    by : (t : Bool) → isCallOf peripheral c ≡ t → remains peripheral (step w c .next) cs ≡ others peripheral cs
+        → pick t (pick (pltrstFalls w c) (reset platformReset ∷ []) []) (c ∷ []) ++ remains peripheral (step w c .next) cs
+        ≡ pick t (others peripheral cs) (c ∷ others peripheral cs)
+    by true e h =
+        ap (λ (u : Bool). pick u (reset platformReset ∷ []) [] ++ remains peripheral (step w c .next) cs)
+        (ap (λ (u : Bool). accepted (step w c) && u) (peripheral-high (w .state) c e) ∙ and-false (accepted (step w c))) ∙ h
+    by false e h = ap (λ (l : List Call). c ∷ l) h
+
 to-peripheral : {w v : World} → SameButPeripheral w v → Alike peripheral w v
 to-peripheral {w} {v} h = record { state = h .state; stores = λ y e. same-stores y e (w .write) (w .read) (v .write) (v .read); room = h .room }
 
@@ -464,4 +578,6 @@ from-peripheral : {w v : World} → Alike peripheral w v → SameButPeripheral w
 from-peripheral h = record { state = h .state; room = h .room }
 
 pub peripheral-apart : PeripheralApart
-peripheral-apart w v cs ds h e = let r = none-tells peripheral w v cs ds (to-peripheral h) e in record { calls = r .calls; after = from-peripheral (r .after) }
+peripheral-apart w v cs ds h e =
+    let r = none-tells peripheral w v cs ds (to-peripheral h) (remains-others cs w ∙ e ∙ sym (remains-others ds v)) in
+    record { calls = r .calls; after = from-peripheral (r .after) }

@@ -31,7 +31,7 @@ use Rattle.rules.specs.Statements.Fields.{byte, pairs, registerAt, regis
 use Rattle.rules.specs.Statements.Events.{accepted, enablesAt, ends, unended}
 use Rattle.rules.specs.Statements.WireEvents as Ev
 use Rattle.rules.specs.Statements.WireEvents.{WireEvent, idle, puts, gets, sets, enables, switchesOn, acceptedWire, wireEventOf, wireEvent, wiresOf, countOf, oneIfGets, getsIn}
-use Rattle.rules.specs.Statements.WireView.{WireMove, still, put, sent, set, enabled, disabled, wiped, platformWiped}
+use Rattle.rules.specs.Statements.WireView.{WireMove, still, put, sent, set, enabled, disabled, wiped, platformWiped, lowered}
 use Rattle.rules.specs.Statements.Bound.{Carries, SentBy, SentByTheThird}
 use Rattle.rules.specs.Proofs.Sound.{sound-step}
 use Rattle.rules.specs.Proofs.Events.{head-unended, tail-unended}
@@ -183,6 +183,7 @@ module _ (w : World) (sound : Sound (w .state)) (g : ℕ) (below : g < senders) 
   moves q (disabled e) n = absurd (true≢false n)
   moves q (wiped e) n = absurd (true≢false n)
   moves q (platformWiped e) n = absurd (true≢false n)
+  moves q (lowered b r x t l e) n = absurd (true≢false n)
 
 all-move : (cs : List Call) (w : World) (g : ℕ) → g < senders → Sound (w .state) → allHanded cs ≡ true → unended wires w cs ≡ true
     → AllMove machine senders g w cs

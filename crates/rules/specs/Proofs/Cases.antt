@@ -18,7 +18,7 @@ use Rattle.rules.specs.Statements.Both as T
 use Rattle.rules.specs.Statements.Both.{Both, BothCases}
 use Rattle.rules.specs.Statements.Plans as N
 use Rattle.rules.specs.Statements.Plans.{Silent, Planned}
-use Rattle.rules.specs.Statements.Cases.{Case, idle, shown, acted, settles, forbidden, configured, cleared, wiped, lent, Cases}
+use Rattle.rules.specs.Statements.Cases.{Case, idle, shown, acted, settles, forbidden, configured, lowered, cleared, wiped, lent, Cases}
 use Rattle.rules.specs.Proofs.Plans.{plans, exchange-both}
 pub use Rattle.rules.specs.Proofs.Plans.{did, settled}
 use Rattle.rules.specs.declared.Plan.{Plan}
@@ -34,7 +34,8 @@ silent-only w b n = refl
 exchange-case : (w : World) (b r : List ℕ) {p : Plan} → Planned (w .state) b p → Case w (exchange b r) (performed w b p)
 exchange-case w b r (N.turned n q) = subst (Case w (exchange b r)) (silent-only w b n) (idle n (record { least = omega (arith, q .least); most = q .most }))
 exchange-case w b r (N.shows q) = shown q
-exchange-case w b r (N.acts k o x e d) = acted k o x e d
+exchange-case w b r (N.acts k o x e d f) = acted k o x e d f
+exchange-case w b r (N.lowers o x e d) = lowered o x e d
 exchange-case w b r (N.forbids a v e f) = forbidden a v e f
 exchange-case w b r (N.configures a v e f) = configured a v e f
 exchange-case w b r (N.clears e) = cleared e
@@ -80,7 +81,7 @@ either {w} {v} {c} {a} {b} {a′} {b′} t u e f g = subst (λ (z : Bool). Both 
 pub both : BothCases
 unfolding S.step
 both w v (reset r) c m = T.wiped
-both w v (exchange b r) c m = either (shortStores r w) (shortStores r v) m (T.idle 10) (λ e. exchange-both w v b r e c)
-both w v (board k o) c m = either (shortFor k o w) (shortFor k o v) m (T.idle 10) (λ e. T.settles k o e)
-both w v (short state k) c m = T.idle 10
+both w v (exchange b r) c m = either (shortStores r w) (shortStores r v) m (T.idle 10 (omega arith)) (λ e. exchange-both w v b r e c)
+both w v (board k o) c m = either (shortFor k o w) (shortFor k o v) m (T.idle 10 (omega arith)) (λ e. T.settles k o e)
+both w v (short state k) c m = T.idle 10 (omega arith)
 both w v (lend write read) c m = T.lent

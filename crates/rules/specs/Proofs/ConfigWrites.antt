@@ -21,7 +21,7 @@ use Rattle.rules.specs.Rules.Channel.{Channel, peripheral, wires, Part, 
 use Rattle.rules.specs.Rules.Reply.{replyBytes, closed}
 use Rattle.rules.specs.Rules.Step.{World, Call, reset, exchange, board, short, lend, Outcome, step, performed}
 use Rattle.rules.specs.Statements.Plans as N
-use Rattle.rules.specs.Statements.Cases.{Case, idle, shown, acted, settles, forbidden, configured, cleared, wiped, lent}
+use Rattle.rules.specs.Statements.Cases.{Case, idle, shown, acted, settles, forbidden, configured, lowered, cleared, wiped, lent}
 use Rattle.rules.specs.Statements.Fields.{byte, registerAt, registerValue}
 use Rattle.rules.specs.Statements.Sizes.{isEnabled}
 use Rattle.rules.specs.Statements.Events.{enablesAt}
@@ -177,10 +177,11 @@ read-case w (idle n q) h z = absurd (omega (arith, q .least))
 read-case w (shown {b} (N.status e)) h z = absurd (omega (arith, R.reads (w .state) b C.GetStatus e))
 read-case w (shown {b} (N.register a e)) h z =
     ap (λ (x : ℕ). replyOf 0x08 (registerBytes (valueAt (w .state .config) x)) (status (w .state))) (R.reads (w .state) b (C.GetConfiguration a) e .address)
-read-case w (acted {b} k o x e d) h z = absurd (not-ours w k b h (above k .at21) (command-own k (w .state) b o e))
+read-case w (acted {b} k o x e d f) h z = absurd (not-ours w k b h (above k .at21) (command-own k (w .state) b o e))
 read-case w (settles k o x n d) h z = absurd (omega arith)
 read-case w (forbidden a v e f) h z = absurd (omega arith)
 read-case w (configured {b} a v e f) h z = absurd (omega (arith, R.reads (w .state) b (C.SetConfiguration a v) e .opcode))
+read-case w (lowered {b} o x e d) h z = absurd (not-ours w wires b h (above wires .at21) (command-own wires (w .state) b o e))
 read-case w (cleared {b} e) h z = absurd (omega (arith, R.reads (w .state) b C.Reset e))
 read-case w wiped h z = absurd (omega arith)
 read-case w lent h z = absurd (omega arith)

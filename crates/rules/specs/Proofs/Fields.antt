@@ -20,6 +20,10 @@ one Q op k q else = go (eqb op k) refl
     go true e = subst Q (sym (eqb-true op k e)) q
     go false e = else e
 
+-- an opcode of a kind is none outside it
+pub outside : (p : ℕ → Bool) (op n : ℕ) → p n ≡ false → p op ≡ true → eqb op n ≡ false
+outside p op n f = one (λ (x : ℕ). p x ≡ true → eqb x n ≡ false) op n (λ t. absurd (true≢false (sym t ∙ f))) (λ e _. e)
+
 -- four values from a multiple of 4 on, without three of them
 no-short : (a : Access) (width : ℕ) (writes : Bool) (op q : ℕ) (rest : Listed) → eqb op (4 * q) ≡ false → eqb op (4 * q + 1) ≡ false
     → eqb op (4 * q + 3) ≡ false

@@ -46,6 +46,8 @@ use Rattle.rules.specs.Proofs.Sizes.{on-as}
 use Rattle.rules.specs.Proofs.Rows.{none-first, first-after, first-among, read-off, same-test}
 use Rattle.rules.specs.Proofs.Peripheral.Rows as P
 use Rattle.rules.specs.Proofs.Wires.Rows as W
+use Rattle.rules.specs.Proofs.Wires.Lowering.{lowers-did, lowers-accepts}
+use Rattle.rules.specs.declared.Out.{Out}
 use Rattle.rules.specs.declared.Plan.{Plan}
 
 -- ---- the decoder's tests in a chain
@@ -243,10 +245,12 @@ module _ (s : State) (b : List ℕ) where
       first-among (formRows (s .config) b) (laterRows s b) n (omega (arith, q .least)) (sym (ap numberIn (q .given)) ∙ form-number (s .config) b)
   plan-number h (N.shows (N.status e)) = admitted e (other-rows 0x25 (λ _. refl) (omega arith) (reads s b _ e))
   plan-number h (N.shows (N.register a e)) = admitted e (other-rows 0x21 (λ _. refl) (omega arith) (reads s b _ e .opcode))
-  plan-number h (N.acts peripheral o x e d) = admitted e (P.act-number s b (reads s b _ e) d)
-  plan-number h (N.acts wires o x e d) = admitted e (W.act-number s (sound-wires s h) b (reads s b _ e) d)
+  plan-number h (N.acts peripheral o x e d f) = admitted e (P.act-number s b (reads s b _ e) d)
+  plan-number h (N.acts wires o x e d f) = admitted e (W.act-number s (sound-wires s h) b (reads s b _ e) d)
   plan-number h (N.forbids a v e f) = admitted e (set-number a v true (reads s b _ e) f)
   plan-number h (N.configures a v e f) = admitted e (set-number a v false (reads s b _ e) f)
+  plan-number h (N.lowers o x e d) =
+      admitted e (sym (ap (λ (out : Out). out .number) (lowers-accepts d)) ∙ W.act-number s (sound-wires s h) b (reads s b _ e) (lowers-did d))
   plan-number h (N.clears e) = admitted e (other-rows 0xFF (λ _. refl) (omega arith) (reads s b _ e))
 
 pub command-number : (s : State) → sound s ≡ true → (b : List ℕ) → E.exchange s b .number ≡ firstOf (commandRows s b)

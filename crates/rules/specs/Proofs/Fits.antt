@@ -70,9 +70,10 @@ module _ (s : State) (h : sound s ≡ true) where
   planned-fits {b} (N.turned n q) = record { reply = tt; kept = tt }
   planned-fits {b} (N.shows (N.status e)) = record { reply = tt; kept = tt }
   planned-fits {b} (N.shows (N.register a e)) = record { reply = tt; kept = tt }
-  planned-fits {b} (N.acts k o x e d) = lift-fits k s x (length b) (acts-fit b k o x e d)
+  planned-fits {b} (N.acts k o x e d f) = lift-fits k s x (length b) (acts-fit b k o x e d)
   planned-fits {b} (N.forbids a v e f) = record { reply = tt; kept = tt }
   planned-fits {b} (N.configures a v e f) = record { reply = tt; kept = tt }
+  planned-fits {b} (N.lowers o x e d) = record { reply = tt; kept = tt }
   planned-fits {b} (N.clears e) = record { reply = tt; kept = tt }
 
   pub exchange-fits : (b : List ℕ) → PlanFits (length b) (s .wires) (exchange s b)

@@ -7,7 +7,7 @@ use Rattle.registers.specs.declared.Config.{Config}
 use Rattle.state.specs.Status.{status}
 use Rattle.state.specs.Parts.{by-channel}
 use Rattle.state.specs.declared.State.{State}
-use Rattle.rules.specs.Rules.Channel.{Channel, peripheral, wires, Part, change, outOf, part, put, each, channelNumber, same}
+use Rattle.rules.specs.Rules.Channel.{Channel, peripheral, wires, Part, change, nextOf, outOf, part, put, each, channelNumber, same}
 use Rattle.rules.specs.Rules.Lift.{lift, withStatus}
 use Rattle.rules.specs.declared.Out.{Out}
 use Rattle.rules.specs.declared.Plan.{Plan}
@@ -24,6 +24,10 @@ lift-change wires s q out = refl
 pub out-change : (k : Channel) (q : Part k) (out : Out) → outOf k (change k q out) ≡ out
 out-change peripheral q out = refl
 out-change wires q out = refl
+
+pub next-change : (k : Channel) (q : Part k) (out : Out) → nextOf k (change k q out) ≡ q
+next-change peripheral q out = refl
+next-change wires q out = refl
 
 -- a part that stays
 pub put-same : (k : Channel) (s : State) → put k (part k s) s ≡ s

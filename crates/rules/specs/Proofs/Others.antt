@@ -11,10 +11,12 @@ use Rattle.rules.specs.Rules.Channel.{Channel, peripheral, wires, Part, 
 use Rattle.rules.specs.Statements.Cases.{commandOf, Admits}
 use Rattle.rules.specs.Statements.Channels as L
 use Rattle.rules.specs.Statements.Channels.{responseFor, accepts, Acts, Settles}
+use Rattle.rules.specs.Statements.Events.{lowersPltrst}
 use Rattle.rules.specs.Statements.Fields.{byte, isPosted, isNonPosted}
 use Rattle.rules.specs.Statements.Sizes.{isOf}
 use Rattle.rules.specs.Proofs.Lift.{out-change}
 use Rattle.rules.specs.Statements.Requests.{idle, asks, gets, commandEvent, boardEvent}
+use Rattle.rules.specs.Proofs.Events.{no-lowering}
 use Rattle.rules.specs.Proofs.Effects.{command-own}
 use Rattle.rules.specs.Proofs.Whose.{own-opcode, never-set}
 use Rattle.rules.specs.declared.Kept.{Kept}
@@ -39,12 +41,13 @@ settles-other k e p o x (L.Settles.accepted q kept f) = ap (λ (out : Out). out 
 -- ---- its commands and calls are no event of channel 0
 
 -- bytes that make no event of channel 0
-pub record Plain (b : List ℕ) : Type 0 where
+pub record Plain (s : State) (b : List ℕ) : Type 0 where
   pub event : commandEvent b ≡ idle
   pub write : eqb (byte b 0) 0x22 ≡ false
+  pub high : lowersPltrst s b ≡ false
 
-pub plain : (b : List ℕ) (op : ℕ) → byte b 0 ≡ op → commandEvent (op ∷ []) ≡ idle → eqb op 0x22 ≡ false → Plain b
-plain b op e f g = record { event = rw e f; write = rw e g }
+pub plain : (s : State) (b : List ℕ) (op : ℕ) → byte b 0 ≡ op → commandEvent (op ∷ []) ≡ idle → eqb op 0x22 ≡ false → eqb op 0x04 ≡ false → Plain s b
+plain s b op e f g h = record { event = rw e f; write = rw e g; high = no-lowering s b (rw e h) }
 
 -- an opcode that is none of channel 0's
 quiet : (op : ℕ) → isOf peripheral op ≡ false → commandEvent (op ∷ []) ≡ idle
@@ -56,10 +59,11 @@ quiet op = go (isPosted op) (isNonPosted op) (eqb op 0x01)
     go false false true e = absurd (true≢false e)
     go false false false e = refl
 
-pub command-other : (k : Channel) → same peripheral k ≡ false → (s : State) (b : List ℕ) (o : Command k) → Admits s b (commandOf k o) → Plain b
-command-other k n s b o e =
+pub command-other : (k : Channel) → same peripheral k ≡ false → (s : State) (b : List ℕ) (o : Command k) → Admits s b (commandOf k o)
+    → lowersPltrst s b ≡ false → Plain s b
+command-other k n s b o e h =
     let own = command-own k s b o e in
-    plain b (byte b 0) refl (quiet (byte b 0) (own-opcode peripheral k (byte b 0) own ∙ n)) (never-set k (byte b 0) own)
+    record { event = quiet (byte b 0) (own-opcode peripheral k (byte b 0) own ∙ n); write = never-set k (byte b 0) own; high = h }
 
 pub board-other : (k : Channel) → same peripheral k ≡ false → (o : Board k) → boardEvent k o ≡ idle
 board-other peripheral e o = absurd (true≢false e)

@@ -2,6 +2,7 @@
 use Prim.Native.Nat.{ℕ}
 use mathlib.Core.List.{List}
 use mathlib.Core.Path.{_≡_, refl, subst}
+use native.Mathlib.Omega.{arith}
 use Rattle.base.specs.Pick.{pick-ind, pick}
 use Rattle.registers.specs.Registers.{crcChecked, forbiddenAt}
 use Rattle.registers.specs.declared.Config.{Config}
@@ -13,8 +14,7 @@ use Rattle.command.specs.declared.Decoded.{Decoded}
 use Rattle.command.specs.declared.Decoded.the-variants.{Known, Refused}
 use Rattle.state.specs.declared.State.{State}
 use Rattle.rules.specs.Rules.Channel as N
-use Rattle.rules.specs.Rules.Channel.{Channel, peripheral, wires, Part, Command, Act, Board, part, actOf, acting}
-use Rattle.rules.specs.Rules.Lift.{lift}
+use Rattle.rules.specs.Rules.Channel.{Channel, peripheral, wires, Part, Command, Act, Board, actOf, acting}
 use Rattle.rules.specs.Rules.Exchange as E
 use Rattle.rules.specs.Rules.Exchange.{channelsOf, byDecoded}
 use Rattle.rules.specs.Proofs.Peripheral as P
@@ -26,7 +26,7 @@ use Rattle.rules.specs.Rules.Step.{World, exchange, shortStores, perform
 use Rattle.rules.specs.declared.Plan.{Plan}
 use Rattle.rules.specs.Statements.Both as T
 use Rattle.rules.specs.Statements.Both.{Both}
-use Rattle.rules.specs.Statements.Plans.{Did, Settled, commandOf, Admits, Planned, turned, shows, acts, forbids, configures, clears, status, register, Plans}
+use Rattle.rules.specs.Statements.Plans.{Did, Settled, commandOf, Admits, Planned, turned, shows, acts, lowers, forbids, configures, clears, status, register, Plans}
 
 pub did : (k : Channel) (c : Config) (p : Part k) (a : Act k) → Did k c p a (acting k c p a)
 did peripheral = P.did
@@ -41,10 +41,16 @@ module _ (s : State) (b : List ℕ) where
   unfolding E.setConfiguration
   set-planned a v e = pick-ind (Planned s b) (forbiddenAt a v) (forbids a v e) (configures a v e)
 
+  acted-planned : (k : Channel) (o : Command k) → Admits s b (commandOf k o) → Planned s b (E.acted k s (actOf k (s .config) o b))
+  acted-planned peripheral o e = acts peripheral o _ e (did peripheral _ _ _) refl
+  acted-planned wires o e =
+      pick-ind (Planned s b) (N.resetFollows wires (s .wires) (actOf wires (s .config) o b) _) (λ t. lowers o _ e (W.lowers (W.did _ _ _) t))
+      (acts wires o _ e (did wires _ _ _))
+
   known-planned : (o : C₀.Command) → Admits s b o → Planned s b (E.decide s o b)
   unfolding E.decide
-  known-planned (C.Peripheral o) e = acts peripheral o _ e (did peripheral _ _ _)
-  known-planned (C.Wires o) e = acts wires o _ e (did wires _ _ _)
+  known-planned (C.Peripheral o) e = acted-planned peripheral o e
+  known-planned (C.Wires o) e = acted-planned wires o e
   known-planned (C.GetConfiguration a) e = shows (register a e)
   known-planned (C.SetConfiguration a v) e = set-planned a v e
   known-planned C.GetStatus e = shows (status e)
@@ -60,7 +66,7 @@ plans s b = decoded-planned s b _ refl
 
 -- an admitted command of a channel is planned by it
 pub plan-admitted : (k : Channel) (s : State) (b : List ℕ) (o : Command k) → Admits s b (commandOf k o)
-    → E.exchange s b ≡ lift k s (acting k (s .config) (part k s) (actOf k (s .config) o b))
+    → E.exchange s b ≡ E.acted k s (actOf k (s .config) o b)
 unfolding E.exchange E.decide
 plan-admitted peripheral s b o e = rw e
 plan-admitted wires s b o e = rw e
@@ -83,9 +89,9 @@ module _ (w v : World) (b r : List ℕ) (room : shortStores r w ≡ false) where
   unfolding E.decide
   known-both (C.Peripheral o) e = T.acted peripheral o room e
   known-both (C.Wires o) e = T.acted wires o room e
-  known-both (C.GetConfiguration a) e = T.register a
+  known-both (C.GetConfiguration a) e = T.register a e
   known-both (C.SetConfiguration a n) e = set-both a n e
-  known-both C.GetStatus e = T.status
+  known-both C.GetStatus e = T.status e
   known-both C.Reset e = T.cleared e
 
   abbrev admitted : Config → Decoded
@@ -93,7 +99,7 @@ module _ (w v : World) (b r : List ℕ) (room : shortStores r w ≡ false) where
 
   decoded-both : (d : Decoded) → admitted (w .state .config) ≡ d → Twice (byDecoded (w .state) b d) (byDecoded (v .state) b d)
   unfolding performed replyBytes over
-  decoded-both (Refused n) e = T.idle n
+  decoded-both (Refused n) e = T.idle n (omega (arith, refused-number _ _ b n e .0))
   decoded-both (Known o) e = known-both o e
 
   pub exchange-both : w .state .config ≡ v .state .config → Twice (E.exchange (w .state) b) (E.exchange (v .state) b)

@@ -43,7 +43,8 @@ use Rattle.rules.specs.Proofs.Peripheral.Effects.{data-length}
 use Rattle.rules.specs.Proofs.Reads.{reads}
 use Rattle.rules.specs.Proofs.Fields.{asked-not-posted}
 use Rattle.rules.specs.Proofs.Effects.{effects, command-own, one-channel}
-use Rattle.rules.specs.Proofs.Events.{disabling, head-unended, tail-unended, head-without, tail-without}
+use Rattle.rules.specs.Proofs.Wires.Lowering.{lowered-bytes}
+use Rattle.rules.specs.Proofs.Events.{write-ending, lowering-ends, head-unended, tail-unended, head-without, tail-without}
 use Rattle.rules.specs.Proofs.Lift.{own-or-other, same-turned, part-stays}
 use Rattle.rules.specs.Proofs.Others.{acts-other}
 use Rattle.rules.specs.declared.Kept.{Kept}
@@ -112,7 +113,7 @@ module _ (w : World) where
           → WriteMove w (exchange b r) (performed w b (acceptThen (w .state) (reconfigured (w .state) (writeAt (w .state .config) a v))))
       by true e =
           ended (ap (λ (t : Bool). pick t (F.dropped (w .state .peripheral)) (w .state .peripheral) .write) e) refl
-          (disabling peripheral (w .state) b a v h ∙ e)
+          (write-ending peripheral (w .state) b a v h ∙ e)
       by false e = stays (ap (λ (t : Bool). pick t (F.dropped (w .state .peripheral)) (w .state .peripheral) .write) e) refl
 
   reset-write : (r : Reset) → WriteMove w (reset r) (only 0 (withState w (wasReset r (w .state))))
@@ -124,7 +125,7 @@ module _ (w : World) where
   unfolding performed over
   case-write (C.idle n h) = stays refl refl
   case-write (C.shown h) = stays refl refl
-  case-write (C.acted {b} {r} k o x e d) =
+  case-write (C.acted {b} {r} k o x e d f) =
       own-or-other peripheral
       (λ (k : Channel). (o : Command k) (x : Change k) → Admits (w .state) b (commandOf k o)
       → Did k (w .state .config) (part k (w .state)) (actOf k (w .state .config) o b) x → WriteMove w (exchange b r) (performed w b (lift k (w .state) x)))
@@ -137,6 +138,8 @@ module _ (w : World) where
       (λ o x d. settled-write d) (λ k n o x d. settled-beside k n o x) k o x d
   case-write (C.forbidden a v e f) = stays refl refl
   case-write (C.configured {b} {r} a v e f) = set-write b r a v (reads (w .state) b _ e)
+  case-write (C.lowered {b} {r} o x e d) =
+      ended refl refl (lowering-ends peripheral (w .state) b (lowered-bytes (w .state) b d (reads (w .state) b _ e) .lowers))
   case-write (C.cleared e) = stays refl refl
   case-write (C.wiped {r}) = reset-write r
   case-write (C.lent {write} {read}) = lent write read refl refl refl
@@ -242,12 +245,14 @@ module _ (w : World) (b r : List ℕ) where
   data-whole (C.idle n q) p z = absurd (omega (arith, q .least))
   data-whole (C.shown (C.status e)) p z = absurd (true≢false (sym p ∙ ap isPosted (reads (w .state) b _ e)))
   data-whole (C.shown (C.register a e)) p z = absurd (true≢false (sym p ∙ ap isPosted (reads (w .state) b _ e .opcode)))
-  data-whole (C.acted k o x e d) p z =
+  data-whole (C.acted k o x e d f) p z =
       own-or-other peripheral (λ (k : Channel). (o : Command k) → Admits (w .state) b (commandOf k o) → length (writtenData b) ≡ accessLength b)
       (λ o e. data-read (reads (w .state) b _ e) p)
       (λ k n o e. absurd (true≢false (sym (one-channel peripheral k (byte b 0) (channel-0 p) (command-own k (w .state) b o e)) ∙ n))) k o e
   data-whole (C.forbidden a v e f) p z = absurd (omega arith)
   data-whole (C.configured a v e f) p z = absurd (true≢false (sym p ∙ ap isPosted (reads (w .state) b _ e .opcode)))
+  data-whole (C.lowered o x e d) p z =
+      absurd (true≢false (sym p ∙ ap isPosted (lowered-bytes (w .state) b d (reads (w .state) b _ e) .opcode)))
   data-whole (C.cleared e) p z = absurd (true≢false (sym p ∙ ap isPosted (reads (w .state) b _ e)))
 
 module _ (w : World) (b r : List ℕ) (h : AcceptedPost w b r) where

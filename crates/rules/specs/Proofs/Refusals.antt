@@ -73,9 +73,10 @@ acts-turned k s a (L.Acts.accepted q body kept e f) = subst (Turned s) (sym (lif
 planned-turned : {s : State} {b : List ℕ} {p : Plan} → Planned s b p → Turned s p
 planned-turned {s} (N.turned n h) = silent-as s n (omega (arith, h .least)) (omega (arith, h .most))
 planned-turned {s} (N.shows h) = tt
-planned-turned {s} (N.acts k o x e d) = acts-turned k s _ (H.acts k (s .config) (part k s) _ x d)
+planned-turned {s} (N.acts k o x e d f) = acts-turned k s _ (H.acts k (s .config) (part k s) _ x d)
 planned-turned {s} (N.forbids a v e f) = refl
 planned-turned {s} (N.configures a v e f) = tt
+planned-turned {s} (N.lowers o x e d) = tt
 planned-turned {s} (N.clears e) = tt
 
 pub exchange-turned : (s : State) (b : List ℕ) → Turned s (E.exchange s b)
@@ -130,10 +131,11 @@ refusal : {w : World} {c : Call} {o : Outcome} → Case w c o → Refusal (o .nu
 unfolding performed
 refusal {w} {c} (C.idle n h) = quiet-refusal w n c _ (omega (arith, h .least)) (record { world = refl; reply = refl; value = refl; report = refl })
 refusal {w} {c} (C.shown h) = tt
-refusal {w} {c} (C.acted {b} {r} k o x e d) = exchanged-refusal w b r (N.acts k o x e d)
+refusal {w} {c} (C.acted {b} {r} k o x e d f) = exchanged-refusal w b r (N.acts k o x e d f)
 refusal {w} {c} (C.settles k o x e d) = settled-refusal w k o (H.settled k (w .state .config) (part k (w .state)) o x d)
 refusal {w} {c} (C.forbidden {b} {r} a v e f) = exchanged-refusal w b r (N.forbids a v e f)
 refusal {w} {c} (C.configured a v e f) = tt
+refusal {w} {c} (C.lowered o x e d) = tt
 refusal {w} {c} (C.cleared e) = tt
 refusal {w} {c} C.wiped = tt
 refusal {w} {c} C.lent = tt
@@ -160,9 +162,10 @@ lift-keeps k s x = refl
 planned-keeps : {s : State} {b : List ℕ} {p : Plan} → Planned s b p → Keeps (postedLength b) p
 planned-keeps {s} {b} (N.turned n h) = zero-le
 planned-keeps {s} {b} (N.shows h) = zero-le
-planned-keeps {s} {b} (N.acts k o x e d) = subst (λ (z : Kept). keptCount z ≤ postedLength b) (sym (lift-keeps k s x)) (acts-keep k s b o x e d)
+planned-keeps {s} {b} (N.acts k o x e d f) = subst (λ (z : Kept). keptCount z ≤ postedLength b) (sym (lift-keeps k s x)) (acts-keep k s b o x e d)
 planned-keeps {s} {b} (N.forbids a v e f) = zero-le
 planned-keeps {s} {b} (N.configures a v e f) = zero-le
+planned-keeps {s} {b} (N.lowers o x e d) = zero-le
 planned-keeps {s} {b} (N.clears e) = zero-le
 
 pub exchange-keeps : (s : State) (b : List ℕ) → Keeps (postedLength b) (E.exchange s b)
@@ -207,10 +210,11 @@ settled-past w k o p h = record { atWrite = refl; atRead = past-kept p (given k 
 past : {w : World} {c : Call} {o : Outcome} → Case w c o → isLend c ≡ false → Past w (writesAtMost c) (readsAtMost c) o
 past {w} (C.idle n h) e = record { atWrite = refl; atRead = refl }
 past {w} (C.shown {b} h) e = exchange-past w b (N.shows h)
-past {w} (C.acted {b} k o x e d) l = exchange-past w b (N.acts k o x e d)
+past {w} (C.acted {b} k o x e d f) l = exchange-past w b (N.acts k o x e d f)
 past {w} (C.settles k o x e d) l = settled-past w k o (lift k (w .state) x) (settled-keeps k (w .state) o x d)
 past {w} (C.forbidden {b} a v e f) l = exchange-past w b (N.forbids a v e f)
 past {w} (C.configured {b} a v e f) l = exchange-past w b (N.configures a v e f)
+past {w} (C.lowered {b} o x e d) l = exchange-past w b (N.lowers o x e d)
 past {w} (C.cleared {b} e) l = exchange-past w b (N.clears e)
 past {w} C.wiped l = record { atWrite = refl; atRead = refl }
 past {w} C.lent l = absurd (true≢false l)

@@ -12,11 +12,11 @@ use Rattle.rules.specs.Rules.Channel.{peripheral, wires}
 use Rattle.rules.specs.Rules.Step.{World, Call, reset, exchange, board, short, lend, Outcome, step}
 use Rattle.rules.specs.Statements.Fields.{byte, isNonPosted}
 use Rattle.rules.specs.Statements.Events as E
-use Rattle.rules.specs.Statements.Events.{accepted, ending}
+use Rattle.rules.specs.Statements.Events.{accepted, lowersPltrst, ending}
 use Rattle.rules.specs.Statements.Requests.{Event, idle, asks, tells, gets, ends, lends, commandEvent, acceptedEvent, eventOf, event, isEnd, answersWith}
 use Rattle.rules.specs.Statements.Words.{GetPc, getPc, NonPosted, nonPosted, Answer, answer}
-use Rattle.rules.specs.Proofs.Fields.{one}
-use Rattle.rules.specs.Proofs.Events.{no-disabling}
+use Rattle.rules.specs.Proofs.Fields.{outside}
+use Rattle.rules.specs.Proofs.Events.{no-lowering, no-ending}
 
 -- ---- by the number
 
@@ -30,19 +30,18 @@ accepted-event s c o e = ap (λ (t : Bool). pick (t && ending peripheral s c) en
 
 -- ---- an exchange by its first byte
 
--- an opcode of a kind is none outside it
-outside : (p : ℕ → Bool) (op n : ℕ) → p n ≡ false → p op ≡ true → eqb op n ≡ false
-outside p op n f = one (λ (x : ℕ). p x ≡ true → eqb x n ≡ false) op n (λ t. absurd (true≢false (sym t ∙ f))) (λ e _. e)
-
-pub exchange-event : (s : State) (b r : List ℕ) (o : Outcome) → accepted o ≡ true → eqb (byte b 0) 0x22 ≡ false → eventOf s (exchange b r) o ≡ commandEvent b
-exchange-event s b r o e f = accepted-event s (exchange b r) o e ∙ ap (λ (t : Bool). pick t ends (commandEvent b)) (no-disabling peripheral s b f)
+pub exchange-event : (s : State) (b r : List ℕ) (o : Outcome) → accepted o ≡ true → eqb (byte b 0) 0x22 ≡ false → lowersPltrst s b ≡ false
+    → eventOf s (exchange b r) o ≡ commandEvent b
+exchange-event s b r o e f g = accepted-event s (exchange b r) o e ∙ ap (λ (t : Bool). pick t ends (commandEvent b)) (no-ending peripheral s b f g)
 
 pub asked-event : (s : State) (b r : List ℕ) (o : Outcome) → accepted o ≡ true → isNonPosted (byte b 0) ≡ true → eventOf s (exchange b r) o ≡ asks
 asked-event s b r o e h =
-    exchange-event s b r o e (outside isNonPosted (byte b 0) 0x22 refl h) ∙ ap (λ (t : Bool). pick t asks (pick (eqb (byte b 0) 0x01) gets idle)) h
+    exchange-event s b r o e (outside isNonPosted (byte b 0) 0x22 refl h) (no-lowering s b (outside isNonPosted (byte b 0) 0x04 refl h))
+    ∙ ap (λ (t : Bool). pick t asks (pick (eqb (byte b 0) 0x01) gets idle)) h
 
 pub got-event : (s : State) (b r : List ℕ) (o : Outcome) → accepted o ≡ true → byte b 0 ≡ 0x01 → eventOf s (exchange b r) o ≡ gets
-got-event s b r o e h = exchange-event s b r o e (ap (λ (x : ℕ). eqb x 0x22) h) ∙ rw h
+got-event s b r o e h =
+    exchange-event s b r o e (ap (λ (x : ℕ). eqb x 0x22) h) (no-lowering s b (ap (λ (x : ℕ). eqb x 0x04) h)) ∙ rw h
 
 -- ---- by what the accepted call is
 

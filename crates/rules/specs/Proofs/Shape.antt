@@ -6,14 +6,15 @@ use mathlib.Core.Path.{_≡_, refl, sym, subst}
 use native.Mathlib.Omega.{arith}
 use lib.Dec.{ltb}
 use lib.ListN.{length}
-use borrow.Author.Tests.{ltb-false}
+use borrow.Author.Tests.{ltb-false, eq-eqb}
 use Rattle.base.specs.Pick.{pick-ind}
 use Rattle.base.specs.Bytes.{low4}
 use Rattle.peripheral.specs.Sound.{soundRequest}
+use Rattle.state.specs.Status.{status}
 use Rattle.state.specs.declared.State.{State}
 use Rattle.state.specs.Facts.{sound-request}
-use Rattle.rules.specs.Rules.Channel.{Channel, peripheral, wires, Command, Change, part, actOf}
-use Rattle.rules.specs.Rules.Lift.{lift}
+use Rattle.rules.specs.Rules.Channel.{Channel, peripheral, wires, Command, Change, nextOf, outOf, part, put, actOf}
+use Rattle.rules.specs.Rules.Lift.{lift, withStatus}
 use Rattle.rules.specs.Rules.Reply.{replyBytes, closed}
 use Rattle.rules.specs.Rules.Step.{World, Call, Outcome, performed, served, shortStores, replyLength, writeLength, readLength}
 use Rattle.rules.specs.Statements.Fields.{byte}
@@ -21,19 +22,21 @@ use Rattle.rules.specs.Statements.Plans as N
 use Rattle.rules.specs.Statements.Plans.{Did, Planned}
 use Rattle.rules.specs.Statements.Cases as C
 use Rattle.rules.specs.Statements.Cases.{Case}
-use Rattle.rules.specs.Statements.Shape.{Shape, ExchangeShape, RepliesHaveShape, OnlyExchangesReply}
+use Rattle.rules.specs.Statements.Shape.{Shape, replyOf, AcceptedReply, stateShown, ExchangeShape, RepliesHaveShape, OnlyExchangesReply}
 use Rattle.rules.specs.Statements.Refusals.{isExchange}
 use Rattle.rules.specs.Proofs.Reads as D
 use Rattle.rules.specs.Proofs.Plans.{plans}
 use Rattle.rules.specs.Proofs.Cases.{cases, exchange-step}
-use Rattle.rules.specs.Proofs.Replies.{ShapeOf, with-body, bare, at}
+use Rattle.rules.specs.Proofs.Replies.{ShapeOf, accepted-as, shown-as, with-body, bare, at}
+use Rattle.rules.specs.Proofs.StatusShown.{shown-same, shows-after, written-shows, lowered-shows, lowered-status}
+use Rattle.rules.specs.Proofs.Wires.Lowering.{lowered-bytes}
 use Rattle.rules.specs.Proofs.Peripheral.Shape as P
 use Rattle.rules.specs.Proofs.Wires.Shape as W
 use Rattle.rules.specs.declared.Plan.{Plan}
 
 module _ (s : State) (reads : List ℕ) (enough : readLength ≤ length reads) where
   acts-shape : (b : List ℕ) → soundRequest (s .peripheral .request) ≡ true → (k : Channel) (o : Command k) (x : Change k) → N.Admits s b (N.commandOf k o)
-      → Did k (s .config) (part k s) (actOf k (s .config) o b) x → ShapeOf s reads (byte b 0) (lift k s x)
+      → Did k (s .config) (part k s) (actOf k (s .config) o b) x → ShapeOf s reads (byte b 0) (put k (nextOf k x) s) (lift k s x)
   acts-shape b np peripheral o x e d = P.acts-shape s reads enough (byte b 0) np d (P.act-opcode s reads enough (D.reads s b (N.commandOf peripheral o) e))
   acts-shape b np wires o x e d = W.acts-shape s reads (byte b 0) d (W.wire-opcode s reads (D.reads s b (N.commandOf wires o) e))
 
@@ -43,15 +46,30 @@ module _ (s : State) (reads : List ℕ) (enough : readLength ≤ length reads) w
   silent-shape (suc (suc zero)) op after h = absurd (omega arith)
   silent-shape (suc (suc (suc n))) op after h = refl
 
-  planned-shape : {b : List ℕ} {p : Plan} → soundRequest (s .peripheral .request) ≡ true → Planned s b p → ShapeOf s reads (byte b 0) p
-  unfolding replyBytes closed
-  planned-shape {b} np (N.turned n h) = silent-shape n (byte b 0) s (omega (arith, h .least))
-  planned-shape {b} np (N.shows (N.status e)) = at s (byte b 0) 0x25 (D.reads s b _ e) (bare s 0x25 0x08 s refl)
-  planned-shape {b} np (N.shows (N.register a e)) = at s (byte b 0) 0x21 (D.reads s b _ e .opcode) (with-body s 0x21 s (low4 _) refl refl (omega arith))
-  planned-shape {b} np (N.acts k o x e d) = acts-shape b np k o x e d
+  planned-shape : {b : List ℕ} {p : Plan} → soundRequest (s .peripheral .request) ≡ true → Planned s b p
+      → ShapeOf s reads (byte b 0) (stateShown b s (p .next)) p
+  unfolding replyBytes closed lift
+  planned-shape {b} np (N.turned n h) = silent-shape n (byte b 0) _ (omega (arith, h .least))
+  planned-shape {b} np (N.shows (N.status e)) =
+      accepted-as (shown-same b s) (at (byte b 0) 0x25 (D.reads s b _ e) (bare 0x25 0x08 s refl))
+  planned-shape {b} np (N.shows (N.register a e)) =
+      accepted-as (shown-same b s)
+      (at (byte b 0) 0x21 (D.reads s b _ e .opcode) (with-body 0x21 s (low4 _) refl refl (omega arith)))
+  planned-shape {b} np (N.acts k o x e d f) =
+      shown-as (outOf k x .number) (byte b 0) s (put k (nextOf k x) s) (stateShown b s (put k (nextOf k x) s))
+      (replyBytes (withStatus (outOf k x .say) (status (put k (nextOf k x) s))) (s .wires) reads)
+      (λ z. shows-after k s b o x e d f (eq-eqb (outOf k x .number) 0 z))
+      (acts-shape b np k o x e d)
   planned-shape {b} np (N.forbids a v e f) = refl
-  planned-shape {b} np (N.configures a v e f) = at s (byte b 0) 0x22 (D.reads s b _ e .opcode) (with-body s 0x22 _ [] refl refl (omega arith))
-  planned-shape {b} np (N.clears e) = at s (byte b 0) 0xFF (D.reads s b _ e) (record { reset = λ _. refl; replied = λ n. absurd (n refl) })
+  planned-shape {b} np (N.configures a v e f) =
+      let op = D.reads s b _ e .opcode in
+      accepted-as (written-shows s _ b op) (at (byte b 0) 0x22 op (with-body 0x22 s [] refl refl (omega arith)))
+  planned-shape {b} np (N.lowers o x e d) =
+      let l = lowered-bytes s b d (D.reads s b _ e) in
+      accepted-as (lowered-shows s _ b (l .lowers))
+      (subst (λ (n : ℕ). AcceptedReply (byte b 0) s (replyOf 0x08 [] n)) (sym (lowered-status s b (x .next) l))
+      (at (byte b 0) 0x04 (l .opcode) (bare 0x04 0x08 s refl)))
+  planned-shape {b} np (N.clears e) = at (byte b 0) 0xFF (D.reads s b _ e) (record { reset = λ _. refl; replied = λ n. absurd (n refl) })
 
 pub replies-have-shape : RepliesHaveShape
 unfolding performed
@@ -77,10 +95,11 @@ replies-alone : {w : World} {c : Call} {o : Outcome} → Case w c o → isExchan
 unfolding served
 replies-alone (C.idle n h) e = refl
 replies-alone (C.shown h) e = absurd (true≢false e)
-replies-alone (C.acted k o x a d) e = absurd (true≢false e)
+replies-alone (C.acted k o x a d f) e = absurd (true≢false e)
 replies-alone (C.settles k o x a d) e = refl
 replies-alone (C.forbidden a v f g) e = absurd (true≢false e)
 replies-alone (C.configured a v f g) e = absurd (true≢false e)
+replies-alone (C.lowered o x a d) e = absurd (true≢false e)
 replies-alone (C.cleared f) e = absurd (true≢false e)
 replies-alone C.wiped e = refl
 replies-alone C.lent e = refl

@@ -12,7 +12,7 @@ use Rattle.command.specs.declared.Command.the-variants as C₀
 use Rattle.state.specs.Facts.{fresh-sound}
 use Rattle.state.specs.declared.State.{State}
 use Rattle.state.specs.Sound.{Sound}
-use Rattle.rules.specs.Rules.Reset.{Reset}
+use Rattle.rules.specs.Rules.Reset.{Reset, platformReset}
 use Rattle.rules.specs.Rules.Channel.{Channel, peripheral, wires, Part, Command, Board, Change, nextOf, part, put, each, on, actOf, enableEdge, reset}
 use Rattle.rules.specs.Rules.Lift as L
 use Rattle.rules.specs.Rules.Lift.{lift}
@@ -31,6 +31,7 @@ use Rattle.rules.specs.Proofs.SoundBytes.{bytes-below}
 use Rattle.rules.specs.Proofs.SoundParts.{PartOk, Parts, parts, with-part, with-each, fresh008-ok, reset-config}
 use Rattle.rules.specs.Proofs.Peripheral.Sound as P
 use Rattle.rules.specs.Proofs.Wires.Sound as W
+use Rattle.rules.specs.Proofs.Wires.Lowering.{lowers-did}
 use Rattle.rules.specs.declared.Plan.{Plan}
 
 -- ---- every channel keeps its part sound
@@ -83,10 +84,12 @@ lift-next k s x = refl
 planned-sound : {s : State} {b : List ℕ} {p : Plan} → Sound s → IsBytes b → Planned s b p → Sound (p .next)
 planned-sound {s} {b} h bytes (N.turned n q) = h
 planned-sound {s} {b} h bytes (N.shows q) = h
-planned-sound {s} {b} h bytes (N.acts k o x e d) =
+planned-sound {s} {b} h bytes (N.acts k o x e d f) =
     subst Sound (sym (lift-next k s x)) (with-part k (nextOf k x) (parts h) (acts-ok k s b o x (parts h) bytes e d))
 planned-sound {s} {b} h bytes (N.forbids a v e f) = h
 planned-sound {s} {b} h bytes (N.configures a v e f) = configured-sound (parts h) a v f (admit-numbers _ _ b (C₀.SetConfiguration a v) e bytes .1)
+planned-sound {s} {b} h bytes (N.lowers o x e d) =
+    reset-parts (parts (with-part wires (x .next) (parts h) (acts-ok wires s b o x (parts h) bytes e (lowers-did d)))) platformReset
 planned-sound {s} {b} h bytes (N.clears e) = cleared-sound (parts h)
 
 pub exchange-sound : {s : State} → Sound s → (b : List ℕ) → S.areBytes b ≡ true → Sound (exchange s b .next)
@@ -105,10 +108,11 @@ sound-case : {w : World} {c : Call} {o : Outcome} → Sound (w .state) → S.han
 unfolding performed served
 sound-case {w} h b (C.idle n q) = h
 sound-case {w} h b (C.shown q) = h
-sound-case {w} h b (C.acted {b = l} k o x e d) = planned-sound h (bytes-below l b) (N.acts k o x e d)
+sound-case {w} h b (C.acted {b = l} k o x e d f) = planned-sound h (bytes-below l b) (N.acts k o x e d f)
 sound-case {w} h b (C.settles k o x e d) = settled-sound h k o x d
 sound-case {w} h b (C.forbidden a v e f) = h
 sound-case {w} h b (C.configured {b = l} a v e f) = planned-sound h (bytes-below l b) (N.configures a v e f)
+sound-case {w} h b (C.lowered {b = l} o x e d) = planned-sound h (bytes-below l b) (N.lowers o x e d)
 sound-case {w} h b (C.cleared e) = cleared-sound (parts h)
 sound-case {w} h b (C.wiped {r}) = reset-sound h r
 sound-case {w} h b C.lent = h

@@ -22,20 +22,20 @@ use Rattle.state.specs.declared.State.{State}
 use Rattle.rules.specs.Rules.Reset.{Reset, start, espiReset, platformReset}
 use Rattle.rules.specs.Rules.Out.{fatal, number}
 use Rattle.rules.specs.Rules.Peripheral as P₀
-use Rattle.rules.specs.Rules.Channel.{Channel, peripheral, Command, Board, Change, nextOf, outOf, part, put, on, actOf, given, same}
+use Rattle.rules.specs.Rules.Channel.{Channel, peripheral, wires, Part, Command, Board, Change, nextOf, outOf, part, put, on, actOf, resetFollows, given, same}
 use Rattle.rules.specs.Rules.Lift.{lift, withStatus, show, nonFatal, acceptThen, quietly}
-use Rattle.rules.specs.Rules.Exchange.{reconfigured, reset008h, wasReset}
+use Rattle.rules.specs.Rules.Exchange.{reconfigured, reset008h, wasReset, thenReset}
 use Rattle.rules.specs.Rules.Reply.{replyBytes, keptBytes}
 use Rattle.rules.specs.Rules.Step.{World, Call, reset, exchange, board, lend, Outcome, step, only, withState, performed, served}
 use Rattle.rules.specs.Statements.Peripheral as P
 use Rattle.rules.specs.Statements.Cases as C
 use Rattle.rules.specs.Statements.Cases.{Did, Settled, Admits, commandOf, Case}
 use Rattle.rules.specs.Statements.Channels.{Settles}
-use Rattle.rules.specs.Statements.Events.{accepted}
+use Rattle.rules.specs.Statements.Events.{accepted, lowersPltrst}
 use Rattle.rules.specs.Statements.Fields.{byte, isPosted}
 use Rattle.rules.specs.Statements.Reads as R
 use Rattle.rules.specs.Statements.Reads.{Writes}
-use Rattle.rules.specs.Statements.Requests.{Event, idle, asks, gets, ends, eventOf, event, held}
+use Rattle.rules.specs.Statements.Requests.{Event, idle, asks, gets, ends, commandEvent, eventOf, event, held}
 use Rattle.rules.specs.Statements.View.{Shown, Move, same as stays, asked, told, sent, lent, dropped, View}
 use Rattle.rules.specs.Proofs.Cases.{cases}
 use Rattle.rules.specs.Proofs.Channels as N
@@ -43,9 +43,11 @@ use Rattle.rules.specs.Proofs.Fields.{by-posted}
 use Rattle.rules.specs.Proofs.Peripheral.Effects.{no-bytes}
 use Rattle.rules.specs.Proofs.Reads.{reads}
 use Rattle.rules.specs.Proofs.Reply.{status-bits, status-in}
-use Rattle.rules.specs.Proofs.Events.{disabling}
+use Rattle.rules.specs.Proofs.Events.{write-ending, lowering-ends}
 use Rattle.rules.specs.Proofs.Requests.{refused-event, accepted-event, exchange-event, asked-event, got-event}
 use Rattle.rules.specs.Proofs.Lift.{own-or-other, same-turned, part-stays}
+use Rattle.rules.specs.Proofs.Effects.{unlowered}
+use Rattle.rules.specs.Proofs.Wires.Lowering.{lowered-bytes}
 use Rattle.rules.specs.Proofs.Others.{settles-other, Plain, plain, command-other, board-other}
 use Rattle.rules.specs.declared.PeripheralChange.{PeripheralChange}
 use Rattle.rules.specs.declared.Say.{Say}
@@ -78,17 +80,17 @@ shown s (S.Said response body) w =
 
 -- ---- commands that make no event of channel 0
 
-plain-event : (s : State) (b r : List ℕ) (o : Outcome) → Plain b → eventOf s (exchange b r) o ≡ idle
+plain-event : (s : State) (b r : List ℕ) (o : Outcome) → (accepted o ≡ true → Plain s b) → eventOf s (exchange b r) o ≡ idle
 plain-event s b r o p = go (accepted o) refl
   where
     go : (t : Bool) → accepted o ≡ t → eventOf s (exchange b r) o ≡ idle
-    go true e = exchange-event s b r o e (p .write) ∙ p .event
+    go true e = exchange-event s b r o e (p e .write) (p e .high) ∙ p e .event
     go false e = refused-event s (exchange b r) o e
 
-posted-plain : (b : List ℕ) → isPosted (byte b 0) ≡ true → Plain b
-posted-plain b h =
-    by-posted (λ (op : ℕ). byte b 0 ≡ op → Plain b) (λ e. plain b 0x00 e refl refl) (λ e. plain b 0x4C e refl refl) (λ e. plain b 0x4D e refl refl)
-    (λ e. plain b 0x4F e refl refl) (byte b 0) h refl
+posted-plain : (s : State) (b : List ℕ) → isPosted (byte b 0) ≡ true → Plain s b
+posted-plain s b h =
+    by-posted (λ (op : ℕ). byte b 0 ≡ op → Plain s b) (λ e. plain s b 0x00 e refl refl refl) (λ e. plain s b 0x4C e refl refl refl)
+    (λ e. plain s b 0x4D e refl refl refl) (λ e. plain s b 0x4F e refl refl refl) (byte b 0) h refl
 
 module _ (w : World) where
   abbrev Seen : Call → Outcome → Type 0
@@ -116,7 +118,7 @@ module _ (w : World) where
     unfolding performed lift replyBytes
     acted-seen f (P.writeHeld e) = fatal-seen
     acted-seen f (P.writeLarge e g) = fatal-seen
-    acted-seen {a} {x} (R.posts h n) (P.posted e g) = seen idle (plain-event _ b r _ (posted-plain b h)) (stays refl refl refl (leaves x))
+    acted-seen {a} {x} (R.posts h n) (P.posted e g) = seen idle (plain-event _ b r _ (λ _. posted-plain (w .state) b h)) (stays refl refl refl (leaves x))
     acted-seen f (P.requestHeld e) = fatal-seen
     acted-seen f (P.requestLarge e g) = fatal-seen
     acted-seen {a} {x} (R.asks h) (P.asked e g) = seen asks (asked-event _ b r _ refl h) (asked b r refl (no-request (held w) e) refl refl refl refl (leaves x))
@@ -151,7 +153,8 @@ module _ (w : World) where
     kept-part : (x : Change k) → put k (nextOf k x) (w .state) .peripheral ≡ w .state .peripheral
     kept-part x = part-stays k peripheral (nextOf k x) (w .state) (same-turned peripheral k other)
 
-    acted-beside : (b r : List ℕ) (x : Change k) → Plain b → Seen (exchange b r) (performed w b (lift k (w .state) x))
+    acted-beside : (b r : List ℕ) (x : Change k) → (eqb (outOf k x .number) 0 ≡ true → Plain (w .state) b)
+        → Seen (exchange b r) (performed w b (lift k (w .state) x))
     unfolding performed lift
     acted-beside b r x p =
         seen idle (plain-event (w .state) b r _ p)
@@ -179,18 +182,18 @@ module _ (w : World) where
   abbrev Plans : List ℕ → List ℕ → Plan → Type 0
   Plans b r p = Seen (exchange b r) (performed w b p)
 
-  shown-seen : (b r : List ℕ) (body : Body) → Plain b → Plans b r (show body (w .state))
+  shown-seen : (b r : List ℕ) (body : Body) → Plain (w .state) b → Plans b r (show body (w .state))
   unfolding performed
-  shown-seen b r body p = seen idle (plain-event (w .state) b r _ p) (stays refl refl refl (shown (w .state) (S.Said Accept body) w))
+  shown-seen b r body p = seen idle (plain-event (w .state) b r _ (λ _. p)) (stays refl refl refl (shown (w .state) (S.Said Accept body) w))
 
   forbidden-seen : (b r : List ℕ) → Plans b r (nonFatal (w .state))
   unfolding performed
   forbidden-seen b r =
       seen idle (refused-event (w .state) (exchange b r) _ refl) (stays refl refl refl (shown (w .state) (S.Said NonFatal B.Nothing) w))
 
-  cleared-seen : (b r : List ℕ) → Plain b → Plans b r (quietly (reset008h (w .state)))
+  cleared-seen : (b r : List ℕ) → Plain (w .state) b → Plans b r (quietly (reset008h (w .state)))
   unfolding performed replyBytes
-  cleared-seen b r p = seen idle (plain-event (w .state) b r _ p) (stays refl refl refl quiet)
+  cleared-seen b r p = seen idle (plain-event (w .state) b r _ (λ _. p)) (stays refl refl refl quiet)
 
   -- "A write takes effect after its own reply, whose .. status" is the old one
   written-seen : (b r : List ℕ) (c : Config) (t : Bool) → on peripheral (w .state .config) && not (on peripheral c) ≡ t
@@ -209,8 +212,16 @@ module _ (w : World) where
   set-seen b r a v h =
       seen _
       (accepted-event (w .state) (exchange b r) _ refl
-      ∙ ap₂ (λ (t : Bool) (e : Event). pick t ends e) (disabling peripheral (w .state) b a v h) (rw (h .opcode)))
+      ∙ ap₂ (λ (t : Bool) (e : Event). pick t ends e) (write-ending peripheral (w .state) b a v h) (rw (h .opcode)))
       (written-seen b r _ _ refl)
+
+  -- "the platform reset follows after that reply, which shows the status before it": the request that was held
+  lowered-seen : (b r : List ℕ) (v : Part wires) → lowersPltrst (w .state) b ≡ true → Plans b r (thenReset (put wires v (w .state)))
+  unfolding performed
+  lowered-seen b r v l =
+      seen ends
+      (accepted-event (w .state) (exchange b r) _ refl ∙ ap (λ (t : Bool). pick t ends (commandEvent b)) (lowering-ends peripheral (w .state) b l))
+      (dropped refl refl (shown (put wires v (w .state)) (S.Said Accept B.Nothing) w))
 
   reset-seen : (r : Reset) → Seen (reset r) (only 0 (withState w (wasReset r (w .state))))
   unfolding eventOf
@@ -225,22 +236,23 @@ module _ (w : World) where
   idle-seen : (c : Call) (n : ℕ) → 10 ≤ n → Seen c (only n w)
   idle-seen c n h = seen idle (refused-event (w .state) c (only n w) (ne-eqb n 0 (λ e. omega arith))) (stays refl refl refl quiet)
 
-  shows-plain : {b : List ℕ} {body : Body} → C.Shows (w .state) b body → Plain b
-  shows-plain {b} (C.status e) = plain b 0x25 (reads (w .state) b _ e) refl refl
-  shows-plain {b} (C.register a e) = plain b 0x21 (reads (w .state) b _ e .opcode) refl refl
+  shows-plain : {b : List ℕ} {body : Body} → C.Shows (w .state) b body → Plain (w .state) b
+  shows-plain {b} (C.status e) = plain (w .state) b 0x25 (reads (w .state) b _ e) refl refl refl
+  shows-plain {b} (C.register a e) = plain (w .state) b 0x21 (reads (w .state) b _ e .opcode) refl refl refl
 
   -- ---- all cases
 
   case-seen : {c : Call} {o : Outcome} → Case w c o → Seen c o
   case-seen {c} (C.idle n h) = idle-seen c n (h .least)
   case-seen (C.shown {b} {r} {body} h) = shown-seen b r body (shows-plain h)
-  case-seen (C.acted {b} {r} k o x e d) =
+  case-seen (C.acted {b} {r} k o x e d f) =
       own-or-other peripheral
       (λ (k : Channel). (o : Command k) (x : Change k) → Admits (w .state) b (commandOf k o)
-      → Did k (w .state .config) (part k (w .state)) (actOf k (w .state .config) o b) x → Seen (exchange b r) (performed w b (lift k (w .state) x)))
-      (λ o x e d. acted-seen b r (reads (w .state) b _ e) d)
-      (λ k n o x e d. acted-beside k n b r x (command-other k n (w .state) b o e))
-      k o x e d
+      → Did k (w .state .config) (part k (w .state)) (actOf k (w .state .config) o b) x
+      → resetFollows k (part k (w .state)) (actOf k (w .state .config) o b) (nextOf k x) ≡ false → Seen (exchange b r) (performed w b (lift k (w .state) x)))
+      (λ o x e d f. acted-seen b r (reads (w .state) b _ e) d)
+      (λ k n o x e d f. acted-beside k n b r x (λ z. command-other k n (w .state) b o e (unlowered k (w .state) b o x e d f z)))
+      k o x e d f
   case-seen (C.settles k o x e d) =
       own-or-other peripheral
       (λ (k : Channel). (o : Board k) (x : Change k) → Settled k (w .state .config) (part k (w .state)) o x
@@ -248,7 +260,8 @@ module _ (w : World) where
       (λ o x d. settled-seen d) (λ k n o x d. settled-beside k n o x (N.settled k (w .state .config) (part k (w .state)) o x d)) k o x d
   case-seen (C.forbidden {b} {r} a v e f) = forbidden-seen b r
   case-seen (C.configured {b} {r} a v e f) = set-seen b r a v (reads (w .state) b _ e)
-  case-seen (C.cleared {b} {r} e) = cleared-seen b r (plain b 0xFF (reads (w .state) b _ e) refl refl)
+  case-seen (C.lowered {b} {r} o x e d) = lowered-seen b r (x .next) (lowered-bytes (w .state) b d (reads (w .state) b _ e) .lowers)
+  case-seen (C.cleared {b} {r} e) = cleared-seen b r (plain (w .state) b 0xFF (reads (w .state) b _ e) refl refl refl)
   case-seen (C.wiped {r}) = reset-seen r
   case-seen (C.lent {write} {read}) = lent-seen write read
 

@@ -1,12 +1,11 @@
 -- Whose an exchange is: a channel's command begins with an opcode of that channel's, and of no other's.
 use Prim.Native.Nat.{ℕ, _≤_}
-use mathlib.Core.Bool.{Bool, true, false, true≢false}
+use mathlib.Core.Bool.{Bool, true, false}
 use mathlib.Core.List.{List, [], _∷_}
 use mathlib.Core.Path.{_≡_, refl, sym, ap, _∙_}
 use native.Mathlib.Omega.{arith}
 use lib.Dec.{eqb}
 use lib.ListN.{length}
-use borrow.Author.Tests.{eqb-true}
 use Rattle.registers.specs.Registers.{crcChecked}
 use Rattle.command.specs.Facts.{admit-decodes}
 use Rattle.command.specs.declared.Command as C₀
@@ -17,6 +16,7 @@ use Rattle.rules.specs.Statements.Plans.{Admits, commandOf}
 use Rattle.rules.specs.Statements.Fields.{byte}
 use Rattle.rules.specs.Statements.Sizes.{isOf}
 use Rattle.rules.specs.Statements.Apart.{isCommandOf}
+use Rattle.rules.specs.Proofs.Fields.{outside}
 use Rattle.rules.specs.Proofs.Lift.{same-is}
 use Rattle.rules.specs.Proofs.Effects.{command-own, one-channel, above}
 
@@ -37,11 +37,7 @@ own-opcode x k op e = go (isOf x op) refl (same x k) refl
 
 -- and no channel's is a SET_CONFIGURATION
 pub never-set : (k : Channel) (op : ℕ) → isOf k op ≡ true → eqb op 0x22 ≡ false
-never-set k op e = go (eqb op 0x22) refl
-  where
-    go : (t : Bool) → eqb op 0x22 ≡ t → t ≡ false
-    go true f = absurd (true≢false (sym e ∙ ap (isOf k) (eqb-true op 0x22 f) ∙ above k .at22))
-    go false f = refl
+never-set k op e = outside (isOf k) op 0x22 (above k .at22) e
 
 pub own-command : (x k : Channel) (s : State) (b : List ℕ) (o : Command k) → Admits s b (commandOf k o) → isCommandOf x b ≡ same x k
 own-command x k s b o e = begins x s b (commandOf k o) e ∙ own-opcode x k (byte b 0) (command-own k s b o e)

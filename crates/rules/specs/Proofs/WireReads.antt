@@ -6,12 +6,12 @@ use mathlib.Core.Logic.{⊎-elim}
 use mathlib.Core.Path.{_≡_, refl, sym, ap, subst, _∙_}
 use native.Mathlib.Omega.{arith}
 use lib.Dec.{eqb, ltb}
-use lib.ListN.{getD, set, length-set}
+use lib.ListN.{getD, set, length, length-set}
 use lib.Seq.{getD-set-same, getD-set-other}
 use borrow.Author.Tests.{eqb-true, eqb-false, eq-eqb, ne-eqb}
-use Rattle.base.specs.Pick.{pick, pick-ind, and-left, and-right, or-either}
+use Rattle.base.specs.Pick.{pick, pick-ind, and-left, and-right, and-true, or-either}
 use Rattle.wires.specs.Table.{rowAt, isGroup}
-use Rattle.wires.specs.Groups.{levelAt, isDown, definedBit, putPairs, afterSent, platformWires, wholeWires}
+use Rattle.wires.specs.Groups.{levelAt, isDown, definedBit, readWire, putPairs, afterSent, platformWires}
 use Rattle.wires.specs.Kept.{whole-level}
 use Rattle.wires.specs.Rows.{DefinedBit, defined-bit, settable-bit}
 use Rattle.wires.specs.Sent.{sent-levels}
@@ -26,17 +26,17 @@ use Rattle.rules.specs.Rules.Step.{World, Call, reset, exchange, board, 
 use Rattle.rules.specs.Statements.Fields.{byte, pairs, registerAt, registerValue}
 use Rattle.rules.specs.Statements.Sizes.{isOf, isEnabled}
 use Rattle.rules.specs.Statements.Effects.{switched, enabledAfter, exchangeEffect, effect}
-use Rattle.rules.specs.Statements.Events.{accepted}
+use Rattle.rules.specs.Statements.Events.{accepted, lowersPltrst, pltrstFalls}
 use Rattle.rules.specs.Statements.Requests.{without}
 use Rattle.rules.specs.Statements.WireEvents.{wiresOf}
 use Rattle.rules.specs.Statements.WireView.{setsWire}
-use Rattle.rules.specs.Statements.WireSteps.{wireOf}
-use Rattle.rules.specs.Statements.Wires.Effects.{groupsSent, tableValues}
+use Rattle.rules.specs.Statements.WireSteps.{wireOf, Lowered}
+use Rattle.rules.specs.Statements.Wires.Effects.{groupsSent}
 use Rattle.rules.specs.Statements.Wires.Rows.{wireDefined, wireOfBoard}
 use Rattle.rules.specs.Statements.WireReads.{wireDown, resetLevel, resetsGroup, resetsBy, along, packetIn, settingIn, packets, settings}
 use Rattle.rules.specs.Statements.WireReads.{through, lastPut, lastSet, valueRead, ReadAfter, SoundBefore, WireReads}
 use Rattle.rules.specs.Proofs.Cases.{board-long}
-use Rattle.rules.specs.Proofs.Events.{head-without, tail-without}
+use Rattle.rules.specs.Proofs.Events.{no-lowering, head-without, tail-without}
 use Rattle.rules.specs.Proofs.Effects.{effects, after-call}
 use Rattle.rules.specs.Proofs.Sound.{sound-step}
 use Rattle.rules.specs.Proofs.Reads.{one-of}
@@ -91,7 +91,7 @@ up-wire i bit e =
 
 -- ---- a read yields the level
 
-read-level : (w : World) (i bit : ℕ) → definedBit i bit ≡ true → valueRead w i bit ≡ wireOf w i bit
+pub read-level : (w : World) (i bit : ℕ) → definedBit i bit ≡ true → valueRead w i bit ≡ wireOf w i bit
 unfolding served
 read-level w i bit e = ap (λ (q : Outcome). q .value) (board-long wires w (W.readWire i bit) refl) ∙ ap (λ (t : Bool). pick t (wireOf w i bit) 0) e
 
@@ -119,7 +119,9 @@ module _ (w : World) where
       let op = byte b 0 in
       let v = wiresOf w in
       pick-ind Kept (isOf peripheral op) (λ _. refl)
-      (λ _. pick-ind Kept (isOf wires op) (λ _. get-level op v (putPairs v (pairs b)) (groupsSent (w .state .config) v) e)
+      (λ _. pick-ind Kept (isOf wires op)
+      (λ _. pick-ind Kept (lowersPltrst (w .state) b) (λ l. absurd (true≢false (sym l ∙ no-lowering (w .state) b e)))
+      (λ _. get-level op v (putPairs v (pairs b)) (groupsSent (w .state .config) v) e))
       (λ _. pick-ind Kept (eqb op 0x22)
       (λ _. edge-level (isEnabled wires (w .state .config)) (enabledAfter wires (w .state .config) (registerAt b) (registerValue b)) v)
       (λ _. pick-ind Kept (eqb op 0xFF) (λ _. refl) (λ _. refl))))
@@ -134,7 +136,7 @@ module _ (w : World) (i bit : ℕ) (from : 2 ≤ i) where
   same-wire : (v : World) → levelAt (wiresOf v) i ≡ levelAt (wiresOf w) i → wireOf v i bit ≡ wireOf w i bit
   same-wire v e = ap (λ (x : ℕ). x / 2 ^ bit % 2) e
 
-  reset-wire : (r : Reset) → resetsGroup i r ≡ false → wireOf (effect w (reset r)) i bit ≡ wireOf w i bit
+  pub reset-wire : (r : Reset) → resetsGroup i r ≡ false → wireOf (effect w (reset r)) i bit ≡ wireOf w i bit
   reset-wire start e = absurd (true≢false e)
   reset-wire espiReset e = absurd (true≢false e)
   reset-wire platformReset e =
@@ -156,20 +158,40 @@ module _ (w : World) (i bit : ℕ) (from : 2 ≤ i) where
       → wireOf (step w (exchange b r) .next) i bit ≡ wireOf w i bit
   by-command b r n e = by-row (exchange b r) n (kept-wire (exchangeEffect w (byte b 0) b) (other-command w b e))
 
+-- a packet that lowers PLTRST# resets groups 6 and 7, and no other
+module _ (w : World) (i bit : ℕ) (b r : List ℕ) (n : step w (exchange b r) .number ≡ 0) (l : lowersPltrst (w .state) b ≡ true) where
+  spared : resetsBy i w (exchange b r) ≡ false → resetsGroup i platformReset ≡ false
+  spared e = go (resetsGroup i platformReset) (sym (ap (λ (t : Bool). resetsGroup i platformReset && t) falls) ∙ e)
+    where
+      falls : pltrstFalls w (exchange b r) ≡ true
+      falls = and-true (eq-eqb (step w (exchange b r) .number) 0 n) l
+
+      go : (t : Bool) → t && true ≡ false → t ≡ false
+      go true h = h
+      go false h = refl
+
+  lowered-wire : {given : List ℕ} (u : Lowered w (step w (exchange b r) .next) given) → 2 ≤ i → resetsBy i w (exchange b r) ≡ false
+      → wireOf (step w (exchange b r) .next) i bit ≡ wireOf (u .packet) i bit
+  lowered-wire u from e = ap (λ (v : Wires). readWire v i bit) (u .reset) ∙ reset-wire (u .packet) i bit from platformReset (spared e)
+
 -- ---- a down wire: packets alone change it
 
 module _ (w : World) (s : Sound (w .state)) (i bit : ℕ) (d : Wire true i bit) where
   abbrev from : 2 ≤ i
   from = defined-bit i bit (d .defined) .from
 
-  put-down : (b r : List ℕ) → step w (exchange b r) .number ≡ 0
+  put-down : (b r : List ℕ) → resetsBy i w (exchange b r) ≡ false → step w (exchange b r) .number ≡ 0
       → wireOf (step w (exchange b r) .next) i bit ≡ lastPut i bit (packetIn (exchange b r)) (wireOf w i bit)
   unfolding through
-  put-down b r n = go (eqb (byte b 0) 0x04) refl
+  put-down b r f n = go (eqb (byte b 0) 0x04) (lowersPltrst (w .state) b) refl refl
     where
-      go : (t : Bool) → eqb (byte b 0) 0x04 ≡ t → wireOf (step w (exchange b r) .next) i bit ≡ lastPut i bit (pick t (pairs b ∷ []) []) (wireOf w i bit)
-      go true e = wire-steps .put w b r s (eqb-true (byte b 0) 0x04 e) n .bits i bit (d .way) (d .defined)
-      go false e = by-command w i bit from b r n e
+      go : (t u : Bool) → eqb (byte b 0) 0x04 ≡ t → lowersPltrst (w .state) b ≡ u
+          → wireOf (step w (exchange b r) .next) i bit ≡ lastPut i bit (pick t (pairs b ∷ []) []) (wireOf w i bit)
+      go true true e l =
+          let u = wire-steps .lowered w b r s n l in
+          lowered-wire w i bit b r n l u from f ∙ u .put .bits i bit (d .way) (d .defined)
+      go true false e l = wire-steps .put w b r s (eqb-true (byte b 0) 0x04 e) n l .bits i bit (d .way) (d .defined)
+      go false u e l = by-command w i bit from b r n e
 
   -- a wire that the board sets is none
   set-down : (j k v : ℕ) → step w (setsWire j k v) .number ≡ 0 → wireOf (step w (setsWire j k v) .next) i bit ≡ wireOf w i bit
@@ -179,10 +201,10 @@ module _ (w : World) (s : Sound (w .state)) (i bit : ℕ) (d : Wire true i bit) 
       (λ e. true≢false (sym (and-right (isGroup i) (rowAt (i - 2) .down) (d .way)) ∙ ap (λ (x : ℕ). rowAt (x - 2) .down) e
       ∙ settable-bit j k v (board-law w (W.setWire j k v) n .0) .up)))
 
-  accepted-down : (c : Call) → resetsBy i c ≡ false → step w c .number ≡ 0 → wireOf (step w c .next) i bit ≡ lastPut i bit (packetIn c) (wireOf w i bit)
+  accepted-down : (c : Call) → resetsBy i w c ≡ false → step w c .number ≡ 0 → wireOf (step w c .next) i bit ≡ lastPut i bit (packetIn c) (wireOf w i bit)
   unfolding through
   accepted-down (reset r) e n = by-row w i bit from (reset r) n (reset-wire w i bit from r e)
-  accepted-down (exchange b r) e n = put-down b r n
+  accepted-down (exchange b r) e n = put-down b r e n
   accepted-down (board peripheral o) e n = by-row w i bit from (board peripheral o) n refl
   accepted-down (board wires (W.setWire j k v)) e n = set-down j k v n
   accepted-down (board wires (W.readWire j k)) e n = by-row w i bit from (board wires (W.readWire j k)) n refl
@@ -195,14 +217,19 @@ module _ (w : World) (s : Sound (w .state)) (i bit : ℕ) (u : Wire false i bit)
   abbrev its : DefinedBit i bit
   its = defined-bit i bit (u .defined)
 
-  put-up : (b r : List ℕ) → step w (exchange b r) .number ≡ 0 → wireOf (step w (exchange b r) .next) i bit ≡ wireOf w i bit
-  put-up b r n = go (eqb (byte b 0) 0x04) refl
+  put-up : (b r : List ℕ) → resetsBy i w (exchange b r) ≡ false → step w (exchange b r) .number ≡ 0
+      → wireOf (step w (exchange b r) .next) i bit ≡ wireOf w i bit
+  put-up b r f n = go (eqb (byte b 0) 0x04) (lowersPltrst (w .state) b) refl refl
     where
-      go : (t : Bool) → eqb (byte b 0) 0x04 ≡ t → wireOf (step w (exchange b r) .next) i bit ≡ wireOf w i bit
-      go true e =
+      go : (t v : Bool) → eqb (byte b 0) 0x04 ≡ t → lowersPltrst (w .state) b ≡ v → wireOf (step w (exchange b r) .next) i bit ≡ wireOf w i bit
+      go true true e l =
+          let q = wire-steps .lowered w b r s n l in
+          lowered-wire w i bit b r n l q (its .from) f
+          ∙ same-wire w i bit (its .from) (q .packet) (q .put .otherGroups i (its .from) (u .way))
+      go true false e l =
           same-wire w i bit (its .from) (step w (exchange b r) .next)
-          (wire-steps .put w b r s (eqb-true (byte b 0) 0x04 e) n .otherGroups i (its .from) (u .way))
-      go false e = by-command w i bit (its .from) b r n e
+          (wire-steps .put w b r s (eqb-true (byte b 0) 0x04 e) n l .otherGroups i (its .from) (u .way))
+      go false v e l = by-command w i bit (its .from) b r n e
 
   module _ (j k v : ℕ) (n : step w (setsWire j k v) .number ≡ 0) where
     abbrev after : World
@@ -224,10 +251,10 @@ module _ (w : World) (s : Sound (w .state)) (i bit : ℕ) (u : Wire false i bit)
         go false q e h =
             same-wire w i bit (its .from) after (wire-steps .set w j k v s n .otherGroups i (its .from) (λ x. eqb-false j i e (sym x)))
 
-  accepted-up : (c : Call) → resetsBy i c ≡ false → step w c .number ≡ 0 → wireOf (step w c .next) i bit ≡ lastSet (settingIn i bit c) (wireOf w i bit)
+  accepted-up : (c : Call) → resetsBy i w c ≡ false → step w c .number ≡ 0 → wireOf (step w c .next) i bit ≡ lastSet (settingIn i bit c) (wireOf w i bit)
   unfolding through
   accepted-up (reset r) e n = by-row w i bit (its .from) (reset r) n (reset-wire w i bit (its .from) r e)
-  accepted-up (exchange b r) e n = put-up b r n
+  accepted-up (exchange b r) e n = put-up b r e n
   accepted-up (board peripheral o) e n = by-row w i bit (its .from) (board peripheral o) n refl
   accepted-up (board wires (W.setWire j k v)) e n = set-up j k v n
   accepted-up (board wires (W.readWire j k)) e n = by-row w i bit (its .from) (board wires (W.readWire j k)) n refl
@@ -249,18 +276,18 @@ any-call w c i bit f given from row = go (accepted (step w c)) refl
 -- ---- the statements
 
 module _ (w : World) (cs : List Call) (i bit old : ℕ) (s : Sound (w .state)) (h : allHanded cs ≡ true)
-    (q : without (λ v c. resetsBy i c) w cs ≡ true) (first : definedBit i bit ≡ true → wireOf w i bit ≡ old) where
+    (q : without (resetsBy i) w cs ≡ true) (first : definedBit i bit ≡ true → wireOf w i bit ≡ old) where
   down-after : Wire true i bit → valueRead (run w cs) i bit ≡ lastPut i bit (packets w cs) old
   down-after d =
       read-level (run w cs) i bit (d .defined)
-      ∙ taken-on (λ v c. pick (accepted (step v c)) (packetIn c) []) (λ ps. lastNamed ps i bit) (λ v. wireOf v i bit) (λ v c. resetsBy i c)
+      ∙ taken-on (λ v c. pick (accepted (step v c)) (packetIn c) []) (λ ps. lastNamed ps i bit) (λ v. wireOf v i bit) (resetsBy i)
       (λ v c t e. any-call v c i bit (λ ps. lastNamed ps i bit) (packetIn c) (defined-bit i bit (d .defined) .from) (accepted-down v t i bit d c e)) cs w s h q
       ∙ ap (lastPut i bit (packets w cs)) (first (d .defined))
 
   up-after : Wire false i bit → valueRead (run w cs) i bit ≡ lastSet (settings i bit w cs) old
   up-after u =
       read-level (run w cs) i bit (u .defined)
-      ∙ taken-on (λ v c. pick (accepted (step v c)) (settingIn i bit c) []) (λ value o. value) (λ v. wireOf v i bit) (λ v c. resetsBy i c)
+      ∙ taken-on (λ v c. pick (accepted (step v c)) (settingIn i bit c) []) (λ value o. value) (λ v. wireOf v i bit) (resetsBy i)
       (λ v c t e. any-call v c i bit (λ value o. value) (settingIn i bit c) (defined-bit i bit (u .defined) .from) (accepted-up v t i bit u c e)) cs w s h q
       ∙ ap (lastSet (settings i bit w cs)) (first (u .defined))
 
@@ -268,29 +295,60 @@ module _ (w : World) (cs : List Call) (i bit old : ℕ) (s : Sound (w .state)) (
   read-after = record { down = λ d. down-after (down-wire i bit d); up = λ u. up-after (up-wire i bit u) }
 
 -- the level that a reset of the group leaves
-platform-level : (v : Wires) (i : ℕ) → wholeWires v ≡ true → eqb i 6 || eqb i 7 ≡ true → getD (platformWires v .level) (i - 2) 0 ≡ getD tableValues (i - 2) 0
-platform-level v i h =
+platform-level : (v : Wires) (i bit : ℕ) → length (v .level) ≡ 6 → resetsGroup i platformReset ≡ true → readWire (platformWires v) i bit ≡ resetLevel i bit
+platform-level v i bit n =
     let l = v .level in
-    let n = whole-level v h in
-    one-of (λ (k : ℕ). getD (platformWires v .level) (k - 2) 0 ≡ getD tableValues (k - 2) 0) i 6 7
-    (getD-set-other (set l 4 0x7) 5 4 0x6 0 (λ q. omega arith) ∙ getD-set-same l 4 0x7 0 (omega arith))
-    (getD-set-same (set l 4 0x7) 5 0x6 0 (omega (arith, length-set l 4 0x7)))
+    one-of (λ (k : ℕ). readWire (platformWires v) k bit ≡ resetLevel k bit) i 6 7
+    (ap (λ (x : ℕ). x / 2 ^ bit % 2) (getD-set-other (set l 4 0x7) 5 4 0x6 0 (λ q. omega arith) ∙ getD-set-same l 4 0x7 0 (omega arith)))
+    (ap (λ (x : ℕ). x / 2 ^ bit % 2) (getD-set-same (set l 4 0x7) 5 0x6 0 (omega (arith, length-set l 4 0x7))))
 
-reset-sound : (r : Reset) (w : World) → SoundBefore r w → Sound (step w (reset r) .next .state)
+before-sound : (w : World) (c : Call) (i : ℕ) → SoundBefore w c → resetsBy i w c ≡ true → handedOver c ≡ true → Sound (step w c .next .state)
 unfolding step
-reset-sound start w s = fresh-sound
-reset-sound espiReset w s = sound-step w (reset espiReset) s refl
-reset-sound platformReset w s = sound-step w (reset platformReset) s refl
+before-sound w (reset start) i s e h = fresh-sound
+before-sound w (reset espiReset) i s e h = sound-step w (reset espiReset) (s refl) h
+before-sound w (reset platformReset) i s e h = sound-step w (reset platformReset) (s refl) h
+before-sound w (exchange b r) i s e h = sound-step w (exchange b r) (s refl) h
+before-sound w (board k o) i s e h = absurd (true≢false (sym e))
+before-sound w (short state c) i s e h = absurd (true≢false (sym e))
+before-sound w (lend write read) i s e h = absurd (true≢false (sym e))
 
-reset-level : (r : Reset) (w : World) (i bit : ℕ) → SoundBefore r w → resetsGroup i r ≡ true → wireOf (step w (reset r) .next) i bit ≡ resetLevel i bit
+reset-level : (w : World) (r : Reset) (i bit : ℕ) → SoundBefore w (reset r) → resetsGroup i r ≡ true
+    → wireOf (step w (reset r) .next) i bit ≡ resetLevel i bit
 unfolding step
-reset-level start w i bit s e = refl
-reset-level espiReset w i bit s e = refl
-reset-level platformReset w i bit s e = ap (λ (x : ℕ). x / 2 ^ bit % 2) (platform-level (wiresOf w) i (wires-whole w s) e)
+reset-level w start i bit s e = refl
+reset-level w espiReset i bit s e = refl
+reset-level w platformReset i bit s e = platform-level (wiresOf w) i bit (whole-level (wiresOf w) (wires-whole w (s refl))) e
+
+-- whatever the packet put there
+lowered-level : (w : World) (b r : List ℕ) (i bit : ℕ) → Sound (w .state) → handedOver (exchange b r) ≡ true → resetsBy i w (exchange b r) ≡ true
+    → wireOf (step w (exchange b r) .next) i bit ≡ resetLevel i bit
+lowered-level w b r i bit s h e =
+    let v = step w (exchange b r) .next in
+    let falls = and-right (resetsGroup i platformReset) (pltrstFalls w (exchange b r)) e in
+    let u = wire-steps .lowered w b r s (eqb-true _ 0 (and-left (accepted (step w (exchange b r))) _ falls))
+    (and-right (accepted (step w (exchange b r))) (lowersPltrst (w .state) b) falls) in
+    let l = wiresOf (u .packet) .level in
+    let whole = whole-level (wiresOf v) (wires-whole v (sound-step w (exchange b r) s h)) in
+    ap (λ (x : Wires). readWire x i bit) (u .reset)
+    ∙ platform-level (wiresOf (u .packet)) i bit
+    (sym (length-set (set l 4 0x7) 5 0x6 ∙ length-set l 4 0x7) ∙ ap (λ (x : Wires). length (x .level)) (sym (u .reset)) ∙ whole)
+    (and-left (resetsGroup i platformReset) (pltrstFalls w (exchange b r)) e)
+
+since-level : (w : World) (c : Call) (i bit : ℕ) → SoundBefore w c → handedOver c ≡ true → resetsBy i w c ≡ true
+    → wireOf (step w c .next) i bit ≡ resetLevel i bit
+since-level w (reset r) i bit s h e = reset-level w r i bit s e
+since-level w (exchange b r) i bit s h e = lowered-level w b r i bit (s refl) h e
+since-level w (board k o) i bit s h e = absurd (true≢false (sym e))
+since-level w (short state c) i bit s h e = absurd (true≢false (sym e))
+since-level w (lend write read) i bit s h e = absurd (true≢false (sym e))
+
+since : (w : World) (c : Call) (cs : List Call) (i bit : ℕ) → SoundBefore w c → resetsBy i w c ≡ true → allHanded (c ∷ cs) ≡ true
+    → without (resetsBy i) (step w c .next) cs ≡ true → ReadAfter (step w c .next) cs i bit (resetLevel i bit)
+unfolding allHanded
+since w c cs i bit s e h q =
+    let first = and-left (handedOver c) (allHanded cs) h in
+    read-after (step w c .next) cs i bit (resetLevel i bit) (before-sound w c i s e first) (and-right (handedOver c) (allHanded cs) h) q
+    (λ d. since-level w c i bit s first e)
 
 pub wire-reads : WireReads
-wire-reads =
-    record {
-      since = λ w r cs i bit s e h q. read-after (step w (reset r) .next) cs i bit (resetLevel i bit) (reset-sound r w s) h q (λ d. reset-level r w i bit s e);
-      between = λ w cs i bit s h q. read-after w cs i bit (valueRead w i bit) s h q (λ d. sym (read-level w i bit d));
-    }
+wire-reads = record { since = since; between = λ w cs i bit s h q. read-after w cs i bit (valueRead w i bit) s h q (λ d. sym (read-level w i bit d)) }

@@ -25,17 +25,27 @@ use Rattle.wires.specs.declared.Wires.{Wires}
 use Rattle.state.specs.Status.{status}
 use Rattle.state.specs.Sound.{Sound}
 use Rattle.rules.specs.Rules.Wires as W₀
+use Rattle.rules.specs.Rules.Reset.{platformReset}
+use Rattle.rules.specs.Rules.Channel as N
 use Rattle.rules.specs.Rules.Channel.{wires, on}
 use Rattle.rules.specs.Rules.Lift.{lift}
 use Rattle.rules.specs.Rules.Reply.{closed}
-use Rattle.rules.specs.Rules.Step.{World, Call, exchange, board, Outcome, step, served}
+use Rattle.rules.specs.Rules.Step.{World, Call, exchange, board, Outcome, step, withState, performed, served}
 use Rattle.rules.specs.Statements.Wires as W
+use Rattle.rules.specs.Statements.Wires.Effects.{resetPart}
+use Rattle.rules.specs.Statements.Cases as C
+use Rattle.rules.specs.Statements.Cases.{Case}
+use Rattle.rules.specs.Statements.Events.{lowersPltrst}
 use Rattle.rules.specs.Statements.Fields.{byte, pairs, registerAt}
 use Rattle.rules.specs.Statements.WireEvents.{WireEvent, puts, gets, wireEvent, wiresOf, countOf}
-use Rattle.rules.specs.Statements.WireView.{setsWire, readsWire, WireMove, still, put, sent, set, enabled, disabled, wiped, platformWiped}
-use Rattle.rules.specs.Statements.WireSteps.{wireOf, Put, Set, nextUp, marked, pairsOf, SomeGot, Raised, byChange, byEnabling, WireSteps}
+use Rattle.rules.specs.Statements.WireView.{setsWire, readsWire, WireMove, still, put, sent, set, enabled, disabled, wiped, platformWiped, lowered}
+use Rattle.rules.specs.Statements.WireSteps.{wireOf, Put, Lowered, Set, nextUp, marked, pairsOf, SomeGot, Raised, byChange, byEnabling, WireSteps}
 use Rattle.rules.specs.Proofs.Cases as D
-use Rattle.rules.specs.Proofs.Cases.{board-long}
+use Rattle.rules.specs.Proofs.Cases.{cases, board-long}
+use Rattle.rules.specs.Proofs.Reads.{reads}
+use Rattle.rules.specs.Proofs.Events.{no-lowering}
+use Rattle.rules.specs.Proofs.Effects.{unlowered}
+use Rattle.rules.specs.Proofs.Wires.Lowering.{lowered-bytes}
 use Rattle.rules.specs.Proofs.SoundParts.{parts}
 use Rattle.rules.specs.Proofs.WireView.{command-event, wire-view, wires-sound, wires-whole}
 use Rattle.rules.specs.declared.WiresChange.{WiresChange}
@@ -45,9 +55,9 @@ level-small w s = K.sound-level (on wires (w .state .config)) (wiresOf w) (parts
 
 -- ---- PUT_VWIRE
 
-put-made : (w : World) (o : Outcome) (b : List ℕ) → Sound (w .state) → thirdTransition (wiresOf w) (pairs b) ≡ false
-    → wiresOf (o .next) ≡ G.putPairs (wiresOf w) (pairs b) → Put w (o .next) (pairs b)
-put-made w o b s two e =
+put-made : (w u : World) (b : List ℕ) → Sound (w .state) → thirdTransition (wiresOf w) (pairs b) ≡ false
+    → wiresOf u ≡ G.putPairs (wiresOf w) (pairs b) → Put w u (pairs b)
+put-made w u b s two e =
     let v = wiresOf w in
     let f = wires-whole w s in
     record {
@@ -60,11 +70,34 @@ put-made w o b s two e =
       place = ap (λ (x : Wires). x .place) e ∙ put-place v (pairs b);
     }
 
+-- no other opcode lowers PLTRST#
+not-put : (w : World) (b : List ℕ) {op : ℕ} → byte b 0 ≡ op → eqb op 0x04 ≡ false → lowersPltrst (w .state) b ≡ true → ⊥
+not-put w b e f l = true≢false (sym l ∙ no-lowering (w .state) b (ap (λ (x : ℕ). eqb x 0x04) e ∙ f))
+
 put-of : (w : World) (b r : List ℕ) (o : Outcome) → Sound (w .state) → WireMove w (exchange b r) o puts → Put w (o .next) (pairs b)
 put-of w b r o s (put b′ r′ x n e) =
     let q : b′ ≡ b = cc in
-    put-made w o b s (ap (λ (l : List ℕ). thirdTransition (wiresOf w) (pairs l)) (sym q) ∙ n)
+    put-made w (o .next) b s (ap (λ (l : List ℕ). thirdTransition (wiresOf w) (pairs l)) (sym q) ∙ n)
     (e ∙ ap (λ (l : List ℕ). G.putPairs (wiresOf w) (pairs l)) q)
+
+-- an accepted one that lowers PLTRST#: the other cases do not
+lowered-of : (w : World) (b r : List ℕ) {o : Outcome} → Case w (exchange b r) o → Sound (w .state) → o .number ≡ 0 → lowersPltrst (w .state) b ≡ true
+    → Lowered w (o .next) (pairs b)
+unfolding performed lift
+lowered-of w b r (C.idle n q) s z l = absurd (omega (arith, q .least))
+lowered-of w b r (C.shown (C.status e)) s z l = absurd (not-put w b (reads (w .state) b _ e) refl l)
+lowered-of w b r (C.shown (C.register a e)) s z l = absurd (not-put w b (reads (w .state) b _ e .opcode) refl l)
+lowered-of w b r (C.acted k o x e d f) s z l = absurd (true≢false (sym l ∙ unlowered k (w .state) b o x e d f (eq-eqb _ 0 z)))
+lowered-of w b r (C.forbidden a v e f) s z l = absurd (omega arith)
+lowered-of w b r (C.configured a v e f) s z l = absurd (not-put w b (reads (w .state) b _ e .opcode) refl l)
+lowered-of w b r (C.lowered o x e d) s z l =
+    let h = lowered-bytes (w .state) b d (reads (w .state) b _ e) in
+    record {
+      packet = withState w (N.put wires (G.putPairs (wiresOf w) (pairs b)) (w .state));
+      put = put-made w _ b s (h .few) refl;
+      reset = ap (resetPart platformReset) (h .wires);
+    }
+lowered-of w b r (C.cleared e) s z l = absurd (not-put w b (reads (w .state) b _ e) refl l)
 
 -- ---- set and read
 
@@ -258,6 +291,9 @@ module _ (w : World) (s : Sound (w .state)) (i : ℕ) (from : 2 ≤ i) (upto : i
   raised-by c o (disabled e) t = absurd (same-off o _ e (K.remarked-mark false (wiresOf w) 4 i from upto) t)
   raised-by c o (wiped e) t = absurd (same-off o _ e (K.remarked-mark false (wiresOf w) 4 i from upto) t)
   raised-by c o (platformWiped e) t = absurd (same-off o _ e (platform-off (wiresOf w) i off) t)
+  raised-by c o (lowered b r x n l e) t =
+      absurd (same-off o _ e
+      (platform-off (G.putPairs (wiresOf w) (pairs b)) i (ap (λ (m : List Bool). getD m (i - 2) false) (put-marks (wiresOf w) (pairs b)) ∙ off)) t)
 
 -- ---- the statements
 
@@ -267,11 +303,15 @@ seen-as w c e = subst (WireMove w c (step w c)) e (wire-view w c)
 pub wire-steps : WireSteps
 wire-steps =
     record {
-      put = λ w b r s e n. put-of w b r (step w (exchange b r)) s (seen-as w (exchange b r) (command-event w b r 0x04 puts e refl refl _ (eq-eqb _ 0 n)));
+      put =
+          λ w b r s e n l. put-of w b r (step w (exchange b r)) s
+          (seen-as w (exchange b r) (command-event w b r 0x04 puts e refl refl _ (eq-eqb _ 0 n) l));
+      lowered = λ w b r s n l. lowered-of w b r (cases w (exchange b r)) s n l;
       set = set-step;
       read = read-step;
       get =
           λ w b r s e n. got-of w (exchange b r) (step w (exchange b r)) s
-          (seen-as w (exchange b r) (command-event w b r 0x05 gets e refl refl _ (eq-eqb _ 0 n)));
+          (seen-as w (exchange b r)
+          (command-event w b r 0x05 gets e refl refl _ (eq-eqb _ 0 n) (no-lowering (w .state) b (ap (λ (op : ℕ). eqb op 0x04) e))));
       raised = λ w c i s from upto off t. raised-by w s i from upto off c (step w c) (wire-view w c) t;
     }

@@ -9,9 +9,10 @@ use borrow.Author.Tests.{ne-eqb}
 use Rattle.base.specs.Pick.{pick}
 use Rattle.registers.specs.Registers.{writeAt}
 use Rattle.wires.specs.Groups as G
-use Rattle.wires.specs.Groups.{packetOf, packetBytes, afterSent, wholeWires}
+use Rattle.wires.specs.Groups.{packetOf, packetBytes, afterSent, platformWires, wholeWires}
 use Rattle.wires.specs.Kept as K
 use Rattle.wires.specs.Sent.{sent-bytes}
+use Rattle.wires.specs.declared.Wires.{Wires}
 use Rattle.state.specs.Sound.{Sound}
 use Rattle.state.specs.Status.{status}
 use Rattle.state.specs.declared.State.{State}
@@ -20,25 +21,26 @@ use Rattle.rules.specs.Rules.Wires as W₀
 use Rattle.rules.specs.Rules.Channel as N
 use Rattle.rules.specs.Rules.Channel.{Channel, peripheral, wires, Command, Board, Change, nextOf, part, on, actOf, same}
 use Rattle.rules.specs.Rules.Lift.{lift, show, acceptThen}
-use Rattle.rules.specs.Rules.Exchange.{reconfigured, wasReset}
+use Rattle.rules.specs.Rules.Exchange.{reconfigured, wasReset, thenReset}
 use Rattle.rules.specs.Rules.Reply.{closed, replyBytes}
 use Rattle.rules.specs.Rules.Step.{World, Call, reset, exchange, board, lend, Outcome, only, withState, performed, served}
 use Rattle.rules.specs.Statements.Wires as W
 use Rattle.rules.specs.Statements.Plans.{Did, Settled, Admits, commandOf, Shows, status as getsStatus, register}
 use Rattle.rules.specs.Statements.Cases as C
 use Rattle.rules.specs.Statements.Cases.{Case}
-use Rattle.rules.specs.Statements.Events.{accepted, ending, enablesAt}
+use Rattle.rules.specs.Statements.Events.{accepted, lowersPltrst, ending, enablesAt}
 use Rattle.rules.specs.Statements.Fields.{byte, isChannel1, registerAt, registerValue}
 use Rattle.rules.specs.Statements.Reads as R
 use Rattle.rules.specs.Statements.WireEvents.{WireEvent, idle, puts, gets, enables, ends, switchesOn, commandWire, boardWire, acceptedWire, wireEventOf, wiresOf, countOf}
-use Rattle.rules.specs.Statements.WireView.{WireMove, still, put, sent, set, enabled, disabled, wiped, platformWiped, WireView}
+use Rattle.rules.specs.Statements.WireView.{WireMove, still, put, sent, set, enabled, disabled, wiped, platformWiped, lowered, WireView}
 use Rattle.rules.specs.Proofs.Cases.{cases}
 use Rattle.rules.specs.Proofs.SoundParts.{parts}
 use Rattle.rules.specs.Proofs.Reads.{reads}
-use Rattle.rules.specs.Proofs.Events.{rising-edge, no-disabling, disabling}
+use Rattle.rules.specs.Proofs.Events.{rising-edge, no-lowering, no-ending, write-ending, lowering-ends}
 use Rattle.rules.specs.Proofs.Lift.{same-turned, own-or-other, part-stays}
 use Rattle.rules.specs.Proofs.Effects.{command-own}
 use Rattle.rules.specs.Proofs.Whose.{own-opcode, never-set}
+use Rattle.rules.specs.Proofs.Wires.Lowering as W₂
 use Rattle.rules.specs.declared.WiresChange.{WiresChange}
 use Rattle.rules.specs.declared.Body.{Body}
 
@@ -73,12 +75,12 @@ module _ (s : State) (b r : List ℕ) (write : eqb (byte b 0) 0x22 ≡ false) wh
       (ap (λ (t : Bool). t && (enablesAt wires (registerAt b) && (not (on wires (s .config)) && eqb (registerValue b % 2) 1))) write)
 
   quiet-exchange : (o : Outcome) → isChannel1 (byte b 0) ≡ false → wireEventOf s (exchange b r) o ≡ idle
-  quiet-exchange o e = quiet-wire s (exchange b r) o (no-disabling wires s b write) (by-byte ∙ go (eqb (byte b 0) 0x04) (eqb (byte b 0) 0x05) e)
+  quiet-exchange o e = go (eqb (byte b 0) 0x04) (eqb (byte b 0) 0x05) refl e by-byte
     where
-      go : (t u : Bool) → (t || u) ≡ false → pick t puts (pick u gets idle) ≡ idle
-      go true u h = absurd (true≢false h)
-      go false true h = absurd (true≢false h)
-      go false false h = refl
+      go : (t u : Bool) → eqb (byte b 0) 0x04 ≡ t → (t || u) ≡ false → commandWire s b ≡ pick t puts (pick u gets idle) → wireEventOf s (exchange b r) o ≡ idle
+      go true u f h i = absurd (true≢false h)
+      go false true f h i = absurd (true≢false h)
+      go false false f h i = quiet-wire s (exchange b r) o (no-ending wires s b write (no-lowering s b f)) i
 
 not-22 : (b : List ℕ) (op : ℕ) → byte b 0 ≡ op → eqb op 0x22 ≡ false → eqb (byte b 0) 0x22 ≡ false
 not-22 b op e f = ap (λ (x : ℕ). eqb x 0x22) e ∙ f
@@ -106,10 +108,10 @@ module _ (w : World) where
   Seen c o = WireMove w c o (wireEventOf (w .state) c o)
 
   pub command-event : (b r : List ℕ) (op : ℕ) (e : WireEvent) → byte b 0 ≡ op → eqb op 0x22 ≡ false → pick (eqb op 0x04) puts (pick (eqb op 0x05) gets idle) ≡ e
-      → (o : Outcome) → accepted o ≡ true → wireEventOf (w .state) (exchange b r) o ≡ e
-  command-event b r op e h n f o q =
+      → (o : Outcome) → accepted o ≡ true → lowersPltrst (w .state) b ≡ false → wireEventOf (w .state) (exchange b r) o ≡ e
+  command-event b r op e h n f o q l =
       let k = not-22 b op h n in
-      accepted-wire (w .state) (exchange b r) o q (no-disabling wires (w .state) b k) ∙ by-byte (w .state) b r k
+      accepted-wire (w .state) (exchange b r) o q (no-ending wires (w .state) b k l) ∙ by-byte (w .state) b r k
       ∙ ap (λ (x : ℕ). pick (eqb x 0x04) puts (pick (eqb x 0x05) gets idle)) h ∙ f
 
   -- ---- above all channels
@@ -140,7 +142,7 @@ module _ (w : World) where
     set-event : wireEventOf (w .state) (exchange b r) Set ≡ pick (was && not is) ends (pick (not was && is) enables idle)
     unfolding wireEventOf performed
     set-event =
-        ap₂ (λ (t : Bool) (e : WireEvent). pick t ends e) (disabling wires (w .state) b a v h)
+        ap₂ (λ (t : Bool) (e : WireEvent). pick t ends e) (write-ending wires (w .state) b a v h)
         (ap (λ (op : ℕ). pick (eqb op 0x04) puts (pick (eqb op 0x05) gets (pick (switchesOn (w .state) b) enables idle))) (h .opcode)
         ∙ ap (λ (t : Bool). pick t enables idle) (enabling b a v h))
 
@@ -171,18 +173,25 @@ module _ (w : World) where
   -- ---- channel 1
 
   acted-seen : (b r : List ℕ) {a : W₀.Act} {x : WiresChange} → W.Did (w .state .config) (wiresOf w) a x → R.Wires b a
-      → Seen (exchange b r) (performed w b (lift wires (w .state) x))
+      → W₀.resetFollows (wiresOf w) a (x .next) ≡ false → Seen (exchange b r) (performed w b (lift wires (w .state) x))
   unfolding performed lift replyBytes
-  acted-seen b r (W.overCount e) h = as-is (refused-wire (w .state) (exchange b r) _ refl) (still refl)
-  acted-seen b r (W.third e f) h = as-is (refused-wire (w .state) (exchange b r) _ refl) (still refl)
-  acted-seen b r (W.put e f) (R.Wires.puts h) = as-is (command-event b r 0x04 puts h refl refl _ refl) (put b r refl f refl)
-  acted-seen b r (W.nonePending e) h = as-is (refused-wire (w .state) (exchange b r) _ refl) (still refl)
-  acted-seen b r (W.sentOff {k = k} {ks = ks} e) (R.Wires.gets h) =
+  acted-seen b r (W.overCount e) h l = as-is (refused-wire (w .state) (exchange b r) _ refl) (still refl)
+  acted-seen b r (W.third e f) h l = as-is (refused-wire (w .state) (exchange b r) _ refl) (still refl)
+  acted-seen b r (W.put e f) (R.Wires.puts h) l =
+      as-is (command-event b r 0x04 puts h refl refl _ refl (W₂.unlowered (w .state) b (W.put e f) (R.Wires.puts h) l refl)) (put b r refl f refl)
+  acted-seen b r (W.nonePending e) h l = as-is (refused-wire (w .state) (exchange b r) _ refl) (still refl)
+  acted-seen b r (W.sentOff {k = k} {ks = ks} e) (R.Wires.gets h) l =
       let v = wiresOf w in
       let t = status (N.put wires (afterSent v (k ∷ ks)) (w .state)) in
-      as-is (command-event b r 0x05 gets h refl refl _ refl)
+      as-is (command-event b r 0x05 gets h refl refl _ refl (no-lowering (w .state) b (ap (λ (op : ℕ). eqb op 0x04) h)))
       (sent k ks e (ap (afterSent v) (sym e))
       (ap (λ (l : List ℕ). closed (0x08 ∷ packetBytes v (packetOf v l)) t) (sym e) ∙ ap (λ (l : List ℕ). closed (0x08 ∷ l) t) (sent-bytes v (countOf w))))
+
+  lowered-seen : (b r : List ℕ) (v : Wires) → W₂.Lowered (w .state) b v → Seen (exchange b r) (performed w b (thenReset (N.put wires v (w .state))))
+  unfolding performed
+  lowered-seen b r v l =
+      as-is (ended-wire (w .state) (exchange b r) _ refl (lowering-ends wires (w .state) b (l .lowers)))
+      (lowered b r refl (l .few) (l .lowers) (ap platformWires (l .wires)))
 
   settled-seen : {o : W₀.Board} {x : WiresChange} → W.Settled (w .state .config) (wiresOf w) o x
       → Seen (board wires o) (served wires w o (lift wires (w .state) x))
@@ -195,16 +204,20 @@ module _ (w : World) where
   -- ---- every channel
 
   any-acted : (b r : List ℕ) (k : Channel) (o : Command k) (x : Change k) → Admits (w .state) b (commandOf k o)
-      → Did k (w .state .config) (part k (w .state)) (actOf k (w .state .config) o b) x → Seen (exchange b r) (performed w b (lift k (w .state) x))
+      → Did k (w .state .config) (part k (w .state)) (actOf k (w .state .config) o b) x
+      → N.resetFollows k (part k (w .state)) (actOf k (w .state .config) o b) (nextOf k x) ≡ false → Seen (exchange b r) (performed w b (lift k (w .state) x))
   any-acted b r =
       own-or-other wires
       (λ (k : Channel). (o : Command k) (x : Change k) → Admits (w .state) b (commandOf k o)
-      → Did k (w .state .config) (part k (w .state)) (actOf k (w .state .config) o b) x → Seen (exchange b r) (performed w b (lift k (w .state) x)))
-      (λ o x e d. acted-seen b r d (reads (w .state) b _ e)) others
+      → Did k (w .state .config) (part k (w .state)) (actOf k (w .state .config) o b) x
+      → N.resetFollows k (part k (w .state)) (actOf k (w .state .config) o b) (nextOf k x) ≡ false → Seen (exchange b r) (performed w b (lift k (w .state) x)))
+      (λ o x e d f. acted-seen b r d (reads (w .state) b _ e) f) others
     where
       others : (k : Channel) → same wires k ≡ false → (o : Command k) (x : Change k) → Admits (w .state) b (commandOf k o)
-          → Did k (w .state .config) (part k (w .state)) (actOf k (w .state .config) o b) x → Seen (exchange b r) (performed w b (lift k (w .state) x))
-      others k n o x e d =
+          → Did k (w .state .config) (part k (w .state)) (actOf k (w .state .config) o b) x
+          → N.resetFollows k (part k (w .state)) (actOf k (w .state .config) o b) (nextOf k x) ≡ false
+          → Seen (exchange b r) (performed w b (lift k (w .state) x))
+      others k n o x e d f =
           let c = command-own k (w .state) b o e in
           as-is (quiet-exchange (w .state) b r (never-set k (byte b 0) c) _ (own-opcode wires k (byte b 0) c ∙ n)) (still (lift-wires k n b x))
 
@@ -221,10 +234,11 @@ module _ (w : World) where
   unfolding performed
   seen-case {c} (C.idle n q) = silent-seen c n (q .least)
   seen-case (C.shown {b = b} {r = r} q) = shown-seen b r q
-  seen-case (C.acted {b = b} {r = r} k o x e d) = any-acted b r k o x e d
+  seen-case (C.acted {b = b} {r = r} k o x e d f) = any-acted b r k o x e d f
   seen-case (C.settles k o x e d) = any-settled k o x d
   seen-case (C.forbidden {b = b} {r = r} a v e f) = as-is (refused-wire (w .state) (exchange b r) _ refl) (still refl)
   seen-case (C.configured {b = b} {r = r} a v e f) = set-seen b r a v (reads (w .state) b _ e)
+  seen-case (C.lowered {b = b} {r = r} o x e d) = lowered-seen b r (x .next) (W₂.lowered-bytes (w .state) b d (reads (w .state) b _ e))
   seen-case (C.cleared {b = b} {r = r} e) = quiet-seen b r _ 0xFF (reads (w .state) b _ e) refl refl refl
   seen-case (C.wiped {r = r}) = wiped-seen r
   seen-case (C.lent {write = write} {read = read}) = as-is (quiet-wire (w .state) (lend write read) _ refl refl) (still refl)

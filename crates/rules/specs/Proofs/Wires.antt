@@ -6,26 +6,28 @@ pub mod WholeFirstApplies
 pub mod WholeRefusals
 pub mod Fits
 pub mod Lawful
+pub mod Lowering
 pub mod Shape
 pub mod Sound
 pub mod Rows
 pub mod Status
 use Prim.Native.Nat.{ℕ}
-use mathlib.Core.Bool.{Bool, true, false, not}
+use mathlib.Core.Bool.{Bool, true, false, _&&_, not, true≢false}
 use mathlib.Core.List.{List, [], _∷_}
-use mathlib.Core.Path.{_≡_, refl}
-use lib.Dec.{ltb}
-use borrow.Author.Tests.{not-false, not-true}
-use Rattle.base.specs.Pick.{pick, pick-ind}
+use mathlib.Core.Path.{_≡_, refl, sym, ap, _∙_}
+use lib.Dec.{eqb, ltb}
+use borrow.Author.Tests.{not-false, not-true, eqb-true}
+use Rattle.base.specs.Pick.{pick, pick-ind, and-left, and-right}
 use Rattle.registers.specs.Registers.{operatingCount}
 use Rattle.registers.specs.declared.Config.{Config}
-use Rattle.wires.specs.Groups.{sent, settable, definedBit}
+use Rattle.wires.specs.Groups.{putPairs, sent, settable, definedBit}
 use Rattle.wires.specs.Transitions.{thirdTransition}
 use Rattle.wires.specs.declared.Wires.{Wires}
 use Rattle.rules.specs.Rules.Out.{number}
 use Rattle.rules.specs.Rules.Wires as W
 use Rattle.rules.specs.Rules.Wires.{Act, puts, gets, Board, setWire, readWire}
-use Rattle.rules.specs.Statements.Wires.{Did, overCount, third, put, nonePending, sentOff, Settled, notBoards, set, noWire, read}
+use Rattle.rules.specs.Statements.Wires.{Did, overCount, third, put, nonePending, sentOff, Lowers, lowered, Settled, notBoards, set, noWire, read}
+use Rattle.rules.specs.declared.WiresChange.{WiresChange}
 
 send-did : (c : Config) (w : Wires) (ks : List ℕ) → sent w (operatingCount (c .r020)) ≡ ks → Did c w gets (W.sentOut w ks)
 send-did c w [] e = nonePending e
@@ -37,6 +39,23 @@ did c w (puts n pairs) =
     pick-ind (Did c w (puts n pairs)) (ltb (operatingCount (c .r020)) n) overCount
     (λ e. pick-ind (Did c w (puts n pairs)) (thirdTransition w pairs) (third e) (put e))
 did c w gets = send-did c w (sent w (operatingCount (c .r020))) refl
+
+-- a wire is not high and low
+pub not-both : (n : ℕ) → eqb n 1 && eqb n 0 ≡ false
+not-both n = go (eqb n 1) refl
+  where
+    go : (t : Bool) → eqb n 1 ≡ t → t && eqb n 0 ≡ false
+    go true e = ap (λ (m : ℕ). eqb m 0) (eqb-true n 1 e)
+    go false e = refl
+
+-- the reset follows an accepted packet alone: a refused one leaves the wires
+pub lowers : {c : Config} {w : Wires} {a : Act} {x : WiresChange} → Did c w a x → W.resetFollows w a (x .next) ≡ true → Lowers c w a x
+lowers {w = w} (overCount e) h = absurd (true≢false (sym h ∙ not-both (W.pltrst w)))
+lowers {w = w} (third e f) h = absurd (true≢false (sym h ∙ not-both (W.pltrst w)))
+lowers {w = w} (put {pairs = ps} e f) h =
+    lowered e f (eqb-true (W.pltrst w) 1 (and-left _ _ h)) (eqb-true (W.pltrst (putPairs w ps)) 0 (and-right (eqb (W.pltrst w) 1) _ h))
+lowers (nonePending e) h = absurd (true≢false (sym h))
+lowers (sentOff e) h = absurd (true≢false (sym h))
 
 read-settled : (c : Config) (w : Wires) (index bit : ℕ) (t : Bool) → definedBit index bit ≡ t
     → Settled c w (readWire index bit) (W.change w (number (pick t 0 22)))

@@ -67,6 +67,11 @@ abbrev pub acting : (k : Channel) → Config → Part k → Act k → Change k
 acting peripheral = P.acting
 acting wires = W.acting
 
+-- whether "the platform reset follows" a command (02, Q-1), by its part before it and after it: the wires alone have such a one
+abbrev pub resetFollows : (k : Channel) → Part k → Act k → Part k → Bool
+resetFollows peripheral before a after = false
+resetFollows wires before a after = W.resetFollows before a after
+
 -- what it does on a board call: "their own from 20 up" (01, Replies and refusals)
 abbrev pub settle : (k : Channel) → Config → Part k → Board k → Change k
 settle peripheral = P.settle

@@ -12,7 +12,7 @@ use Rattle.command.specs.declared.Decoded.{Decoded}
 use Rattle.command.specs.declared.Decoded.the-variants.{Known, Refused}
 use Rattle.state.specs.declared.State.{State}
 use Rattle.rules.specs.Rules.Reset.{Reset, start, espiReset, platformReset}
-use Rattle.rules.specs.Rules.Channel.{Channel, peripheral, wires, Act, part, each, on, actOf, acting, enableEdge, reset}
+use Rattle.rules.specs.Rules.Channel.{Channel, peripheral, wires, Act, Change, nextOf, part, put, each, on, actOf, acting, resetFollows, enableEdge, reset}
 use Rattle.rules.specs.Rules.Lift.{lift, silent, show, nonFatal, acceptThen, quietly}
 use Rattle.rules.specs.declared.Body.the-variants as B
 use Rattle.rules.specs.declared.Plan.{Plan}
@@ -46,9 +46,17 @@ wasReset r s = each (λ k. reset k r) (configReset r (s .config)) s
 
 -- ---- the decision
 
--- a command of a channel: what its rule makes of its part, lifted into the whole (docs/DECISIONS.md, 30)
+-- "the platform reset follows after that reply, which shows the status before it, and before the next exchange" (02, Q-1)
+abbrev pub thenReset : State → Plan
+thenReset s = acceptThen s (wasReset platformReset s)
+
+-- a channel's change put into the whole (docs/DECISIONS.md, 30), and the reset where it follows (02, Q-1)
+abbrev pub followed : (k : Channel) → State → Act k → Change k → Plan
+followed k s a x = pick (resetFollows k (part k s) a (nextOf k x)) (thenReset (put k (nextOf k x) s)) (lift k s x)
+
+-- a command of a channel: what its rule makes of its part (docs/DECISIONS.md, 30)
 abbrev pub acted : (k : Channel) → State → Act k → Plan
-acted k s a = lift k s (acting k (s .config) (part k s) a)
+acted k s a = followed k s a (acting k (s .config) (part k s) a)
 
 -- an admitted command by its opcode (01, Commands): the two channels', GET_CONFIGURATION, SET_CONFIGURATION, GET_STATUS, RESET; what is left of the
 -- order, "credit (1), size (1), 2", comes in its own rule (01, Replies and refusals)

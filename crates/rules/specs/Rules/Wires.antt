@@ -1,8 +1,8 @@
 -- Channel 1: what its commands and the board's calls make of its own part, under the configuration (01, Wires).
 use Prim.Native.Nat.{ℕ, _*_}
-use mathlib.Core.Bool.{Bool, _&&_, not}
+use mathlib.Core.Bool.{Bool, false, _&&_, not}
 use mathlib.Core.List.{List, [], _∷_}
-use lib.Dec.{ltb}
+use lib.Dec.{eqb, ltb}
 use lib.ListN.{take, drop}
 use Rattle.base.specs.Pick.{pick}
 use Rattle.registers.specs.Registers.{on1, operatingCount}
@@ -60,6 +60,18 @@ acting c w gets = getVwire c w
 -- the same of a decoded command and its bytes (docs/DECISIONS.md, 30)
 unfoldable pub decide : Config → Wires → WiresCommand → List ℕ → WiresChange
 decide c w o b = acting c w (actOf o b)
+
+-- ---- PLTRST#
+
+-- the level of PLTRST#, bit 1 of group 3 (004, table 10)
+abbrev pub pltrst : Wires → ℕ
+pltrst w = G.readWire w 3 1
+
+-- "when an accepted PUT_VWIRE ends with PLTRST# low that was high before" (02, Q-1): by the wires before the whole packet and after it, which a refused
+-- one leaves
+abbrev pub resetFollows : Wires → Act → Wires → Bool
+resetFollows before (puts n pairs) after = eqb (pltrst before) 1 && eqb (pltrst after) 0
+resetFollows before gets after = false
 
 -- ---- the board sets and reads a wire: 22
 

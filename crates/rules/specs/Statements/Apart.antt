@@ -1,16 +1,18 @@
 -- No channel tells on another, for every channel x: two runs that differ in x's own calls alone show the same of all other calls, but for x's
--- status bits and the CRC byte, and leave the same registers, the same other parts and the other channels' stores alike. P22 ("Wire traffic and
--- channel 0") is the case of the wires; its mirror is that of channel 0.
+-- status bits and the CRC byte, and leave the same registers, the same other parts and the other channels' stores alike. A packet that lowers PLTRST# is a
+-- platform reset for the others, and both runs have it. P22 ("Wire traffic and channel 0") is the case of the wires; its mirror is that of channel 0.
 use Prim.Native.Nat.{ℕ, _+_, _-_, _*_, _/_, _%_}
 use mathlib.Core.Bool.{Bool, false}
-use mathlib.Core.List.{List, [], _∷_, _++_}
+use mathlib.Core.List.{List, [], _∷_, _++_, map}
 use mathlib.Core.Path.{_≡_}
 use lib.Dec.{eqb}
 use lib.ListN.{getD, length, take}
 use Rattle.base.specs.Pick.{pick}
 use Rattle.state.specs.declared.State.{State}
+use Rattle.rules.specs.Rules.Reset.{platformReset}
 use Rattle.rules.specs.Rules.Channel.{Channel, peripheral, wires, part, same}
 use Rattle.rules.specs.Rules.Step.{World, Call, reset, exchange, board, short, lend, Outcome, step, run, shortStores}
+use Rattle.rules.specs.Statements.Events.{pltrstFalls}
 use Rattle.rules.specs.Statements.Sizes.{isOf}
 
 -- ---- what is a channel's own besides its opcodes: its stores, its status bits
@@ -47,6 +49,16 @@ unfoldable pub others : Channel → List Call → List Call
 others x [] = []
 others x (c ∷ cs) = pick (isCallOf x c) (others x cs) (c ∷ others x cs)
 
+-- what remains of a call of a run: of x's own nothing, but a platform reset in the place of a packet that counts "as a platform reset" (02, Q-1); whether a
+-- packet is such a one the wires before it say, so it is asked of the world in which it comes
+abbrev pub remaining : Channel → World → Call → List Call
+remaining x w c = pick (isCallOf x c) (pick (pltrstFalls w c) (reset platformReset ∷ []) []) (c ∷ [])
+
+-- .. and of a run: "that rule holds for runs with the same such packets" (02, Q-1)
+unfoldable pub remains : Channel → World → List Call → List Call
+remains x w [] = []
+remains x w (c ∷ cs) = remaining x w c ++ remains x (step w c .next) cs
+
 -- ---- what a call shows
 
 -- a reply "but for [its] status bit[s] and the CRC byte": the last three bytes are status, low byte first, and CRC; the status as one number
@@ -66,10 +78,11 @@ pub record Seen : Type 0 where
 unfoldable pub seen : Channel → Outcome → Seen
 seen x o = record { number = o .number; value = o .value; report = o .report; reply = replyBut x (o .reply) }
 
--- what the calls of a run show, x's own apart ("give each peripheral command the same reply", 01, Wires: here every call that is not x's)
+-- what the calls of a run show, x's own apart ("give each peripheral command the same reply", 01, Wires: here every call that is not x's); a packet that
+-- counts "as a platform reset" (02, Q-1) shows what such a reset shows there, its number
 unfoldable pub seeing : Channel → World → List Call → List Seen
 seeing x w [] = []
-seeing x w (c ∷ cs) = pick (isCallOf x c) (seeing x (step w c .next) cs) (seen x (step w c) ∷ seeing x (step w c .next) cs)
+seeing x w (c ∷ cs) = map (λ (d : Call). seen x (step w d)) (remaining x w c) ++ seeing x (step w c .next) cs
 
 -- "the other channels' replies are equal, .. and their stores and refusals are equal" (02, Q-14)
 pub record RunsAlike (x : Channel) (Same : World → World → Type 0) (w v : World) (cs ds : List Call) : Type 0 where
@@ -92,7 +105,7 @@ pub record Alike (x : Channel) (w v : World) : Type 0 where
 
 -- "State the wire-independence rule for every pair of the four channels" (02, Q-14), of the two that there are
 abbrev pub NoneTells : Type 0
-NoneTells = (x : Channel) (w v : World) (cs ds : List Call) → Alike x w v → others x cs ≡ others x ds → RunsAlike x (Alike x) w v cs ds
+NoneTells = (x : Channel) (w v : World) (cs ds : List Call) → Alike x w v → remains x w cs ≡ remains x v ds → RunsAlike x (Alike x) w v cs ds
 
 -- ---- P22, and its mirror
 
@@ -103,9 +116,10 @@ pub record SameButWires (w v : World) : Type 0 where
   pub write : w .write ≡ v .write
   pub read : w .read ≡ v .read
 
--- "Wire traffic and channel 0: two runs .. give each peripheral command the same reply but for status bit 6 and the CRC byte" (01, Wires)
+-- "Wire traffic and channel 0: two runs .. give each peripheral command the same reply but for status bit 6 and the CRC byte" (01, Wires), "for runs with the
+-- same such packets" (02, Q-1): a packet of one run may stand against a packet of other bytes or the board's platform reset of the other
 abbrev pub WiresApart : Type 0
-WiresApart = (w v : World) (cs ds : List Call) → SameButWires w v → others wires cs ≡ others wires ds → RunsAlike wires SameButWires w v cs ds
+WiresApart = (w v : World) (cs ds : List Call) → SameButWires w v → remains wires w cs ≡ remains wires v ds → RunsAlike wires SameButWires w v cs ds
 
 -- any two that agree but for held write, request and serial, and stores of any bytes
 -- (docs/DECISIONS.md, 32: the stores differ with channel 0; 02, Q-14: "equal stores long enough")

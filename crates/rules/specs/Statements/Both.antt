@@ -1,6 +1,6 @@
 -- The case law for two worlds of one configuration: a call is the same case in both, for what it is depends on the configuration, on its own bytes
 -- and on whether its stores are long enough.
-use Prim.Native.Nat.{ℕ}
+use Prim.Native.Nat.{ℕ, _≤_}
 use mathlib.Core.Bool.{false}
 use mathlib.Core.List.{List}
 use mathlib.Core.Path.{_≡_}
@@ -41,9 +41,10 @@ restored write read w = only 0 (record { state = w .state; write = write; read =
 
 -- "two runs with .. equal resets, equal calls and commands on channel 0, status and configuration" (01, Wires), call by call
 pub data Both (w v : World) : Call → Outcome → Outcome → Type 0 where
-  idle : {c : Call} (n : ℕ) → Both w v c (only n w) (only n v)
-  status : {b r : List ℕ} → Both w v (exchange b r) (performed w b (show B.Nothing (w .state))) (performed v b (show B.Nothing (v .state)))
-  register : {b r : List ℕ} (a : ℕ) → Both w v (exchange b r) (registered b a w) (registered b a v)
+  idle : {c : Call} (n : ℕ) → 10 ≤ n → Both w v c (only n w) (only n v)
+  status : {b r : List ℕ} → Admits (w .state) b C.GetStatus
+      → Both w v (exchange b r) (performed w b (show B.Nothing (w .state))) (performed v b (show B.Nothing (v .state)))
+  register : {b r : List ℕ} (a : ℕ) → Admits (w .state) b (C.GetConfiguration a) → Both w v (exchange b r) (registered b a w) (registered b a v)
   acted : {b r : List ℕ} (k : Channel) (o : Command k) → shortStores r w ≡ false → Admits (w .state) b (commandOf k o)
       → Both w v (exchange b r) (actedOn k o b w) (actedOn k o b v)
   settles : (k : Channel) (o : Board k) → shortFor k o w ≡ false → Both w v (board k o) (boarded k o w) (boarded k o v)

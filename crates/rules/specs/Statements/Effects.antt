@@ -15,7 +15,7 @@ use Rattle.rules.specs.Rules.Channel.{Channel, peripheral, wires, Part, 
 use Rattle.rules.specs.Rules.Step.{World, Call, reset, exchange, board, short, lend, withState, step}
 use Rattle.rules.specs.Statements.Fields.{byte, registerAt, registerValue}
 use Rattle.rules.specs.Statements.Sizes.{isOf, isEnabled}
-use Rattle.rules.specs.Statements.Events.{enablesAt}
+use Rattle.rules.specs.Statements.Events.{enablesAt, lowersPltrst, pltrstFalls}
 use Rattle.rules.specs.Statements.Peripheral.Effects as P
 use Rattle.rules.specs.Statements.Wires.Effects as W
 
@@ -136,11 +136,15 @@ clearedState s = withRegisters s (registers 0x030C0003 (s .config .r010 .value) 
 
 -- ---- the table
 
+-- a wire command, and the platform reset that "follows after that reply" (02, Q-1): groups 6 and 7 are reset whatever the packet put there
+abbrev pub wiresEffect : World → List ℕ → World
+wiresEffect w b = pick (lowersPltrst (w .state) b) (resetEffect (commandEffect wires w b) platformReset) (commandEffect wires w b)
+
 -- by the opcode; GET_CONFIGURATION and GET_STATUS change nothing (01, Commands; 004, 3.6 and 3.7)
 abbrev pub exchangeEffect : World → ℕ → List ℕ → World
 exchangeEffect w op b =
     pick (isOf peripheral op) (commandEffect peripheral w b)
-    (pick (isOf wires op) (commandEffect wires w b)
+    (pick (isOf wires op) (wiresEffect w b)
     (pick (eqb op 0x22) (withState w (writtenState (w .state) (registerAt b) (registerValue b)))
     (pick (eqb op 0xFF) (withState w (clearedState (w .state)))
     w)))
@@ -172,6 +176,6 @@ pub record Frames (k : Channel) (before after : World) : Type 0 where
   pub config : after .state .config ≡ before .state .config
   pub others : (j : Channel) → same k j ≡ false → part j (after .state) ≡ part j (before .state)
 
--- .. whatever the number of the call (02, Q-14)
+-- .. whatever the number of the call, but for a packet that counts "as a platform reset" (02, Q-14; Q-1)
 abbrev pub PartsKept : Type 0
-PartsKept = (w : World) (c : Call) (k : Channel) → trafficOf k c ≡ true → Frames k w (step w c .next)
+PartsKept = (w : World) (c : Call) (k : Channel) → trafficOf k c ≡ true → pltrstFalls w c ≡ false → Frames k w (step w c .next)

@@ -1,7 +1,7 @@
 -- P8. Which numbers have a reply, and its shape (01, Replies and refusals: "Reply: response byte .., body, status low byte first, CRC over
 -- all before it").
 use Prim.Native.Nat.{ℕ, zero, suc, _+_, _*_, _/_, _%_, _≤_}
-use mathlib.Core.Bool.{false}
+use mathlib.Core.Bool.{Bool, false, _||_}
 use mathlib.Core.List.{List, [], _∷_, _++_}
 use mathlib.Core.Logic.{_≢_}
 use mathlib.Core.Path.{_≡_}
@@ -13,6 +13,7 @@ use Rattle.state.specs.Status.{status}
 use Rattle.state.specs.declared.State.{State}
 use Rattle.state.specs.Sound.{Sound}
 use Rattle.rules.specs.Statements.Fields.{byte, isNonPosted}
+use Rattle.rules.specs.Statements.Events.{lowersPltrst}
 use Rattle.rules.specs.Statements.Refusals.{isExchange}
 use Rattle.rules.specs.Rules.Step.{World, Call, exchange, Outcome, step, replyLength}
 
@@ -37,33 +38,37 @@ bodyLength op body =
     (pick (eqb op 0x21) 4
     0))
 
--- "A write takes effect after its own reply, whose .. status are the old ones. All other replies show the status after the command"
--- (01, Registers and status)
-abbrev pub statusShown : ℕ → State → State → ℕ
-statusShown op before after = pick (eqb op 0x22) (status before) (status after)
+-- what comes after the reply: "A write takes effect after its own reply" (01, Registers and status), "the platform reset follows after that reply" (02, Q-1)
+abbrev pub effectFollows : State → List ℕ → Bool
+effectFollows s b = eqb (byte b 0) 0x22 || lowersPltrst s b
+
+-- then a reply shows the status before that, "the old ones", "the status before it", and it is the one before the command: a packet's own wires have no
+-- bit in it. "All other replies show the status after the command" (01, Registers and status; 02, Q-1)
+abbrev pub stateShown : List ℕ → State → State → State
+stateShown b before after = pick (effectFollows before b) before after
 
 -- the reply of an accepted command: 0, "as the rules say" (01, Replies and refusals)
-pub record Replied (op : ℕ) (before after : State) (reply : List ℕ) : Type 0 where
+pub record Replied (op : ℕ) (shown : State) (reply : List ℕ) : Type 0 where
   pub body : List ℕ
-  pub bytes : reply ≡ replyOf (acceptCode op) body (statusShown op before after)
+  pub bytes : reply ≡ replyOf (acceptCode op) body (status shown)
   pub ofKind : length body ≡ bodyLength op body
   pub small : length reply ≤ replyLength
 
 -- "RESET 0 bytes" (01, Replies and refusals); every other has a reply
-pub record AcceptedReply (op : ℕ) (before after : State) (reply : List ℕ) : Type 0 where
+pub record AcceptedReply (op : ℕ) (shown : State) (reply : List ℕ) : Type 0 where
   pub reset : op ≡ 0xFF → reply ≡ []
-  pub replied : op ≢ 0xFF → Replied op before after reply
+  pub replied : op ≢ 0xFF → Replied op shown reply
 
 -- by the number: 0, 1 "FATAL, 4 bytes", 2 "NON_FATAL, 4 bytes", all others none (01, Replies and refusals)
 abbrev pub Shape : ℕ → ℕ → State → State → List ℕ → Type 0
-Shape zero op before after reply = AcceptedReply op before after reply
-Shape (suc zero) op before after reply = reply ≡ replyOf 0x03 [] (status before)
-Shape (suc (suc zero)) op before after reply = reply ≡ replyOf 0x02 [] (status before)
-Shape (suc (suc (suc n))) op before after reply = reply ≡ []
+Shape zero op before shown reply = AcceptedReply op shown reply
+Shape (suc zero) op before shown reply = reply ≡ replyOf 0x03 [] (status before)
+Shape (suc (suc zero)) op before shown reply = reply ≡ replyOf 0x02 [] (status before)
+Shape (suc (suc (suc n))) op before shown reply = reply ≡ []
 
--- .. of an exchange's outcome, its opcode and the states before and after (01, Replies and refusals)
+-- .. of an exchange's outcome, its opcode, the state before and the one that an accepted one shows (01, Replies and refusals)
 abbrev pub shapeOf : World → List ℕ → Outcome → Type 0
-shapeOf w b o = Shape (o .number) (byte b 0) (w .state) (o .next .state) (o .reply)
+shapeOf w b o = Shape (o .number) (byte b 0) (w .state) (stateShown b (w .state) (o .next .state)) (o .reply)
 
 -- the value of an exchange is its reply's length (01, What each contract must settle: "result")
 pub record ExchangeShape (w : World) (b : List ℕ) (o : Outcome) : Type 0 where

@@ -8,11 +8,10 @@ use Rattle.state.specs.Status.{status}
 use Rattle.state.specs.Sound.{Sound}
 use Rattle.rules.specs.Rules.Channel.{Channel, peripheral, wires}
 use Rattle.rules.specs.Rules.Step.{World, exchange, step}
-use Rattle.rules.specs.Statements.Fields.{byte}
 use Rattle.rules.specs.Statements.Requests.{statusIn}
 use Rattle.rules.specs.Statements.Status.{LongEnough, statusBit, ShowsAvail}
 use Rattle.rules.specs.Statements.Peripheral.Status as P
-use Rattle.rules.specs.Statements.Shape.{statusShown}
+use Rattle.rules.specs.Statements.Shape.{stateShown}
 
 module _ (w : World) (lent : List ℕ) where
   -- channel 1: "6 VWIRE_AVAIL (a group is pending)", on or off
@@ -26,11 +25,12 @@ module _ (w : World) (lent : List ℕ) where
     pub word : status (w .state) ≡ statusBit w 0 + 2 * statusBit w 1 + 4 + 16 * statusBit w 4 + 64 * statusBit w 6
     pub ofChannel : (k : Channel) → BitsOf k
 
--- "whose .. status are the old ones. All other replies show the status after the command" (01, Registers and status); an error changes no state
+-- "whose .. status are the old ones. All other replies show the status after the command" (01, Registers and status), "which shows the status before it"
+-- (02, Q-1); an error changes no state
 abbrev pub ShowsStatus : World → List ℕ → Type 0
 ShowsStatus w reply =
     (b : List ℕ) → step w (exchange b reply) .reply ≢ []
-    → statusIn (step w (exchange b reply) .reply) ≡ statusShown (byte b 0) (w .state) (step w (exchange b reply) .next .state)
+    → statusIn (step w (exchange b reply) .reply) ≡ status (stateShown b (w .state) (step w (exchange b reply) .next .state))
 
 -- "Status bits" in each state, and "All other replies show the status after the command" (01, Registers and status)
 pub record StatusSays : Type 0 where

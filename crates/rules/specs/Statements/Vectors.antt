@@ -1,5 +1,5 @@
--- P23. Bench lines (01, Bench lines; outside vectors; 02, Q-5, Q-6): one table, one statement. A row: the calls before it from a fresh world, the command, its
--- number and its whole reply. The set-ups are real commands; replies were made by hand and a CRC program that shares nothing with this repository.
+-- P23. Bench lines (01, Bench lines; outside vectors; 02, Q-1, Q-5, Q-6): one table, one statement. A row: the calls before it from a fresh world, the command,
+-- its number and its whole reply. The set-ups are real commands; replies were made by hand and a CRC program that shares nothing with this repository.
 use Prim.Native.Nat.{ℕ, zero, suc}
 use mathlib.Core.List.{List, [], _∷_, _++_}
 use mathlib.Core.Path.{_≡_}
@@ -53,6 +53,22 @@ highLowHigh = 0x04 ∷ 0x02 ∷ 0x02 ∷ 0x11 ∷ 0x02 ∷ 0x10 ∷ 0x02 ∷ 0x1
 -- PUT_VWIRE of 64 pairs: SLP_S3# high 62 times, low, high
 abbrev third64 : List ℕ
 third64 = 0x04 ∷ 0x3F ∷ high 62 (0x02 ∷ 0x10 ∷ 0x02 ∷ 0x11 ∷ 0xCA ∷ [])
+
+-- PUT_VWIRE: PLTRST# high
+abbrev pltrstHigh : List ℕ
+pltrstHigh = 0x04 ∷ 0x00 ∷ 0x03 ∷ 0x22 ∷ 0x89 ∷ []
+
+-- PUT_VWIRE: PLTRST# low
+abbrev pltrstLow : List ℕ
+pltrstLow = 0x04 ∷ 0x00 ∷ 0x03 ∷ 0x20 ∷ 0x87 ∷ []
+
+-- PUT_VWIRE: PLTRST# low, high
+abbrev pltrstLowHigh : List ℕ
+pltrstLowHigh = 0x04 ∷ 0x01 ∷ 0x03 ∷ 0x20 ∷ 0x03 ∷ 0x22 ∷ 0x6E ∷ []
+
+-- PUT_VWIRE: PLTRST# high, low
+abbrev pltrstHighLow : List ℕ
+pltrstHighLow = 0x04 ∷ 0x01 ∷ 0x03 ∷ 0x22 ∷ 0x03 ∷ 0x20 ∷ 0xB6 ∷ []
 
 -- 010h: read size 256, payload size 64
 abbrev r256p64 : List ℕ
@@ -204,6 +220,33 @@ rows =
     -- the third in the last of 64 pairs
     ∷ row (send on64 ∷ []) third64 1
     (0x03 ∷ 0x07 ∷ 0x00 ∷ 0xD6 ∷ [])
+    -- channel 1 on: PLTRST# goes high (02, Q-1)
+    ∷ row (send on1 ∷ []) pltrstHigh 0
+    (0x08 ∷ 0x07 ∷ 0x00 ∷ 0x3A ∷ [])
+    -- .. a request is held, and PLTRST# goes low: the reply shows the status before the reset
+    ∷ row (send on1 ∷ send pltrstHigh ∷ send ioRead ∷ []) pltrstLow 0
+    (0x08 ∷ 0x05 ∷ 0x00 ∷ 0x10 ∷ [])
+    -- .. which has come after it
+    ∷ row (send on1 ∷ send pltrstHigh ∷ send ioRead ∷ send pltrstLow ∷ []) getStatus 0
+    (0x08 ∷ 0x07 ∷ 0x00 ∷ 0x3A ∷ [])
+    -- .. a late answer is none
+    ∷ row (send on1 ∷ send pltrstHigh ∷ send ioRead ∷ send pltrstLow ∷ answer 1 1 (0x1D ∷ []) ∷ []) getPc 1
+    (0x03 ∷ 0x07 ∷ 0x00 ∷ 0xD6 ∷ [])
+    -- .. and low to low is no reset: the next request stays
+    ∷ row (send on1 ∷ send pltrstHigh ∷ send pltrstLow ∷ send ioRead ∷ send pltrstLow ∷ []) getStatus 0
+    (0x08 ∷ 0x05 ∷ 0x00 ∷ 0x10 ∷ [])
+    -- an operating count of 4, PLTRST# high: low, high is no reset
+    ∷ row (send on4 ∷ send pltrstHigh ∷ send ioRead ∷ send pltrstLowHigh ∷ []) getStatus 0
+    (0x08 ∷ 0x05 ∷ 0x00 ∷ 0x10 ∷ [])
+    -- PLTRST# low: high, low is none
+    ∷ row (send on4 ∷ send ioRead ∷ send pltrstHighLow ∷ []) getStatus 0
+    (0x08 ∷ 0x05 ∷ 0x00 ∷ 0x10 ∷ [])
+    -- PLTRST# high: high, low is one
+    ∷ row (send on4 ∷ send pltrstHigh ∷ send ioRead ∷ []) pltrstHighLow 0
+    (0x08 ∷ 0x05 ∷ 0x00 ∷ 0x10 ∷ [])
+    -- .. and what was held is gone
+    ∷ row (send on4 ∷ send pltrstHigh ∷ send ioRead ∷ send pltrstHighLow ∷ []) getStatus 0
+    (0x08 ∷ 0x07 ∷ 0x00 ∷ 0x3A ∷ [])
     ∷ []
 
 -- ---- the statement: each row's command gets the row's number and reply

@@ -14,8 +14,8 @@ use Rattle.rules.specs.Rules.Wires as W
 use Rattle.rules.specs.Rules.Channel.{Channel, peripheral, wires, Board}
 use Rattle.rules.specs.Rules.Step.{World, Call, reset, exchange, board, short, lend, step, run, allHanded}
 use Rattle.rules.specs.Statements.Fields.{byte, pairs}
-use Rattle.rules.specs.Statements.Events.{accepted}
-use Rattle.rules.specs.Statements.Requests.{without}
+use Rattle.rules.specs.Statements.Events.{accepted, pltrstFalls}
+use Rattle.rules.specs.Statements.Requests.{isStart, without}
 use Rattle.rules.specs.Statements.WireView.{readsWire}
 use Rattle.rules.specs.Statements.Wires.Effects.{tableValues}
 use Rattle.rules.specs.Statements.Wires.Rows.{wireOfBoard}
@@ -36,13 +36,13 @@ resetsGroup i start = true
 resetsGroup i espiReset = true
 resetsGroup i platformReset = eqb i 6 || eqb i 7
 
--- .. by a call ("eSPI reset, platform reset", 01, What the engine covers)
-abbrev pub resetsBy : ℕ → Call → Bool
-resetsBy i (reset r) = resetsGroup i r
-resetsBy i (exchange command reply) = false
-resetsBy i (board k o) = false
-resetsBy i (short state c) = false
-resetsBy i (lend write read) = false
+-- .. by a call ("eSPI reset, platform reset", 01, What the engine covers) or by a packet that counts "as a platform reset" (02, Q-1)
+abbrev pub resetsBy : ℕ → World → Call → Bool
+resetsBy i w (reset r) = resetsGroup i r
+resetsBy i w (exchange command reply) = resetsGroup i platformReset && pltrstFalls w (exchange command reply)
+resetsBy i w (board k o) = false
+resetsBy i w (short state c) = false
+resetsBy i w (lend write read) = false
 
 -- ---- what a run accepts, in order
 
@@ -112,17 +112,15 @@ pub record ReadAfter (w : World) (cs : List Call) (i bit old : ℕ) : Type 0 whe
   pub down : wireDown i bit ≡ true → valueRead (run w cs) i bit ≡ lastPut i bit (packets w cs) old
   pub up : wireOfBoard i bit ≡ true → valueRead (run w cs) i bit ≡ lastSet (settings i bit w cs) old
 
--- "Start takes no state"
-abbrev pub SoundBefore : Reset → World → Type 0
-SoundBefore start w = Unit {0}
-SoundBefore espiReset w = Sound (w .state)
-SoundBefore platformReset w = Sound (w .state)
+-- a sound state, but for a start: "Start takes no state" (01, What the engine covers)
+abbrev pub SoundBefore : World → Call → Type 0
+SoundBefore w c = isStart c ≡ false → Sound (w .state)
 
 -- since a reset of the wire's group, or between any two places of a run: cs, with no such reset among them
 -- ("register values, wires and queues afterwards", 00, demand 2; "reset value", 01, Wires; "Disabling channel 1 drops pending marks and keeps values")
 pub record WireReads : Type 0 where
-  pub since : (w : World) (r : Reset) (cs : List Call) (i bit : ℕ) → SoundBefore r w → resetsGroup i r ≡ true
-      → allHanded cs ≡ true → without (λ v c. resetsBy i c) (step w (reset r) .next) cs ≡ true
-      → ReadAfter (step w (reset r) .next) cs i bit (resetLevel i bit)
-  pub between : (w : World) (cs : List Call) (i bit : ℕ) → Sound (w .state) → allHanded cs ≡ true → without (λ v c. resetsBy i c) w cs ≡ true
+  pub since : (w : World) (c : Call) (cs : List Call) (i bit : ℕ) → SoundBefore w c → resetsBy i w c ≡ true
+      → allHanded (c ∷ cs) ≡ true → without (resetsBy i) (step w c .next) cs ≡ true
+      → ReadAfter (step w c .next) cs i bit (resetLevel i bit)
+  pub between : (w : World) (cs : List Call) (i bit : ℕ) → Sound (w .state) → allHanded cs ≡ true → without (resetsBy i) w cs ≡ true
       → ReadAfter w cs i bit (valueRead w i bit)

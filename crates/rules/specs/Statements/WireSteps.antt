@@ -15,10 +15,13 @@ use Rattle.wires.specs.Sent.{pendingCount}
 use Rattle.wires.specs.declared.Wires.{Wires}
 use Rattle.state.specs.Status.{status}
 use Rattle.state.specs.Sound.{Sound}
+use Rattle.rules.specs.Rules.Reset.{platformReset}
 use Rattle.rules.specs.Rules.Channel.{wires, on}
 use Rattle.rules.specs.Rules.Reply.{closed}
 use Rattle.rules.specs.Rules.Step.{World, Call, exchange, Outcome, step}
+use Rattle.rules.specs.Statements.Events.{lowersPltrst}
 use Rattle.rules.specs.Statements.Fields.{byte, pairs, registerAt, registerValue}
+use Rattle.rules.specs.Statements.Wires.Effects.{resetPart}
 use Rattle.rules.specs.Statements.WireEvents.{wiresOf, countOf}
 use Rattle.rules.specs.Statements.WireView.{setsWire, readsWire}
 
@@ -37,6 +40,12 @@ pub record Put (w v : World) (given : List ℕ) : Type 0 where
   pub otherGroups : (i : ℕ) → 2 ≤ i → isDown i ≡ false → levelAt (wiresOf v) i ≡ levelAt (wiresOf w) i
   pub marks : wiresOf v .pending ≡ wiresOf w .pending
   pub place : wiresOf v .place ≡ wiresOf w .place
+
+-- .. and then "the platform reset follows after that reply" (02, Q-1): "groups 6 and 7", "going round .. from 4 itself" (01)
+pub record Lowered (w v : World) (given : List ℕ) : Type 0 where
+  pub packet : World
+  pub put : Put w packet given
+  pub reset : wiresOf v ≡ resetPart platformReset (wiresOf packet)
 
 -- ---- the board sets and reads a wire
 
@@ -99,7 +108,10 @@ pub data Raised (w : World) (c : Call) (i : ℕ) : Type 0 where
 
 -- each rule of 01, Wires of its call; raised: no pending mark comes by itself ("makes it pending", "makes each up group pending")
 pub record WireSteps : Type 0 where
-  pub put : (w : World) (b r : List ℕ) → Sound (w .state) → byte b 0 ≡ 0x04 → step w (exchange b r) .number ≡ 0 → Put w (step w (exchange b r) .next) (pairs b)
+  pub put : (w : World) (b r : List ℕ) → Sound (w .state) → byte b 0 ≡ 0x04 → step w (exchange b r) .number ≡ 0 → lowersPltrst (w .state) b ≡ false
+      → Put w (step w (exchange b r) .next) (pairs b)
+  pub lowered : (w : World) (b r : List ℕ) → Sound (w .state) → step w (exchange b r) .number ≡ 0 → lowersPltrst (w .state) b ≡ true
+      → Lowered w (step w (exchange b r) .next) (pairs b)
   pub set : (w : World) (i bit value : ℕ) → Sound (w .state) → step w (setsWire i bit value) .number ≡ 0
       → Set w (step w (setsWire i bit value) .next) i bit value
   -- so that `wireOf` is what the board reads; `WireReads` has that value by what came since a reset

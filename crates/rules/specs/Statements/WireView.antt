@@ -12,6 +12,7 @@ use Rattle.rules.specs.Rules.Wires as W
 use Rattle.rules.specs.Rules.Channel.{wires, on}
 use Rattle.rules.specs.Rules.Reply.{closed}
 use Rattle.rules.specs.Rules.Step.{World, Call, exchange, board, Outcome, step}
+use Rattle.rules.specs.Statements.Events.{lowersPltrst}
 use Rattle.rules.specs.Statements.Fields.{pairs}
 use Rattle.rules.specs.Statements.WireEvents.{WireEvent, idle, puts, gets, sets, enables, ends, switchesOn, wireEvent, wiresOf, countOf}
 
@@ -26,7 +27,7 @@ readsWire index bit = board wires (W.readWire index bit)
 -- put: "PUT_VWIRE applies pairs in order", and no wire has "a third transition" (02, Q-6); sent: "GET_VWIRE sends min(pending, operating count) groups";
 -- set: "The board sets one defined bit of an up group"; enabled: "Enabling it from disabled"; disabled: "Disabling channel 1 drops pending marks and keeps
 -- values" (01, Wires); wiped, platformWiped: "eSPI reset also resets all registers and groups", "Platform reset also resets 010h and wire groups 6 and 7"
--- (01, Requests, answers, pieces)
+-- (01, Requests, answers, pieces); lowered: the pairs, and then "the platform reset follows" (02, Q-1)
 pub data WireMove (w : World) (c : Call) (o : Outcome) : WireEvent → Type 0 where
   still : wiresOf (o .next) ≡ wiresOf w → WireMove w c o idle
   put : (b r : List ℕ) → c ≡ exchange b r → thirdTransition (wiresOf w) (pairs b) ≡ false → wiresOf (o .next) ≡ putPairs (wiresOf w) (pairs b)
@@ -42,6 +43,8 @@ pub data WireMove (w : World) (c : Call) (o : Outcome) : WireEvent → Type 0 wh
   disabled : wiresOf (o .next) ≡ G.disabled (wiresOf w) → WireMove w c o ends
   wiped : wiresOf (o .next) ≡ freshWires → WireMove w c o ends
   platformWiped : wiresOf (o .next) ≡ platformWires (wiresOf w) → WireMove w c o ends
+  lowered : (b r : List ℕ) → c ≡ exchange b r → thirdTransition (wiresOf w) (pairs b) ≡ false → lowersPltrst (w .state) b ≡ true
+      → wiresOf (o .next) ≡ platformWires (putPairs (wiresOf w) (pairs b)) → WireMove w c o ends
 
 -- so of every call: "wires and queues afterwards" (00, demand 2), and for the bound "unless a start, such a reset or a disabling comes first" (01, Wires)
 abbrev pub WireView : Type 0

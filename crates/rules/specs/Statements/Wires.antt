@@ -11,7 +11,7 @@ use Rattle.registers.specs.Registers.{on1, operatingCount}
 use Rattle.registers.specs.declared.Config.{Config}
 use Rattle.wires.specs.Groups as G
 use Rattle.wires.specs.Transitions.{thirdTransition}
-use Rattle.wires.specs.Groups.{putPairs, sent, packetOf, afterSent, settable, definedBit}
+use Rattle.wires.specs.Groups.{putPairs, readWire as level, sent, packetOf, afterSent, settable, definedBit}
 use Rattle.wires.specs.declared.Wires.{Wires}
 use Rattle.rules.specs.Rules.Numbers.{noSuchWire}
 use Rattle.rules.specs.Rules.Out.{fatal, accept, number, keep}
@@ -33,6 +33,11 @@ pub data Did (c : Config) (w : Wires) : Act → WiresChange → Type 0 where
   nonePending : sent w (operatingCount (c .r020)) ≡ [] → Did c w gets (change w fatal)
   sentOff : {k : ℕ} {ks : List ℕ} → sent w (operatingCount (c .r020)) ≡ k ∷ ks
       → Did c w gets (change (afterSent w (k ∷ ks)) (accept (B.Groups (packetOf w (k ∷ ks))) K.Nothing))
+
+-- of these, "an accepted PUT_VWIRE [that] ends with PLTRST# low that was high before" (02, Q-1)
+pub data Lowers (c : Config) (w : Wires) : Act → WiresChange → Type 0 where
+  lowered : {n : ℕ} {pairs : List ℕ} → ltb (operatingCount (c .r020)) n ≡ false → thirdTransition w pairs ≡ false → level w 3 1 ≡ 1
+      → level (putPairs w pairs) 3 1 ≡ 0 → Lowers c w (puts n pairs) (change (putPairs w pairs) (accept B.Nothing K.Nothing))
 
 -- ---- the board's calls
 

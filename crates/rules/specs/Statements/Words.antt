@@ -13,6 +13,7 @@ use Rattle.rules.specs.Statements.Fields.{byte, isNonPosted, accessAddre
 use Rattle.rules.specs.Statements.Events.{enablesAt, ends}
 use Rattle.rules.specs.Statements.Requests.{asks, tells, gets, event, answersWith, held}
 use Rattle.rules.specs.Statements.Requests as R
+use Rattle.rules.specs.Statements.WireView.{readsWire}
 
 -- a GET_PC: "GET_PC 01h" (01, Commands)
 pub data GetPc : Call → Type 0 where
@@ -31,10 +32,17 @@ abbrev pub enableBit : Channel → Config → ℕ
 enableBit peripheral c = c .r010 .value % 2
 enableBit wires c = c .r020 .value % 2
 
--- "a start, an eSPI reset, a platform reset or a disabling": SET_CONFIGURATION of that register, its bit 0 going from 1 to 0
-pub data Ending (k : Channel) (c : Config) : Call → Type 0 where
-  byReset : {r : Reset} → Ending k c (reset r)
-  byWrite : {b r : List ℕ} → byte b 0 ≡ 0x22 → enablesAt k (registerAt b) ≡ true → enableBit k c ≡ 1 → registerValue b % 2 ≡ 0 → Ending k c (exchange b r)
+-- PLTRST#, as the board reads it: bit 1 of group 3 (004, table 10; 01, What the engine covers: "read a wire")
+abbrev pub pltrstRead : World → ℕ
+pltrstRead w = step w (readsWire 3 1) .value
+
+-- "a start, an eSPI reset, a platform reset or a disabling": SET_CONFIGURATION of that register, its bit 0 going from 1 to 0 (demand 3; 01); and a PUT_VWIRE
+-- that "ends with PLTRST# low that was high before" (02, Q-1): the levels before and after the call
+pub data Ending (k : Channel) (c : Config) (before after : ℕ) : Call → Type 0 where
+  byReset : {r : Reset} → Ending k c before after (reset r)
+  byWrite : {b r : List ℕ} → byte b 0 ≡ 0x22 → enablesAt k (registerAt b) ≡ true → enableBit k c ≡ 1 → registerValue b % 2 ≡ 0
+      → Ending k c before after (exchange b r)
+  byPacket : {b r : List ℕ} → byte b 0 ≡ 0x04 → before ≡ 1 → after ≡ 0 → Ending k c before after (exchange b r)
 
 -- each from the other, so that the words "accepted", "refused" and "answered" (00, demand 3) say no more and no less than bytes and numbers
 abbrev pub Exactly : Type 0 → Type 0 → Type 0
@@ -66,4 +74,5 @@ pub record ByteWords : Type 0 where
   pub held : (w : World) (b r : List ℕ) → event w (exchange b r) ≡ asks → HeldRequest w b r
   pub tell : (w : World) (c : Call) → Exactly (event w c ≡ tells) (Accepted w c × Answer c)
   pub end : (w : World) (c : Call) → Exactly (event w c ≡ R.ends) (ends peripheral w c ≡ true)
-  pub ends : (k : Channel) (w : World) (c : Call) → Exactly (ends k w c ≡ true) (Accepted w c × Ending k (w .state .config) c)
+  pub ends : (k : Channel) (w : World) (c : Call) → Exactly (ends k w c ≡ true)
+      (Accepted w c × Ending k (w .state .config) (pltrstRead w) (pltrstRead (step w c .next)) c)

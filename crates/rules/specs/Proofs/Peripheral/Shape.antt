@@ -11,7 +11,7 @@ use Rattle.peripheral.specs.Sound.{soundRequest}
 use Rattle.state.specs.Status.{status}
 use Rattle.state.specs.declared.State.{State}
 use Rattle.rules.specs.Rules.Peripheral as P₀
-use Rattle.rules.specs.Rules.Channel.{peripheral}
+use Rattle.rules.specs.Rules.Channel.{peripheral, put}
 use Rattle.rules.specs.Rules.Lift.{lift}
 use Rattle.rules.specs.Rules.Reply.{replyBytes, closed, headerBytes, dataBytes}
 use Rattle.rules.specs.Rules.Step.{readLength}
@@ -44,20 +44,20 @@ module _ (s : State) (reads : List ℕ) (enough : readLength ≤ length reads) w
   header-length c h = omega arith
 
   completion-shape : (after : State) (c : Completion) → PieceFits c
-      → AcceptedReply 0x01 s after (replyOf 0x08 (headerBytes c ++ dataBytes c reads) (status after))
+      → AcceptedReply 0x01 after (replyOf 0x08 (headerBytes c ++ dataBytes c reads) (status after))
   completion-shape after c h =
-      with-body s 0x01 after (headerBytes c ++ dataBytes c reads) refl (completion-length c h ∙ ap (λ (n : ℕ). 3 + n) (sym (header-length c h)))
+      with-body 0x01 after (headerBytes c ++ dataBytes c reads) refl (completion-length c h ∙ ap (λ (n : ℕ). 3 + n) (sym (header-length c h)))
       (rw (completion-length c h) (omega arith))
 
   pub acts-shape : (op : ℕ) → soundRequest (s .peripheral .request) ≡ true → {a : P₀.Act} {x : PeripheralChange}
-      → P.Did (s .config) (s .peripheral) a x → ActOpcode a op → ShapeOf s reads op (lift peripheral s x)
+      → P.Did (s .config) (s .peripheral) a x → ActOpcode a op → ShapeOf s reads op (put peripheral (x .next) s) (lift peripheral s x)
   unfolding lift replyBytes closed
   acts-shape op np (P.writeHeld e) h = refl
   acts-shape op np (P.writeLarge e f) h = refl
-  acts-shape op np (P.posted e f) h = bare s op 0x08 _ h
+  acts-shape op np (P.posted e f) h = bare op 0x08 _ h
   acts-shape op np (P.requestHeld e) h = refl
   acts-shape op np (P.requestLarge e f) h = refl
-  acts-shape op np (P.asked e f) h = bare s op 0x01 _ h
+  acts-shape op np (P.asked e f) h = bare op 0x01 _ h
   acts-shape op np (P.noneReady e) h = refl
   acts-shape op np (P.handedOver {k} {ks} e) h =
-      at s op 0x01 h (completion-shape _ k (piece-fits (s .peripheral .request) k ks np e))
+      at op 0x01 h (completion-shape _ k (piece-fits (s .peripheral .request) k ks np e))

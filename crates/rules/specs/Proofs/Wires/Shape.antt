@@ -9,7 +9,7 @@ use Rattle.wires.specs.Sent.{sent-bytes, sent-most, pairs-length}
 use Rattle.state.specs.Status.{status}
 use Rattle.state.specs.declared.State.{State}
 use Rattle.rules.specs.Rules.Wires as W₀
-use Rattle.rules.specs.Rules.Channel.{wires}
+use Rattle.rules.specs.Rules.Channel.{wires, put}
 use Rattle.rules.specs.Rules.Lift.{lift}
 use Rattle.rules.specs.Rules.Reply.{replyBytes, closed}
 use Rattle.rules.specs.Statements.Fields.{byte}
@@ -29,20 +29,21 @@ module _ (s : State) (reads : List ℕ) where
   wire-opcode (F.Wires.gets e) = e
 
   packet-shape : (after : State) (count k : ℕ) (ks : List ℕ) → count ≤ 64 → sent (s .wires) count ≡ k ∷ ks
-      → AcceptedReply 0x05 s after (replyOf 0x08 (packetBytes (s .wires) (packetOf (s .wires) (k ∷ ks))) (status after))
+      → AcceptedReply 0x05 after (replyOf 0x08 (packetBytes (s .wires) (packetOf (s .wires) (k ∷ ks))) (status after))
   packet-shape after count k ks c e =
       let w = s .wires in
       let n = ap length e in
       let l = sent-most w count in
       let p = pairs-length w (sent w count) in
-      subst (λ (xs : List ℕ). AcceptedReply 0x05 s after (replyOf 0x08 (packetBytes w (packetOf w xs)) (status after))) e
-      (subst (λ (xs : List ℕ). AcceptedReply 0x05 s after (replyOf 0x08 xs (status after))) (sym (sent-bytes w count))
-      (with-body s 0x05 after ((length (sent w count) - 1) ∷ pairBytes w (sent w count)) refl (omega (arith, n, l, p)) (omega (arith, l, p))))
+      subst (λ (xs : List ℕ). AcceptedReply 0x05 after (replyOf 0x08 (packetBytes w (packetOf w xs)) (status after))) e
+      (subst (λ (xs : List ℕ). AcceptedReply 0x05 after (replyOf 0x08 xs (status after))) (sym (sent-bytes w count))
+      (with-body 0x05 after ((length (sent w count) - 1) ∷ pairBytes w (sent w count)) refl (omega (arith, n, l, p)) (omega (arith, l, p))))
 
-  pub acts-shape : (op : ℕ) {a : W₀.Act} {x : WiresChange} → W.Did (s .config) (s .wires) a x → WireOpcode a op → ShapeOf s reads op (lift wires s x)
+  pub acts-shape : (op : ℕ) {a : W₀.Act} {x : WiresChange} → W.Did (s .config) (s .wires) a x → WireOpcode a op
+      → ShapeOf s reads op (put wires (x .next) s) (lift wires s x)
   unfolding lift replyBytes closed
   acts-shape op (W.overCount e) h = refl
   acts-shape op (W.third e f) h = refl
-  acts-shape op (W.put e f) h = at s op 0x04 h (bare s 0x04 0x08 _ refl)
+  acts-shape op (W.put e f) h = at op 0x04 h (bare 0x04 0x08 _ refl)
   acts-shape op (W.nonePending e) h = refl
-  acts-shape op (W.sentOff {k} {ks} e) h = at s op 0x05 h (packet-shape _ _ k ks (omega arith) e)
+  acts-shape op (W.sentOff {k} {ks} e) h = at op 0x05 h (packet-shape _ _ k ks (omega arith) e)
