@@ -153,6 +153,63 @@ fn third_transition() {
     assert_eq!(high(&mut board), [(3, 0), (7, 1), (7, 2)]);
 }
 
+/// Channel 1 on for 4 groups and 010h with a payload size of 256 bytes and a read request size of 256; PLTRST# high, or low as at
+/// reset.
+fn on4(high: bool) -> Board {
+    let mut board = Board::fresh();
+    board.line("22 00 20 01 00 03 00 55", 0, "08 07 00 3A").line("22 00 10 03 33 00 00 4C", 0, "08 07 00 3A");
+    if high {
+        board.line("04 00 03 22 89", 0, "08 07 00 3A");
+    }
+    board
+}
+
+/// which packets the platform reset follows, seen by 010h, and the number of each.
+#[test]
+fn pltrst_falls() {
+    for (high, packet, number, resets) in [
+        (true, "04 00 03 20 87", 0, true),
+        (true, "04 01 03 22 03 20 00", 0, true),
+        (true, "04 01 03 20 02 11 00", 0, true),
+        // There and back within a packet; low to low; the rise.
+        (true, "04 01 03 20 03 22 00", 0, false),
+        (false, "04 01 03 22 03 20 00", 0, false),
+        (false, "04 00 03 20 00", 0, false),
+        (false, "04 00 03 22 00", 0, false),
+        // The valid bit clear, SUS_STAT# and OOB_RST_WARN, SLP_S4#.
+        (true, "04 00 03 00 00", 0, false),
+        (true, "04 00 03 50 00", 0, false),
+        (true, "04 00 02 20 00", 0, false),
+        // A third transition, and five groups.
+        (true, "04 02 03 20 03 22 03 20 00", 1, false),
+        (true, "04 04 03 20 03 20 03 20 03 20 03 20 00", 1, false),
+    ] {
+        let mut board = on4(high);
+        board.line(packet, number, ["08 07 00 3A", "03 07 00 D6"][number as usize]);
+        board.line("21 00 10 00", 0, if resets { "08 33 11 00 00 07 00 0F" } else { "08 33 33 00 00 07 00 AF" });
+    }
+}
+
+/// what the reset takes and what it leaves. A write, a read and groups 5 and 6 are there; the packet also puts SLP_S3# and
+/// SUS_STAT# high and SMIOUT# low.
+#[test]
+fn pltrst_resets() {
+    let mut board = on4(true);
+    board.line("40 00 64 BD", 0, "01 05 00 2A").line("4C 00 00 10 00 5A BE", 0, "08 04 00 05");
+    assert_eq!(board.engine.set_wire(&mut board.state, 6, 0, 0), 0);
+    assert_eq!(board.engine.set_wire(&mut board.state, 5, 3, 1), 0);
+    // The reply still shows both held; the next exchange has their places free, and the mark of group 5 alone.
+    board.line("04 02 03 31 07 20 02 11 00", 0, "08 44 00 5E").line("25 FB", 0, "08 47 00 61").answer(1, 1, 20);
+    assert_eq!(board.engine.take_write(&mut board.state, &board.write_store, &mut [0; 10]), 23);
+    let high = |wire: &(u32, u32)| board.engine.clone().read_wire(&board.state, wire.0, wire.1) == 0x100;
+    let wires = (2..=7).flat_map(|index| (0..4).map(move |bit| (index, bit)));
+    let all: Vec<(u32, u32)> = wires.filter(high).collect();
+    assert_eq!(all, [(2, 0), (3, 0), (4, 2), (4, 3), (5, 3), (6, 0), (6, 1), (6, 2), (7, 1), (7, 2)]);
+    board.line("05 1B", 0, "08 00 05 F8 07 00 57");
+    // The serial stays: the next request has 2. Low again is no fall, so the request stays, too.
+    board.line("40 00 64 BD", 0, "01 05 00 2A").line("04 00 03 20 87", 0, "08 05 00 10").answer(1, 1, 20).answer(2, 1, 0);
+}
+
 #[test]
 fn piece_lines() {
     const READ_1030: &str = "02 00 50 A0 00 00 10 30 FA";

@@ -1,7 +1,7 @@
 //! What a run has reached, and whether it is enough.
-use crate::engine::{Engine, OK, READ_STORE_LEN, WRITE_STORE_LEN};
+use crate::engine::{after_pltrst, pltrst_values, Engine, OK, READ_STORE_LEN, WRITE_STORE_LEN};
 use crate::fault;
-use crate::state::{Phase, Request, State};
+use crate::state::{Phase, Request, State, CHANNEL_0, FIRST_GROUP, GROUPS};
 use crate::traffic::{Call, CALLS};
 
 /// The numbers that each call can give, in the order of `CALLS`.
@@ -82,7 +82,7 @@ const MARKS: [(u8, &str); 6] =
     [(0x0F, "0Fh only"), (0x0B, "0Bh first"), (0x09, "09h middle"), (0x0D, "0Dh last"), (0x06, "06h I/O write"), (0x0E, "0Eh failure")];
 
 /// The cases that a run must meet besides.
-const CASES: [&str; 23] = [
+const CASES: [&str; 45] = [
     "CRC checked",
     "CRC not checked",
     "channel 0 on",
@@ -97,6 +97,28 @@ const CASES: [&str; 23] = [
     "64 groups over a count of 63",
     "third transition in the last of 64 groups",
     "wire that is put there and back",
+    "PLTRST# falls with a write held",
+    "PLTRST# falls with a request open",
+    "PLTRST# falls with an answer ready",
+    "PLTRST# falls with a read partly handed over",
+    "PLTRST# falls with group 4 pending",
+    "PLTRST# falls with group 5 pending",
+    "PLTRST# falls with group 6 pending",
+    "PLTRST# falls with group 6 alone pending",
+    "PLTRST# falls with the place past 4",
+    "PLTRST# falls with 010h changed",
+    "PLTRST# falls while channel 0 is off",
+    "PLTRST# falls after a pair of group 7",
+    "PLTRST# falls before a pair of group 7",
+    "PLTRST# falls after it was given high",
+    "PLTRST# falls in the last of 64 groups",
+    "PLTRST# rises",
+    "PLTRST# given low while low",
+    "PLTRST# high and low again in a packet",
+    "PLTRST# low and high again in a packet",
+    "PLTRST# would fall by a value that is not valid",
+    "PLTRST# would fall in a packet over the operating count",
+    "PLTRST# would fall in a packet with a third transition",
     "posted write of 256 bytes",
     "answer of 4,096 bytes",
     "late answer while a request is open",
@@ -206,10 +228,9 @@ impl Coverage {
             _ => Crc,
         };
         self.opcodes[row][end as usize] += 1;
-        let puts_64 = puts && groups == 64;
-        self.case("64 groups over a count of 63", puts_64 && end == Size && before.operating_count() == 63);
-        let third_at_63 = || Engine::default().third_transition(before, &command[2..2 + 2 * 63]);
-        self.case("third transition in the last of 64 groups", puts_64 && end == Third && !third_at_63());
+        if puts && matches!(end, Accepted | Size | Third) {
+            self.record_packet(&command[2..2 + 2 * groups], before, end);
+        }
         if end != Accepted {
             return;
         }
@@ -218,11 +239,6 @@ impl Coverage {
                 self.case("posted write of 256 bytes", after.write.as_ref().is_some_and(|write| write.length as usize == WRITE_STORE_LEN))
             }
             0x01 => self.record_completion(before, reply),
-            0x04 => {
-                self.case("64 groups put", puts_64);
-                let there_and_back = Engine { fault: fault::SECOND_REFUSED }.third_transition(before, &command[2..2 + 2 * groups]);
-                self.case("wire that is put there and back", there_and_back);
-            }
             0x05 => {
                 let groups = usize::from(reply[1]) + 1;
                 self.case(["packet of 1 group", "packet of 2 groups", "packet of 3 groups"][groups - 1], true);
@@ -234,6 +250,70 @@ impl Coverage {
         }
         let asked = before.request.is_none() && after.request.is_some();
         self.case("serial that wraps to 0", asked && after.serial == 0);
+    }
+
+    /// A packet of these pairs, accepted or refused by number 1.
+    fn record_packet(&mut self, pairs: &[u8], before: &State, end: End) {
+        let of_64 = pairs.len() == 2 * 64;
+        self.case("64 groups put", of_64 && end == Accepted);
+        self.case("64 groups over a count of 63", of_64 && end == Size && before.operating_count() == 63);
+        let third_at_63 = || Engine::default().third_transition(before, &pairs[..2 * 63]);
+        self.case("third transition in the last of 64 groups", of_64 && end == Third && !third_at_63());
+        let there_and_back = || Engine { fault: fault::SECOND_REFUSED }.third_transition(before, pairs);
+        self.case("wire that is put there and back", end == Accepted && there_and_back());
+        self.record_pltrst(pairs, before, end);
+    }
+
+    /// What a packet of these pairs does to PLTRST#, or would do if it were not refused (02, Q-1).
+    fn record_pltrst(&mut self, pairs: &[u8], before: &State, end: End) {
+        let values = pltrst_values(pairs);
+        let was = before.levels[3 - FIRST_GROUP] & 0x02 != 0;
+        let is = values.last().copied().unwrap_or(was);
+        let falls = was && !is;
+        self.case("PLTRST# would fall in a packet over the operating count", falls && end == Size);
+        self.case("PLTRST# would fall in a packet with a third transition", falls && end == Third);
+        if end != Accepted {
+            return;
+        }
+        if falls {
+            self.record_fall(pairs, before);
+        }
+        let last_low = pairs.chunks_exact(2).rfind(|pair| pair[0] == 3).is_some_and(|pair| pair[1] & 0x02 == 0);
+        self.case("PLTRST# would fall by a value that is not valid", was && is && last_low);
+        self.case("PLTRST# rises", !was && is);
+        self.case("PLTRST# given low while low", !was && !is && !values.is_empty() && !values.contains(&true));
+        self.case("PLTRST# high and low again in a packet", !was && !is && values.contains(&true));
+        self.case("PLTRST# low and high again in a packet", was && is && values.contains(&false));
+    }
+
+    /// What is there when PLTRST# falls: each thing that the platform reset takes back, or must leave.
+    fn record_fall(&mut self, pairs: &[u8], before: &State) {
+        let phase = before.request.map(|request| request.phase);
+        let sent = before.request.is_some_and(|request| request.sent > 0);
+        let pending = |index: usize| before.pending[index - FIRST_GROUP];
+        let after = after_pltrst(pairs);
+        let until = &pairs[..pairs.len() - after.len()];
+        let group_7 = &GROUPS[7 - FIRST_GROUP];
+        let puts_7 = |pair: &[u8]| pair[0] == 7 && (pair[1] ^ group_7.reset) & pair[1] >> 4 & group_7.defined != 0;
+        for (name, met) in [
+            ("PLTRST# falls with a write held", before.write.is_some()),
+            ("PLTRST# falls with a request open", phase == Some(Phase::Open)),
+            ("PLTRST# falls with an answer ready", phase.is_some_and(|phase| phase != Phase::Open) && !sent),
+            ("PLTRST# falls with a read partly handed over", sent),
+            ("PLTRST# falls with group 4 pending", pending(4)),
+            ("PLTRST# falls with group 5 pending", pending(5)),
+            ("PLTRST# falls with group 6 pending", pending(6)),
+            ("PLTRST# falls with group 6 alone pending", pending(6) && !pending(4) && !pending(5)),
+            ("PLTRST# falls with the place past 4", before.place != 4),
+            ("PLTRST# falls with 010h changed", before.on0() && before.channel0 != CHANNEL_0.reset),
+            ("PLTRST# falls while channel 0 is off", !before.on0()),
+            ("PLTRST# falls after a pair of group 7", until.chunks_exact(2).any(puts_7)),
+            ("PLTRST# falls before a pair of group 7", after.chunks_exact(2).any(puts_7)),
+            ("PLTRST# falls after it was given high", pltrst_values(pairs).first() == Some(&true)),
+            ("PLTRST# falls in the last of 64 groups", pairs.len() == 2 * 64 && pltrst_values(&pairs[..2 * 63]).last() != Some(&false)),
+        ] {
+            self.case(name, met);
+        }
     }
 
     fn record_completion(&mut self, before: &State, reply: &[u8]) {

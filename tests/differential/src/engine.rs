@@ -96,6 +96,10 @@ enum Command<'a> {
     GetStatus,
 }
 
+/// The responses of an exchange that is not refused (01, Replies and refusals).
+const ACCEPT: u8 = 0x08;
+const DEFER: u8 = 0x01;
+
 /// How an exchange ends without being accepted.
 enum Refusal {
     Silent(u32),
@@ -396,8 +400,6 @@ impl Engine {
         write_store: &mut [u8],
         read_store: &[u8],
     ) -> Result<usize, Refusal> {
-        const ACCEPT: u8 = 0x08;
-        const DEFER: u8 = 0x01;
         let sent = command;
         let before = self.status(now);
         let command = self.decode(now, command).map_err(Refusal::Silent)?;
@@ -462,25 +464,7 @@ impl Engine {
                 (if self.wrong(fault::ACCEPT_REQUEST) { ACCEPT } else { DEFER }, 0)
             }
             Command::GetPc => (ACCEPT, self.completion(now, reply, read_store).ok_or(Refusal::Error(FATAL))?),
-            Command::PutVwire { pairs } => {
-                let limit = match (self.fault, now.operating_count()) {
-                    (fault::OPERATING_COUNT, count) => count + 1,
-                    (fault::OPERATING_63, 63) => 64,
-                    (fault::OPERATING_5_BITS, count) => (count - 1) % 32 + 1,
-                    (_, count) => count,
-                };
-                if pairs.len() / 2 > limit {
-                    return Err(Refusal::Error(FATAL));
-                }
-                let third = self.third_transition(now, pairs);
-                if !third || self.wrong(fault::THIRD_APPLIED) {
-                    self.put_wires(now, pairs);
-                }
-                if third {
-                    return Err(Refusal::Error(FATAL));
-                }
-                (ACCEPT, 0)
-            }
+            Command::PutVwire { pairs } => return self.put_vwire(now, pairs, reply),
             Command::GetVwire => (ACCEPT, self.wire_packet(now, reply).ok_or(Refusal::Error(FATAL))?),
             Command::GetConfiguration { address } => {
                 let value = match address {
@@ -630,7 +614,110 @@ impl Engine {
         now.pending[index - FIRST_GROUP] = false;
     }
 
+    /// Platform reset, by the board's call or by wire (02, Q-1): 010h, wire groups 6 and 7, the queues and the going-round place.
+    fn reset_platform(&self, now: &mut State) {
+        self.drop_queues(now);
+        now.channel0 = CHANNEL_0.reset;
+        self.reset_group(now, 6);
+        self.reset_group(now, 7);
+        now.place = 4;
+    }
+
     // ---- wires (01, Wires)
+
+    /// A packet over the operating count or with a third transition of a wire (02, Q-6) is refused. If PLTRST# falls in one that
+    /// is not, the platform reset follows after the reply, which shows the status before it (02, Q-1).
+    fn put_vwire(&self, now: &mut State, pairs: &[u8], reply: &mut [u8]) -> Result<usize, Refusal> {
+        let limit = match (self.fault, now.operating_count()) {
+            (fault::OPERATING_COUNT, count) => count + 1,
+            (fault::OPERATING_63, 63) => 64,
+            (fault::OPERATING_5_BITS, count) => (count - 1) % 32 + 1,
+            (_, count) => count,
+        };
+        let over = pairs.len() / 2 > limit;
+        let third = !over && self.third_transition(now, pairs);
+        let old = now.clone();
+        let mut put = now.clone();
+        self.put_wires(&mut put, pairs);
+        let falls = self.pltrst_falls(&old, &put, pairs);
+        if over || third {
+            if third && self.wrong(fault::THIRD_APPLIED) {
+                *now = put;
+            }
+            if falls && (over && self.wrong(fault::FALL_OVER_COUNT) || third && self.wrong(fault::FALL_AT_THIRD)) {
+                self.reset_platform(now);
+            }
+            return Err(Refusal::Error(FATAL));
+        }
+        *now = put;
+        let status = self.status(now);
+        if falls {
+            self.reset_by_wire(now, &old, pairs);
+        }
+        let status = if self.wrong(fault::FALL_STATUS_AFTER) { self.status(now) } else { status };
+        Ok(self.finish(reply, ACCEPT, 0, status))
+    }
+
+    /// Whether PLTRST#, bit 1 of group 3 (source 004, table 10), is low after a packet and was high before it (02, Q-1). The pairs
+    /// are asked by faults alone: what PLTRST# does in between does not count.
+    fn pltrst_falls(&self, old: &State, put: &State, pairs: &[u8]) -> bool {
+        let (row, bit) = match self.fault {
+            fault::FALL_OF_SUS_STAT => (1, 0),
+            fault::FALL_OF_OOB_RST_WARN => (1, 2),
+            fault::FALL_OF_SLP_S4 => (0, 1),
+            _ => (1, 1),
+        };
+        let high = |state: &State| state.levels[row] >> bit & 1 == 1;
+        let (was, is) = (high(old), high(put));
+        let falls = was && !is;
+        let given = pltrst_values(pairs);
+        let low_in = |pairs: &[u8]| pltrst_values(pairs).last() == Some(&false);
+        let of_group_3 = |pair: &&[u8]| pair[0] == 3;
+        match self.fault {
+            fault::FALL_IGNORED => false,
+            fault::LOW_RESETS => !is,
+            fault::LOW_AGAIN_RESETS => falls || !was && given.contains(&false) && !given.contains(&true),
+            fault::PULSE_LOW_RESETS => was && given.contains(&false),
+            fault::PULSE_HIGH_RESETS => falls || !is && given.contains(&true),
+            fault::RISE_RESETS => was != is,
+            fault::FALL_BY_FIRST => falls && given.first() == Some(&false),
+            fault::FALL_BY_LAST_PAIR => falls && low_in(&pairs[pairs.len() - 2..]),
+            fault::FALL_63 => falls && low_in(&pairs[..pairs.len().min(2 * 63)]),
+            fault::FALL_VALID_IGNORED => was && pairs.chunks_exact(2).rfind(of_group_3).is_some_and(|pair| pair[1] >> 1 & 1 == 0),
+            fault::FALL_WHILE_ON => falls && old.on0(),
+            _ => falls,
+        }
+    }
+
+    /// The platform reset after a packet: groups 2 and 3 keep what the packet put, and what it put in group 7 goes (02, Q-1).
+    fn reset_by_wire(&self, now: &mut State, old: &State, pairs: &[u8]) {
+        let put = now.clone();
+        self.reset_platform(now);
+        let held = |kept: fn(&Request) -> bool| put.request.filter(kept);
+        match self.fault {
+            fault::FALL_BEFORE_WIRES => self.put_wires(now, pairs),
+            fault::FALL_AT_PAIR => self.put_wires(now, after_pltrst(pairs)),
+            fault::FALL_FORGETS_WIRES => now.levels[..2].copy_from_slice(&old.levels[..2]),
+            fault::FALL_KEEPS_010 => now.channel0 = put.channel0,
+            fault::FALL_RESETS_008 => now.general = GENERAL.reset,
+            fault::FALL_RESETS_020 => now.channel1 = CHANNEL_1.reset,
+            fault::FALL_KEEPS_WRITE => now.write = put.write,
+            fault::FALL_KEEPS_REQUEST => now.request = held(|request| request.phase == Phase::Open),
+            fault::FALL_KEEPS_ANSWERED => now.request = held(|request| request.phase != Phase::Open),
+            fault::FALL_KEEPS_REST => now.request = held(|request| request.sent > 0),
+            fault::FALL_SERIAL_0 => now.serial = 0,
+            fault::FALL_RESETS_2 => self.reset_group(now, 2),
+            fault::FALL_RESETS_3 => self.reset_group(now, 3),
+            fault::FALL_RESETS_4 => self.reset_group(now, 4),
+            fault::FALL_RESETS_5 => self.reset_group(now, 5),
+            fault::FALL_DROPS_MARKS => now.pending = [false; 6],
+            fault::FALL_KEEPS_6 => now.levels[4] = put.levels[4],
+            fault::FALL_KEEPS_MARK_6 => now.pending[4] = put.pending[4],
+            fault::FALL_KEEPS_7 => now.levels[5] = put.levels[5],
+            fault::FALL_KEEPS_PLACE => now.place = put.place,
+            _ => {}
+        }
+    }
 
     /// Whether a wire has more than two transitions in a packet (02, Q-6).
     pub fn third_transition(&self, now: &State, pairs: &[u8]) -> bool {
@@ -752,6 +839,22 @@ impl Engine {
     }
 }
 
+/// Whether a pair gives PLTRST# a value: group 3, bit 1 valid.
+fn names_pltrst(pair: &[u8]) -> bool {
+    pair[0] == 3 && pair[1] & 0x20 != 0
+}
+
+/// The values that a packet's pairs give PLTRST#, in order.
+pub fn pltrst_values(pairs: &[u8]) -> Vec<bool> {
+    pairs.chunks_exact(2).filter(|pair| names_pltrst(pair)).map(|pair| pair[1] & 0x02 != 0).collect()
+}
+
+/// The pairs after the last one that gives PLTRST# a value.
+pub fn after_pltrst(pairs: &[u8]) -> &[u8] {
+    let until = pairs.chunks_exact(2).rposition(names_pltrst).map_or(0, |at| at + 1);
+    &pairs[2 * until..]
+}
+
 /// Stores a changed state.
 fn done(now: &State, state: &mut [u8]) -> u32 {
     pack(now, state);
@@ -784,15 +887,11 @@ impl Calls for Engine {
         }))
     }
 
-    /// Platform reset: 010h, wire groups 6 and 7, the queues and the going-round place.
+    /// Platform reset by the board's call; its faults leave the one by wire as it should be.
     fn platform_reset(&mut self, state: &mut [u8]) -> u32 {
         word(self.open(state, &[]).map(|mut now| {
             let old = now.clone();
-            self.drop_queues(&mut now);
-            now.channel0 = CHANNEL_0.reset;
-            self.reset_group(&mut now, 6);
-            self.reset_group(&mut now, 7);
-            now.place = 4;
+            self.reset_platform(&mut now);
             match self.fault {
                 fault::PLATFORM_KEEPS_010 => now.channel0 = old.channel0,
                 fault::PLATFORM_RESETS_020 => now.channel1 = CHANNEL_1.reset,
@@ -829,7 +928,7 @@ impl Calls for Engine {
                     pack(&State { write: None, ..old }, state);
                 } else if self.wrong(fault::SERIAL_AT_REFUSAL) && command[0] == 0x02 {
                     pack(&State { serial: old.serial.wrapping_add(1), ..old }, state);
-                } else if self.wrong(fault::THIRD_APPLIED) && command[0] == 0x04 {
+                } else if matches!(self.fault, fault::THIRD_APPLIED | fault::FALL_OVER_COUNT | fault::FALL_AT_THIRD) && command[0] == 0x04 {
                     pack(&now, state);
                 }
                 (length as u32) << 8 | number

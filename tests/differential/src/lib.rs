@@ -1,7 +1,8 @@
 //! An independent check of the eSPI target engine: document 01 written again in ordinary Rust (`state`, `engine`), seeded
 //! traffic (`traffic`), and a run that makes each call on two engines and compares every byte afterwards (`run`).
 //!
-//! "01" in a comment is document 01, with the name of its section; "STATE.md" is docs/STATE.md.
+//! "01" in a comment is document 01, with the name of its section; "02" is document 02, with the number of its request;
+//! "STATE.md" is docs/STATE.md.
 pub mod coverage;
 pub mod engine;
 pub mod fault;

@@ -306,10 +306,12 @@ impl Traffic {
             0..=4 if ready => Some(0x01),
             5 if pending => Some(0x05),
             6 if !now.on0() => Some(0x22),
+            7 if !now.on0() && now.on1() => Some(0x04),
             _ => None,
         };
         let mut command = match (likely, self.below(100)) {
             (Some(0x22), _) => self.set_configuration(now),
+            (Some(0x04), _) => self.put_wires(now),
             (Some(opcode), _) => vec![opcode],
             (None, 0..=2) => vec![0x01],
             (None, 3..=22) => self.read(now),
@@ -506,6 +508,7 @@ impl Traffic {
             0 => limit + 1,
             1 => limit,
             2 => 1 + self.below(64),
+            3..=7 if limit >= 63 => 64,
             _ => 1 + self.below(limit),
         };
         let ignored = self.pick(&[0x00, 0x00, 0x40, 0x80, 0xC0]);
@@ -536,14 +539,52 @@ impl Traffic {
             }
             command.extend([index, data]);
         }
+        self.lead_pltrst(now, &mut command[2..]);
         command
+    }
+
+    /// In half of the packets, and in all of calm times, PLTRST# takes a course of its own, and no other pair names it (02, Q-1).
+    /// Mostly it rises where it is low. Where it is high it may swing and come back; it falls seldom, in calm times never, and
+    /// more often where that is rare: a completion is ready, channel 0 is off, the packet is the longest.
+    fn lead_pltrst(&mut self, now: &State, pairs: &mut [u8]) {
+        let ready = now.request.as_ref().is_some_and(|request| request.phase != Phase::Open);
+        let longest = pairs.len() == 2 * 64;
+        let rare = ready || !now.on0() || longest;
+        if !self.calm && !rare && self.once_in(2) {
+            return;
+        }
+        let high = now.levels[3 - FIRST_GROUP] & 0x02 != 0;
+        let falls = high && !self.calm && self.once_in(if rare { 2 } else { 5 });
+        let courses: &[&[u8]] = match (high, falls) {
+            (false, _) => &[&[1], &[1], &[1], &[0, 1], &[1, 0], &[1, 0], &[1, 0, 1], &[0], &[]],
+            (true, false) => &[&[0, 1], &[1, 0, 1], &[1], &[]],
+            (true, true) => &[&[0], &[0], &[1, 0], &[0, 0], &[0, 1, 0]],
+        };
+        let course = self.pick(courses);
+        let count = pairs.len() / 2;
+        // Its end stays where the packet is too short for all of it.
+        let mut values = &course[course.len().saturating_sub(count)..];
+        let from = if longest || self.once_in(3) { count - values.len() } else { 0 };
+        for (at, pair) in pairs.chunks_exact_mut(2).enumerate() {
+            if pair[0] == 3 {
+                pair[1] &= !0x20;
+            }
+            if at < from || self.below(count - at) >= values.len() {
+                continue;
+            }
+            if pair[0] != 3 {
+                pair.copy_from_slice(&[3, if self.once_in(2) { self.random.byte() } else { 0 }]);
+            }
+            pair[1] = pair[1] & !0x02 | 0x20 | values[0] << 1;
+            values = &values[1..];
+        }
     }
 
     /// An operating count less one: mostly a few groups, seldom any count, and often enough the greatest ones.
     fn count_code(&mut self) -> u32 {
         match self.below(8) {
             0 => self.below(64) as u32,
-            1 => self.pick(&[7, 8, 31, 32, 62, 62, 63, 63]),
+            1 => self.pick(&[7, 8, 31, 32, 62, 62, 63, 63, 63, 63]),
             _ => self.pick(&[0, 0, 1, 1, 2, 3, 7]),
         }
     }
