@@ -373,6 +373,79 @@ static void third_in_the_last(void)
     want(exchange(b, 131) == 4 * 256 + ESPI_OK && read_wire(2, 0) == 0, "not accepted");
 }
 
+/* ---- PLTRST# by wire: the platform reset follows after the reply (document 02, Q-1) */
+
+static void pltrst_falls(void)
+{
+    fresh();
+    line("22 00 20 01 00 00 00 6A", 0, "08 07 00 3A");
+    line("04 00 03 22 89", 0, "08 07 00 3A");
+    line("40 00 64 BD", 0, "01 05 00 2A");
+    line("04 00 03 20 87", 0, "08 05 00 10");
+    line("25 FB", 0, "08 07 00 3A");
+    answered(1, 1, ESPI_NO_REQUEST);
+    /* Low to low is none: the request stays. */
+    line("40 00 64 BD", 0, "01 05 00 2A");
+    line("04 00 03 20 87", 0, "08 05 00 10");
+    line("25 FB", 0, "08 05 00 10");
+    answered(2, 1, ESPI_OK);
+}
+
+/* At an operating count of 4, PLTRST# having this level: whether a held request is still there says whether the packet was a reset. A board that reads PLTRST#
+ * before and after an accepted one sees the same. */
+static void pltrst_packet(uint32_t level, const char *command, uint32_t number, int resets)
+{
+    fresh();
+    line("22 00 20 01 00 03 00 55", 0, "08 07 00 3A");
+    line(level ? "04 00 03 22 89" : "04 00 03 20 87", 0, "08 07 00 3A");
+    line("40 00 64 BD", 0, "01 05 00 2A");
+    line(command, number, number == ESPI_OK ? "08 05 00 10" : "03 05 00 FC");
+    want((read_wire(3, 1) == 0 && level == 1) == resets, "the levels of PLTRST# say something else");
+    line("25 FB", 0, resets ? "08 07 00 3A" : "08 05 00 10");
+    answered(1, 1, resets ? ESPI_NO_REQUEST : ESPI_OK);
+}
+
+static void pltrst_packets(void)
+{
+    pltrst_packet(1, "04 00 03 20 87", ESPI_OK, 1);
+    pltrst_packet(1, "04 01 03 20 03 22 6E", ESPI_OK, 0);
+    pltrst_packet(0, "04 01 03 22 03 20 B6", ESPI_OK, 0);
+    pltrst_packet(1, "04 01 03 22 03 20 B6", ESPI_OK, 1);
+    pltrst_packet(0, "04 00 03 20 87", ESPI_OK, 0);
+    pltrst_packet(0, "04 00 03 22 89", ESPI_OK, 0);
+    /* The other wires of its group and the same bit of another; a value that is not valid; a packet that is refused. */
+    pltrst_packet(1, "04 01 03 55 03 50 00", ESPI_OK, 0);
+    pltrst_packet(1, "04 01 02 22 02 20 00", ESPI_OK, 0);
+    pltrst_packet(1, "04 00 03 10 00", ESPI_OK, 0);
+    pltrst_packet(1, "04 02 03 20 03 22 03 20 00", ESPI_FATAL, 0);
+    pltrst_packet(1, "04 04 03 20 03 20 03 20 03 20 03 20 00", ESPI_FATAL, 0);
+}
+
+/* What it resets, the packet itself putting group 7: 010h, queues, groups 6 and 7, the place; and what stays. */
+static void pltrst_resets(void)
+{
+    fresh();
+    line("22 00 20 01 00 01 00 7F", 0, "08 07 00 3A");
+    line("22 00 10 03 31 00 00 9A", 0, "08 07 00 3A");
+    line("04 00 03 77 25", 0, "08 07 00 3A");
+    want(set_wire(4, 0, 1) == ESPI_OK && set_wire(5, 1, 1) == ESPI_OK && set_wire(6, 0, 0) == ESPI_OK, "a wire was refused");
+    line("05 1B", 0, "08 01 04 DD 05 F2 47 00 BE");
+    want(set_wire(4, 0, 0) == ESPI_OK, "OOB_RST_ACK was refused");
+    line("4C 00 00 20 00 AA 81", 0, "08 46 00 74");
+    line("40 00 64 BD", 0, "01 44 00 64");
+    line("04 01 03 20 07 70 83", 0, "08 44 00 5E");
+    line("25 FB", 0, "08 47 00 61");
+    line("21 00 10 58", 0, "08 33 11 00 00 47 00 54");
+    want(read_wire(3, 0) == 256 && read_wire(3, 1) == 0 && read_wire(3, 2) == 256, "group 3 is not as the packet put it");
+    want(read_wire(6, 0) == 256, "group 6 was not reset");
+    want(read_wire(7, 0) == 0 && read_wire(7, 1) == 256 && read_wire(7, 2) == 256, "group 7 was not reset");
+    line("05 1B", 0, "08 00 04 DC 07 00 A9");
+    want(take_write() == ESPI_NOTHING && look() == ESPI_NOTHING, "a queue was kept");
+    line("40 00 64 BD", 0, "01 05 00 2A");
+    answered(1, 1, ESPI_NO_REQUEST);
+    answered(2, 1, ESPI_OK);
+}
+
 /* ---- the customer's story: channel 0 off and on with an answer still open */
 
 static void customer(void)
@@ -901,6 +974,9 @@ int main(void)
     many_groups();
     third_transition();
     third_in_the_last();
+    pltrst_falls();
+    pltrst_packets();
+    pltrst_resets();
     customer();
     random_run(300000);
     readers();
@@ -910,7 +986,7 @@ int main(void)
     refusals_by_name();
     wires_by_name();
     twin_run(100000);
-    printf("boundary: bench lines, packets of many groups, third transitions, the customer's story, 300000 random calls, the header's names and readers, "
-           "100000 calls over a struct: ok\n");
+    printf("boundary: bench lines, packets of many groups, third transitions, PLTRST# by wire, the customer's story, 300000 random calls, "
+           "the header's names and readers, 100000 calls over a struct: ok\n");
     return 0;
 }
