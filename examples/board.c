@@ -16,11 +16,37 @@ static struct {
     uint8_t command; /* the last byte written to port 64h */
 } keyboard;
 
+static uint8_t pltrst; /* the level of PLTRST# at the last look: low after espi_target_start, and after espi_target_reset */
+
+/* PLTRST# fell, and the engine has reset its part of the platform: 010h, what was held on channel 0, wire groups 6 and 7. The device does the same. An answer
+ * that it still owes is refused with 20. */
+static void platform_was_reset(void)
+{
+    show_reset();
+    memset(&keyboard, 0, sizeof keyboard);
+}
+
+/* The engine says nothing of that reset. So the board looks at PLTRST# after every accepted PUT_VWIRE: low and high again between two looks would hide one. */
+static void watch_pltrst(void)
+{
+    uint8_t level = (uint8_t)espi_value(espi_target_read(&target, ESPI_WIRE_PLTRST));
+    if (pltrst && !level)
+        platform_was_reset();
+    pltrst = level;
+}
+
 /* The bus driver has a whole command phase, CRC byte included. It sends espi_value(word) bytes of target.reply; 0 bytes: it does not drive the bus. If it
  * runs in an interrupt, the main loop keeps that out while a call of its own lasts. */
 static uint32_t bus_command(const uint8_t *command, uint32_t n)
 {
     return espi_target_exchange(&target, command, n);
+}
+
+/* .. and, the reply being sent, before the next command. */
+static void bus_done(const uint8_t *command, uint32_t word)
+{
+    if (espi_number(word) == ESPI_OK && command[0] == ESPI_OPCODE_PUT_VWIRE)
+        watch_pltrst();
 }
 
 /* Number 20: the request is gone, dropped by a reset or a switched-off channel. There is nothing to do. */
@@ -98,6 +124,7 @@ static void host(const uint8_t *bytes, uint32_t n)
     show_command(command, n + 1);
     uint32_t word = bus_command(command, n + 1);
     show_reply(command[0], target.reply, word);
+    bus_done(command, word);
 }
 
 #define HOST(...) host((const uint8_t[]){__VA_ARGS__}, (uint32_t)sizeof((const uint8_t[]){__VA_ARGS__}))
@@ -156,10 +183,29 @@ static void customer(void)
     HOST(ESPI_OPCODE_GET_PC);
 }
 
+static void pltrst_by_wire(void)
+{
+    struct espi_request open;
+    show_part("The same with PLTRST#: the host lowers it with an answer still open");
+    HOST(ESPI_OPCODE_PUT_VWIRE, 0x00, 0x03, 0x22);
+    HOST(ESPI_OPCODE_SHORT_IO_READ + ESPI_SHORT_1, 0x00, 0x64);
+    if (espi_target_look(&target, &open) != ESPI_OK)
+        return;
+    HOST(ESPI_OPCODE_PUT_VWIRE, 0x00, 0x03, 0x20);
+    HOST(ESPI_OPCODE_GET_STATUS);
+    serve(&open);
+    HOST(ESPI_OPCODE_GET_PC);
+    press(0x32);
+    HOST(ESPI_OPCODE_SHORT_IO_READ + ESPI_SHORT_1, 0x00, 0x60);
+    device();
+    HOST(ESPI_OPCODE_GET_PC);
+}
+
 int main(void)
 {
     espi_target_start(&target);
     everyday();
     customer();
+    pltrst_by_wire();
     return 0;
 }

@@ -116,6 +116,8 @@ static void show_write(const struct espi_write *taken, const uint8_t *data)
 
 static void show_key(uint8_t key) { printf("   a key is pressed: %02X\n", (unsigned)key); }
 
+static void show_reset(void) { printf("   PLTRST# fell: the platform was reset\n"); }
+
 static void show_wire(const char *name, uint32_t level) { printf("   device reads %s: %u\n", name, (unsigned)level); }
 
 #endif

@@ -19,6 +19,8 @@
  * - Channel 0 is switched off by a read-modify-write of register 010h that keeps its size fields, as 22 00 10 00 11 00 00 E3. A write of 00000000h has
  *   forbidden sizes: it gets NON_FATAL (number 2) and the channel stays on. Switching it off drops the held write, request and completions; a late answer
  *   is then refused with 20.
+ * - A packet that lowers PLTRST# resets the platform, and only the wire tells: after every accepted exchange that begins 04h read ESPI_WIRE_PLTRST (group 3,
+ *   bit 1) and compare it with the level before. Low and high again between two looks would hide a reset.
  *
  * What stands where: lengths and numbers; the nine calls; names of what goes over the bus; readers for the two reports; struct espi_target, the state and
  * the stores in one, with calls of two or three arguments. All but the nine calls is inline: what a board does not use costs it nothing.
@@ -29,8 +31,8 @@
 #include <stdint.h>
 
 /* The major number goes up when a board has to change something, the minor one when something is added. ESPI_VERSION is their text, "major.minor". */
-#define ESPI_VERSION_MAJOR 2
-#define ESPI_VERSION_MINOR 1
+#define ESPI_VERSION_MAJOR 3
+#define ESPI_VERSION_MINOR 0
 #define ESPI_VERSION ESPI_TEXT_(ESPI_VERSION_MAJOR) "." ESPI_TEXT_(ESPI_VERSION_MINOR)
 #define ESPI_TEXT_(number) ESPI_TEXT_OF_(number)
 #define ESPI_TEXT_OF_(number) #number
@@ -82,12 +84,13 @@ uint32_t espi_start(uint8_t *state, espi_len state_len);
 /* eSPI reset (the pin): all registers and wire groups, all queues. The last serial given stays. Numbers: 0, 10, 11. */
 uint32_t espi_reset(uint8_t *state, espi_len state_len);
 
-/* Platform reset: register 010h, wire groups 6 and 7, channel 0's queues. Numbers: 0, 10, 11. */
+/* Platform reset: register 010h, wire groups 6 and 7, channel 0's queues. An exchange makes it by itself where the host lowers PLTRST#. Numbers: 0, 10, 11. */
 uint32_t espi_platform_reset(uint8_t *state, espi_len state_len);
 
 /* One exchange: `command` is the whole command phase of one Chip Select# assertion, its CRC byte included. The value is the reply's length; 0: do not
  * drive the bus (silent, or a RESET). A posted write's data goes to the start of the write store; a completion's data comes from the read store, which is
- * never written. Numbers: 0, 1, 2 (value 4), 10 to 16 (value 0). */
+ * never written. After an accepted PUT_VWIRE that ends with PLTRST# low and was high before it the state is that after a platform reset; the reply shows the
+ * status before. Numbers: 0, 1, 2 (value 4), 10 to 16 (value 0). */
 uint32_t espi_exchange(uint8_t *state, espi_len state_len, const uint8_t *command, espi_len command_len,
                        uint8_t *reply, espi_len reply_len,
                        uint8_t *write_store, espi_len write_store_len,
@@ -130,7 +133,7 @@ enum espi_wire {
     ESPI_WIRE_SLP_S5 = 2 * 4 + 2,                  /* SLP_S5# */
     /* Group 3, the host's. */
     ESPI_WIRE_SUS_STAT = 3 * 4 + 0,                /* SUS_STAT# */
-    ESPI_WIRE_PLTRST = 3 * 4 + 1,                  /* PLTRST#; it resets nothing here: call espi_platform_reset */
+    ESPI_WIRE_PLTRST = 3 * 4 + 1,                  /* PLTRST#; a packet that lowers it resets the platform */
     ESPI_WIRE_OOB_RST_WARN = 3 * 4 + 2,
     /* Group 4, the board's. */
     ESPI_WIRE_OOB_RST_ACK = 4 * 4 + 0,
