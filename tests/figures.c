@@ -57,6 +57,11 @@ static size_t stage(const char *kind, uint8_t *c)
         HOST(0x22, 0x00, 0x20, 0x01, 0x00, 0x00, 0x00);
         return memcpy(c, "\x04\x00\x02\x11", 4), 4;
     }
+    if (strcmp(kind, "PUT_VWIRE, PLTRST# falls") == 0) {
+        HOST(0x22, 0x00, 0x20, 0x01, 0x00, 0x00, 0x00);
+        HOST(0x04, 0x00, 0x03, 0x22);
+        return memcpy(c, "\x04\x00\x03\x20", 4), 4;
+    }
     if (strcmp(kind, "PUT_VWIRE of 64 pairs") == 0) {
         HOST(0x22, 0x00, 0x20, 0x01, 0x00, 0x3F, 0x00);
         for (size_t i = 2; i < 130; i += 2)
