@@ -1,4 +1,4 @@
--- The bytes of a sound state: what the channels find in them, and a change of channel 0 carried out on them.
+-- The bytes of a sound state: what the channels find in them, a change of channel 0 carried out on them, and one of channel 1 with the reset that may follow.
 use Prim.Native.Nat.{ℕ, _/_, _≤_}
 use mathlib.Core.Bool.{Bool, true, false, _&&_, not}
 use mathlib.Core.List.{List, _++_}
