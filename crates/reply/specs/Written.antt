@@ -1,16 +1,16 @@
 -- Laws by which the reply's writers meet their contracts: each follows the writes in the code's order.
 use Prim.Native.Nat.{ℕ, suc, _+_, _-_, _≤_, _<_}
 use mathlib.Core.Bool.{Bool, true, false, _&&_, true≢false}
-use mathlib.Core.List.{List, [], _∷_, _++_, append-nil, append-assoc}
+use mathlib.Core.List.{List, [], _∷_, _++_, append-assoc}
 use mathlib.Core.Path.{_≡_, refl, sym, ap, ap₂, subst, _∙_}
 use native.Mathlib.Omega.{arith}
-use lib.ListN.{getD, length, take, drop, length-append, length-drop, take-append-drop}
+use lib.ListN.{getD, length, take, drop, length-append, length-drop}
 use lib.Seq.{length-take-le}
 use lib.Dec.{ltb}
 use borrow.Author.Tests.{ltb-true, ltb-false}
 use borrow.Rule.Slice.PartMut.{midOf, putMid}
 use Rattle.base.specs.Pick.{pick, and-left, and-right}
-use Rattle.base.specs.Bytes.{low2, put, over, copied, put-over, put-first, take-over, over-over, tail-lent, tail-back, over-take, drop-over, over-parts, copied-over}
+use Rattle.base.specs.Bytes.{low2, put, over, copied, put-none, put-over, put-first, take-over, over-over, tail-lent, tail-back, over-take, drop-over, over-parts, copied-over}
 use Rattle.crc.specs.Crc.{crc}
 use Rattle.wires.specs.Table.{groupAt, senderOf, isUp}
 use Rattle.wires.specs.Groups.{levelAt, groupByte, pairAt, pairBytes, packetBytes}
@@ -95,12 +95,6 @@ put-put us vs l at h =
     ∙ ap (λ (z : List ℕ). over z l) (append-assoc p us vs)
     ∙ sym (at-once (us ++ vs))
 
-put-none : (l : List ℕ) (at : ℕ) → put at [] l ≡ l
-unfolding put
-put-none l at =
-    let e : at + 0 ≡ at = omega arith in
-    ap (λ (z : List ℕ). z ++ drop (at + 0) l) (append-nil (take at l)) ∙ ap (λ (n : ℕ). take at l ++ drop n l) e ∙ take-append-drop at l
-
 pairs-both : (w : Wires) (xs ys : List ℕ) → pairBytes w (xs ++ ys) ≡ pairBytes w xs ++ pairBytes w ys
 unfolding pairBytes
 pairs-both w [] ys = refl
@@ -114,7 +108,7 @@ pub pair-passed : (g : Going) (waits : Bool) (level at : ℕ) (l : List ℕ) →
     → (l ≡ put at (pairNow g waits level) l) × (at ≡ at + length (pairNow g waits level))
 pair-passed g waits level at l e =
     let z : pairNow g waits level ≡ [] = ap (λ (b : Bool). pick b (pairAt (g .group) level) []) e in
-    (sym (ap (λ (ks : List ℕ). put at ks l) z ∙ put-none l at), omega (arith, ap length z))
+    (sym (ap (λ (ks : List ℕ). put at ks l) z ∙ put-none at l), omega (arith, ap length z))
 
 pub pair-taken : (g : Going) (waits : Bool) (level at : ℕ) (l l₁ pair : List ℕ) → goTakes waits g ≡ true → pair ≡ pairAt (g .group) level → l₁ ≡ put at pair l
     → (l₁ ≡ put at (pairNow g waits level) l) × (at + 2 ≡ at + length (pairNow g waits level))
@@ -190,7 +184,7 @@ unfolding pairBytes
 written-whole w p g code at l l₁ h z s =
     let t = ap (pairBytes w) z in
     let n = ap length t in
-    (sym (put-none l₁ at) ∙ ap (λ (ks : List ℕ). put at ks l₁) (sym t) ∙ s .rest, omega (arith, s .end, n), omega (arith, s .end, n, packet-length w p))
+    (sym (put-none at l₁) ∙ ap (λ (ks : List ℕ). put at ks l₁) (sym t) ∙ s .rest, omega (arith, s .end, n), omega (arith, s .end, n, packet-length w p))
 
 four-more : (k n : ℕ) → k ≡ n → 4 + n ≡ suc (suc (suc (suc k)))
 four-more k n e = omega arith
