@@ -192,6 +192,7 @@ def rows(page, crates, section):
 
 FURTHER = ["base/specs/Pick", "command/specs/Numbers", "crc/specs/Table18", "promises/specs/ByteRuns", "state/specs/Channel", "state/specs/Sound"]
 FURTHER += ["wires/specs/Below", "wires/specs/Table", "wires/specs/Turn", "housefile/specs/Statements"]
+FURTHER += ["playback/specs/Lines", "playback/specs/Places", "playback/specs/Spelt", "playback/specs/Statements"]
 WHOLE = ["rules/specs/Rules", "rules/specs/Statements", "promises/specs/Statements", "code/specs"]
 PUBLIC = re.compile(r"^( *(?:abbrev|unfoldable) | +(?=pub (?:record|data) ))?pub (record |data )?(?!use |mod )([^\s:({]+)")
 RULE = re.compile(r'"[^"]+"|\b00, demand \d|\b01, [A-Z]|\b02, Q-\d|\b004, (?:tables? )?\d')

@@ -1,0 +1,10 @@
+pub mod Lines
+pub mod Spelt
+pub mod Play
+pub mod Places
+pub mod Statements
+pub mod Laws
+pub mod Obeying
+pub mod Written
+pub mod Playing
+pub mod Proofs
