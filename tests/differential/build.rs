@@ -1,6 +1,6 @@
 //! The proved engine's archive, libespi.a, is machine code. One for this machine is linked into the program. With the feature
 //! `bridged` bridge.c is linked with one for another machine instead, for an emulator to run, and the program talks to that
-//! through pipes. Neither touches the library, whose tests need no archive.
+//! through pipes. Neither touches the library, whose tests need no archive, nor the program `captures`.
 use std::env;
 use std::path::{Path, PathBuf};
 use std::process::Command;
@@ -16,7 +16,7 @@ fn main() {
     let archive = here.join(Path::new(&folder)).join("libespi.a");
     println!("cargo:rerun-if-changed={}", archive.display());
     if env::var("CARGO_FEATURE_BRIDGED").is_err() {
-        println!("cargo:rustc-link-arg-bins={}", archive.display());
+        println!("cargo:rustc-link-arg-bin=differential={}", archive.display());
         return;
     }
 

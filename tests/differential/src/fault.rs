@@ -13,6 +13,7 @@ macro_rules! faults {
         pub const ALL: &[(u32, &str)] = &[$(($name, $says)),*];
     };
 }
+pub(crate) use faults;
 
 faults! {
     // Which number applies first.

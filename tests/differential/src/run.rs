@@ -34,6 +34,17 @@ impl Rooms {
         }
     }
 
+    /// Slices of these lengths.
+    fn lend(&mut self, lengths: &Lengths) -> Lent<'_> {
+        Lent {
+            state: &mut self.state[FRONT..FRONT + lengths.state],
+            reply: &mut self.reply[FRONT..FRONT + lengths.reply],
+            write_store: &mut self.write_store[FRONT..FRONT + lengths.write_store],
+            read_store: &mut self.read_store[FRONT..FRONT + lengths.read_store],
+            report: &mut self.report[FRONT..FRONT + lengths.report],
+        }
+    }
+
     fn state_bytes(&self) -> &[u8] {
         &self.state[FRONT..FRONT + STATE_LEN]
     }
@@ -49,13 +60,18 @@ impl Rooms {
     }
 }
 
-/// Makes a call on slices of these lengths.
-fn make(engine: &mut impl Calls, rooms: &mut Rooms, lengths: &Lengths, call: &Call) -> u32 {
-    let state = &mut rooms.state[FRONT..FRONT + lengths.state];
-    let reply = &mut rooms.reply[FRONT..FRONT + lengths.reply];
-    let write_store = &mut rooms.write_store[FRONT..FRONT + lengths.write_store];
-    let read_store = &mut rooms.read_store[FRONT..FRONT + lengths.read_store];
-    let report = &mut rooms.report[FRONT..FRONT + lengths.report];
+/// The slices lent to a call.
+pub struct Lent<'a> {
+    pub state: &'a mut [u8],
+    pub reply: &'a mut [u8],
+    pub write_store: &'a mut [u8],
+    pub read_store: &'a mut [u8],
+    pub report: &'a mut [u8],
+}
+
+/// Makes a call on these slices.
+pub fn make(engine: &mut impl Calls, lent: Lent, call: &Call) -> u32 {
+    let Lent { state, reply, write_store, read_store, report } = lent;
     match call {
         Call::Start => engine.start(state),
         Call::Reset => engine.reset(state),
@@ -110,8 +126,8 @@ pub fn run(archive: &mut impl Calls, engine: &mut impl Calls, calls: u64, seed: 
         };
         let input = ours.state_bytes().to_vec();
         let lent = call.clone();
-        let word = make(engine, &mut ours, &lengths, &call);
-        let their_word = make(archive, &mut theirs, &lengths, &lent);
+        let word = make(engine, ours.lend(&lengths), &call);
+        let their_word = make(archive, theirs.lend(&lengths), &lent);
         if word != their_word || ours != theirs || !same_bytes(&call, &lent) {
             let mut text = format!("call {at} of seed {seed}: {call:X?}\n  {lengths:?}\n  state before: {}\n", hex(&input));
             text += &format!("  word: engine {word:X}, archive {their_word:X}\n");
