@@ -200,15 +200,13 @@ impl Player {
 
     /// The kind and body of each entry; the bodies fill the rest of the file exactly.
     fn cut<'a>(&self, table: &[u8], bodies: &'a [u8]) -> Result<Vec<(u8, &'a [u8])>, Bad> {
+        let sum: usize = table.chunks_exact(ROW).map(|row| self.length(row)).sum();
+        let wraps = self.wrong(fault::SUM_16_BITS) && sum as u16 == bodies.len() as u16;
         let mut rest = bodies;
         let mut entries = Vec::new();
         for row in table.chunks_exact(ROW) {
-            let length = usize::from(match self.fault {
-                fault::LENGTH_HIGH_FIRST => u16::from_be_bytes([row[1], row[2]]),
-                fault::LENGTH_8_BITS => u16::from(row[1]),
-                _ => u16::from_le_bytes([row[1], row[2]]),
-            });
-            let length = if self.wrong(fault::CUT_READ) { length.min(rest.len()) } else { length };
+            let length = self.length(row);
+            let length = if self.wrong(fault::CUT_READ) || wraps { length.min(rest.len()) } else { length };
             let (body, after) = rest.split_at_checked(length).ok_or(Bad::BodiesCut)?;
             entries.push((row[0], body));
             rest = after;
@@ -217,6 +215,15 @@ impl Player {
             return Err(Bad::LeftOver);
         }
         Ok(entries)
+    }
+
+    /// The length in a row of the contents.
+    fn length(&self, row: &[u8]) -> usize {
+        usize::from(match self.fault {
+            fault::LENGTH_HIGH_FIRST => u16::from_be_bytes([row[1], row[2]]),
+            fault::LENGTH_8_BITS => u16::from(row[1]),
+            _ => u16::from_le_bytes([row[1], row[2]]),
+        })
     }
 
     /// The call of an entry, if its kind is known and its body has a length for it.
@@ -466,6 +473,7 @@ mod tests {
             ("01 00", Bad::TableCut),
             ("02 00 05 00 00 05 00", Bad::TableCut),
             ("01 00 00 02 00 25", Bad::BodiesCut),
+            ("02 00 00 FF FF 00 03 00 25 FB", Bad::BodiesCut),
             ("01 00 00 02 00 25 FB 00", Bad::LeftOver),
             ("00 00 00", Bad::LeftOver),
             ("01 00 07 00 00", Bad::Kind),

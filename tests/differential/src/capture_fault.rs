@@ -13,6 +13,7 @@ faults! {
     COUNT_8_BITS: "the count's high byte is not read",
     LENGTH_HIGH_FIRST: "lengths stand high byte first",
     LENGTH_8_BITS: "a length's high byte is not read",
+    SUM_16_BITS: "the sum of the lengths wraps at 65,536",
     CUT_READ: "bodies may end with the file",
     LEFT_OVER_READ: "bytes behind the last body are passed over",
     REVERSED: "the entries are played from the last one",

@@ -132,7 +132,11 @@ impl Maker {
     // ---- damage
 
     fn damaged(&mut self, mut entries: Vec<Raw>) -> Vec<u8> {
-        if !self.once_in(3) {
+        let roll = self.below(16);
+        if roll == 0 {
+            return self.wrapped(entries);
+        }
+        if roll < 11 {
             self.bend_entries(&mut entries);
             return lay(&entries);
         }
@@ -183,6 +187,17 @@ impl Maker {
                 entries.insert(at, (kind, body));
             }
         }
+    }
+
+    /// Two more commands of a byte each, whose lengths are 65,536 too much together.
+    fn wrapped(&mut self, mut entries: Vec<Raw>) -> Vec<u8> {
+        let at = COUNT + ROW * entries.len();
+        entries.extend([(0, vec![0x25]), (0, vec![0xFB])]);
+        let mut file = lay(&entries);
+        let first = 3 + self.below(65_533);
+        file[at + 1..at + ROW].copy_from_slice(&(first as u16).to_le_bytes());
+        file[at + ROW + 1..at + 2 * ROW].copy_from_slice(&((65_538 - first) as u16).to_le_bytes());
+        file
     }
 
     /// Bytes of the count or of the contents changed, the file cut or lengthened.

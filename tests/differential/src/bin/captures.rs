@@ -3,10 +3,11 @@
 //!     captures [N [SEED]] -- PROGRAM..   N captures made of traffic: the program prints what this engine gives, byte for byte
 //!     captures --faults [N [SEED]]       every deliberate fault of this engine's player is found by those captures
 //!     captures --play                    plays standard input as the program does
-use differential::capture::Player;
+use differential::capture::{Player, MOST};
 use differential::captures::{faults, Maker, Reached};
 use std::fs::File;
 use std::io::{Error, Read, Write};
+use std::os::fd::AsFd;
 use std::path::PathBuf;
 use std::process::{Child, Command, ExitCode, Stdio};
 use std::time::Instant;
@@ -117,11 +118,12 @@ fn find_faults(captures: u64, seed: u64) -> bool {
     count == found.len()
 }
 
-/// Plays standard input.
-fn play() -> bool {
+/// Plays standard input. One byte past the greatest length tells a file that is too long.
+fn play() -> Result<(), Error> {
     let mut file = Vec::new();
-    let read = std::io::stdin().read_to_end(&mut file);
-    read.and_then(|_| std::io::stdout().write_all(Player::default().output(&file).as_bytes())).is_ok()
+    let input = File::from(std::io::stdin().as_fd().try_clone_to_owned()?);
+    input.take(MOST as u64 + 1).read_to_end(&mut file)?;
+    std::io::stdout().write_all(Player::default().output(&file).as_bytes())
 }
 
 /// Runs what the arguments ask for; `None` if they ask for nothing that there is.
@@ -129,7 +131,7 @@ fn run(arguments: &[String]) -> Option<bool> {
     let at = arguments.iter().position(|argument| argument == "--").unwrap_or(arguments.len());
     let (own, program) = (&arguments[..at], arguments.get(at + 1..).unwrap_or_default());
     if own == ["--play"] {
-        return Some(play());
+        return Some(play().is_ok());
     }
     let with_faults = own.first().is_some_and(|argument| argument == "--faults");
     let numbers: Vec<u64> = own[usize::from(with_faults)..].iter().map(|argument| argument.parse()).collect::<Result<_, _>>().ok()?;
