@@ -1,4 +1,5 @@
-# make run: the archive, and a small board played against it. make install, make firmware, make differential, make bench: README.md says what they do.
+# make run: the archive, and a small board played against it. make capture FILE=..: docs/CAPTURE.md. make install, make firmware, make differential,
+# make bench: README.md says what they do.
 CFLAGS = -std=c11 -O2 -Wall -Wextra -Werror -Iinclude
 ARCHIVE = target/staticlib/libespi.a
 SOURCES = $(shell find crates -name '*.rt' -o -name '*.antt') crates.txt
@@ -8,15 +9,17 @@ SOURCES = $(shell find crates -name '*.rt' -o -name '*.antt') crates.txt
 ifeq ($(shell uname -m),x86_64)
 NATIVE = $(ARCHIVE)
 X86_CC = $(CC)
+X86_RUN =
 TIMED =
 else
 NATIVE = target/firmware/$(shell uname -m)-linux-gnu/libespi.a
 X86_CC = x86_64-linux-gnu-gcc -static
+X86_RUN = qemu-x86_64-static -L /usr/x86_64-linux-gnu
 TIMED = -native
 endif
 QUICK = 10000000
 
-.PHONY: run board-test archive install header boundary bench figures shapes differential differential-quick rust-test clean
+.PHONY: run board-test archive capture capture-test install header boundary bench figures shapes differential differential-quick rust-test clean
 
 run: target/board
 	./target/board
@@ -32,6 +35,27 @@ include tests/firmware/firmware.mk
 
 target/board: examples/board.c examples/print.h include/espi.h $(NATIVE)
 	$(CC) $(CFLAGS) -o $@ examples/board.c $(NATIVE)
+
+# The program that plays a capture: make capture FILE=story.cap. It is x86-64 code, run by the emulator elsewhere (X86_RUN).
+CAPTURE = target/bin/capture
+
+$(CAPTURE): $(SOURCES)
+	rt check capture
+	touch $@
+
+capture:
+	@test -f "$(FILE)" || { echo "make capture FILE=.., a file; docs/CAPTURE.md says how it looks"; exit 2; }
+	@$(MAKE) --no-print-directory $(CAPTURE) >&2
+	@$(X86_RUN) $(CAPTURE) < "$(FILE)"
+
+# Stored captures and large ones, played by the engine written again in Rust and by the program; then captures made of traffic, played by both. The deliberate
+# faults are sought in those same captures.
+capture-test: $(CAPTURE)
+	$(BUILD_RUST) --bin captures
+	python3 tests/captures.py $(CAPTURES) --play
+	python3 tests/captures.py $(X86_RUN) $(CAPTURE)
+	$(CAPTURES) 600 -- $(X86_RUN) $(CAPTURE)
+	$(CAPTURES) --faults 600
 
 # The header is C11 on 64-bit and 32-bit machines, and C++11, without a warning.
 HEADER_FLAGS = -Wall -Wextra -Wconversion -Wpedantic -Werror -ffreestanding -fsyntax-only -include include/espi.h
@@ -84,19 +108,24 @@ target/shapes-native: tests/shapes.c tests/shapes_run.c tests/crc8.h $(MODULE)
 	$$(cat target/firmware/clang) --target=$(shell uname -m)-linux-gnu -O3 -c tests/shapes.c -o $@.o
 	$(CC) $(CFLAGS) -D_POSIX_C_SOURCE=199309L -o $@ tests/shapes_run.c $@.o
 
-# The engine written again in Rust, against the archive: calls without a difference, then every deliberate fault found.
+# The engine written again in Rust, against the archive and the program that plays captures: calls and captures without a difference, then every deliberate
+# fault found.
+BUILD_RUST = cd tests/differential && ESPI_ARCHIVE_DIR=$(abspath $(dir $(NATIVE))) cargo build --release
 DIFFERENTIAL = tests/differential/target/release/differential
+CAPTURES = tests/differential/target/release/captures
 
 rust-test:
 	cd tests/differential && cargo test --release --lib
 
-differential: rust-test $(NATIVE)
-	cd tests/differential && ESPI_ARCHIVE_DIR=$(abspath $(dir $(NATIVE))) cargo build --release
+differential: rust-test $(NATIVE) $(CAPTURE)
+	$(BUILD_RUST)
 	$(DIFFERENTIAL) 2000000
 	$(DIFFERENTIAL) --faults
+	$(CAPTURES) 5000 -- $(X86_RUN) $(CAPTURE)
+	$(CAPTURES) --faults 5000
 
 differential-quick: $(NATIVE)
-	cd tests/differential && ESPI_ARCHIVE_DIR=$(abspath $(dir $(NATIVE))) cargo build --release
+	$(BUILD_RUST) --bin differential
 	$(DIFFERENTIAL) $(QUICK)
 	$(DIFFERENTIAL) --faults
 

@@ -90,7 +90,7 @@ interrupt-%: target/firmware/%/interrupt
 # The differential run with the archive under an emulator, in a process of its own.
 tests/differential/target/%/release/differential: target/firmware/%/libespi.a FORCE
 	@cd tests/differential && ESPI_ARCHIVE_DIR=../../target/firmware/$* ESPI_CC=$(firstword $(CC_$*)) ESPI_RUNNER=$(RUN_$*) \
-		cargo build --quiet --release --features bridged --target-dir target/$*
+		cargo build --quiet --release --bin differential --features bridged --target-dir target/$*
 
 bridged-%: tests/differential/target/%/release/differential
 	@echo "firmware: $*: the differential run under $(RUN_$*)"
