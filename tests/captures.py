@@ -5,10 +5,12 @@
 
 NAME.cap is the capture, NAME.txt what must be printed for it, and NAME.lines what tests/capture.py makes it of, if it is a good one. What is printed for the
 stored ones was worked out by the engine written again in Rust (tests/differential, `captures --play`); for the large ones it is worked out here.
+The story in docs/CAPTURE.md is that of customer.cap.
 """
 import difflib
 import fcntl
 import os
+import re
 import subprocess
 import sys
 import tempfile
@@ -81,17 +83,27 @@ def stored(program):
 def both_ways(name, path, file, expected):
     """The lines make the file, and the file gives its lines back; a bad file has none."""
     try:
-        lines = [capture.line_of(*entry) for entry in capture.read(file)]
+        given = [capture.line_of(*entry) for entry in capture.read(file)]
     except capture.Wrong:
         if expected != b"bad capture\n" or os.path.exists(path):
             fault(f"{name}: tests/capture.py does not read it")
         return
     if expected == b"bad capture\n":
         fault(f"{name}: tests/capture.py reads it")
-    elif capture.write(capture.entries_of(lines)) != file:
+    elif capture.write(capture.entries_of(given)) != file:
         fault(f"{name}: its lines, read back, are another file")
     elif capture.write(capture.entries_of(contents(path).decode().splitlines())) != file:
         fault(f"{name}: {name}.lines is another file")
+
+
+def documented():
+    """The page shows customer.cap and what is printed for it."""
+    path = os.path.join(HERE, "captures", "customer")
+    page = contents(os.path.join(HERE, "..", "docs", "CAPTURE.md")).decode()
+    shown = re.findall(r"^    ((?:command|success).*\S)  +(\d+ \d+ \S+)$", page, re.MULTILINE)
+    story = [capture.line_of(*entry) for entry in capture.read(contents(path + ".cap"))]
+    if shown != list(zip(story, contents(path + ".txt").decode().splitlines())):
+        fault("docs/CAPTURE.md shows another story than tests/captures/customer")
 
 
 # ---- large ones
@@ -187,6 +199,7 @@ def main(program):
     if not program:
         sys.exit(__doc__.strip())
     count = stored(program)
+    documented()
     play_large(program)
     in_pieces(program)
     without_end(program)
