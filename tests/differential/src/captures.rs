@@ -2,7 +2,7 @@
 //! deliberate fault of the player found by them.
 use crate::capture::{lay, raw, Board, Outcome, Player, Raw, BADS, COUNT, KINDS, MOST, ROW};
 use crate::capture_fault as fault;
-use crate::engine::REPLY_LEN;
+use crate::engine::{READ_STORE_LEN, REPLY_LEN};
 use crate::state::State;
 use crate::traffic::{Call, Traffic};
 
@@ -47,19 +47,23 @@ impl Maker {
         }
     }
 
-    /// Entries that a board and its host might make, as long as they are wanted, played as they are made.
-    fn traffic(&mut self, mut wanted: impl FnMut(&[Raw], &Raw) -> bool) -> Vec<Raw> {
+    /// At most so many entries that a board and its host might make, in a file of at most so many bytes. They are played as they
+    /// are made.
+    fn entries(&mut self, count: usize, bytes: usize) -> Vec<Raw> {
         let mut board = Board::fresh();
         let mut entries = Vec::new();
-        loop {
+        let mut taken = COUNT;
+        while entries.len() < count {
             self.traffic.change_times();
             let (call, entry) = self.entry(&board.now());
-            if !wanted(&entries, &entry) {
-                return entries;
+            taken += ROW + entry.1.len();
+            if taken > bytes {
+                break;
             }
             board.call(&call);
             entries.push(entry);
         }
+        entries
     }
 
     /// A call for this state that a capture can hold. A success answer now and then has more bytes than any request, and
@@ -84,17 +88,13 @@ impl Maker {
 
     fn some(&mut self, most: usize) -> Vec<Raw> {
         let count = 1 + self.below(most);
-        self.traffic(|before, entry| before.len() < count && length(before) + ROW + entry.1.len() <= MOST)
+        self.entries(count, MOST)
     }
 
     /// A file of exactly so many bytes. The last entry fills it: a RESET, or bytes that are no command.
     fn filled(&mut self, bytes: usize) -> Vec<Raw> {
-        let mut taken = COUNT;
-        let mut entries = self.traffic(|_, entry| {
-            let room = taken + ROW + entry.1.len() + ROW <= bytes;
-            taken += if room { ROW + entry.1.len() } else { 0 };
-            room
-        });
+        let mut entries = self.entries(usize::MAX, bytes - ROW);
+        let taken = lay(&entries).len();
         let byte = if self.once_in(2) { 0xFF } else { 0x25 };
         entries.push((0, vec![byte; bytes - taken - ROW]));
         entries
@@ -224,11 +224,6 @@ impl Maker {
     }
 }
 
-/// The length of a file of these entries.
-fn length(entries: &[Raw]) -> usize {
-    COUNT + entries.iter().map(|(_, body)| ROW + body.len()).sum::<usize>()
-}
-
 /// The numbers that each kind can give in a capture, in the order of `KINDS`: the stores are long enough and the state is sound,
 /// and a failure answer has no data.
 const NUMBERS: [&[u32]; 7] = [&[0, 1, 2, 12, 13, 14, 15, 16], &[0, 20, 21], &[0, 20], &[0, 22], &[0], &[0], &[0, 23]];
@@ -255,10 +250,15 @@ pub struct Reached {
 }
 
 impl Reached {
+    fn case(&mut self, name: &str, met: bool) {
+        let at = CASES.iter().position(|&case| case == name).expect("a case of the list");
+        self.cases[at] += u64::from(met);
+    }
+
     /// What must be printed for a file.
     pub fn record(&mut self, file: &[u8]) -> String {
         let player = Player::default();
-        self.cases[2] += u64::from(file.len() == MOST + 1);
+        self.case("file of 65,537 bytes", file.len() == MOST + 1);
         match player.read(file) {
             Ok(calls) => {
                 let outcomes = player.play(&calls);
@@ -275,15 +275,15 @@ impl Reached {
     fn record_play(&mut self, file: &[u8], calls: &[Call], outcomes: &[Outcome]) {
         self.good += 1;
         self.entries += calls.len() as u64;
-        self.cases[0] += u64::from(calls.is_empty());
-        self.cases[1] += u64::from(file.len() == MOST);
-        self.cases[3] += u64::from(calls.len() >= 10_000);
+        self.case("no entries", calls.is_empty());
+        self.case("good file of 65,536 bytes", file.len() == MOST);
+        self.case("entry with a number of five digits", calls.len() >= 10_000);
         for (call, outcome) in calls.iter().zip(outcomes) {
             let (kind, body) = raw(call).expect("a call of a capture");
             self.numbers[usize::from(kind)][outcome.number as usize] += 1;
-            self.cases[4] += u64::from(outcome.reply.len() == REPLY_LEN);
-            self.cases[5] += u64::from(kind == 0 && outcome.number == 0 && outcome.reply.is_empty());
-            self.cases[6] += u64::from(kind == 1 && body.len() > 4 + 4096);
+            self.case("reply of 263 bytes", outcome.reply.len() == REPLY_LEN);
+            self.case("RESET", kind == 0 && outcome.number == 0 && outcome.reply.is_empty());
+            self.case("success answer over 4,096 bytes of data", kind == 1 && body.len() > 4 + READ_STORE_LEN);
         }
     }
 
