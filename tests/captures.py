@@ -96,6 +96,27 @@ def both_ways(name, path, file, expected):
         fault(f"{name}: {name}.lines is another file")
 
 
+def as_a_program():
+    """tests/capture.py as a person calls it: what it writes, and that it says what is wrong."""
+    path = os.path.join(HERE, "captures", "")
+
+    def called(*words, **more):
+        run = subprocess.run([sys.executable, os.path.join(HERE, "capture.py"), *words], capture_output=True, timeout=LIMIT, **more)
+        return run.returncode, run.stdout, run.stderr.decode()
+
+    if called("write", path + "customer.lines") != (0, contents(path + "customer.cap"), ""):
+        fault("tests/capture.py write customer.lines gives another file")
+    code, out, said = called("read", path + "bad-last-kind.cap")
+    if (code, out) != (1, b"bad capture\n") or "entry 3: kind 7" not in said:
+        fault(f"tests/capture.py read bad-last-kind.cap: {code}, {out}, {said}")
+    full = "command " + "FF" * (capture.MOST - 4)
+    answers = ["success", "success 4294967296", "failure x", "failure 1 2"]
+    for line in ["command 2", "command crc 25", *answers, "wire 1 2", "wire 1 2 256", "wire -1 0 0", "take 1", "look", full]:
+        code, out, said = called("write", "-", input=f"take # fine\n\n{line}\n".encode())
+        if (code, out) != (1, b"") or ("line 3" if line != full else "65536") not in said:
+            fault(f"tests/capture.py write {line[:40]!r}: {code}, {out}, {said}")
+
+
 def documented():
     """The page shows customer.cap and what is printed for it."""
     path = os.path.join(HERE, "captures", "customer")
@@ -199,6 +220,7 @@ def main(program):
     if not program:
         sys.exit(__doc__.strip())
     count = stored(program)
+    as_a_program()
     documented()
     play_large(program)
     in_pieces(program)
