@@ -12,12 +12,12 @@ digitOf d = 0x30 + d
 abbrev pub upperOf : ℕ → ℕ
 upperOf d = pick (ltb d 10) (0x30 + d) (0x41 + (d - 10))
 
--- the digits of a number of at most so many more than one, the first not 0 but for 0 itself (docs/DECISIONS.md, 58)
+-- the decimal digits of a number that has at most so many and one more, the first not 0 but for 0 itself (docs/DECISIONS.md, 58)
 unfoldable pub digitsOf : (most n : ℕ) → List ℕ
 digitsOf zero n = digitOf n ∷ []
 digitsOf (suc most) n = pick (ltb n 10) (digitOf n ∷ []) (digitsOf most (n / 10) ++ (digitOf (n % 10) ∷ []))
 
--- "Entries count from 1" (02, Q-2): a number in decimal, which has no more digits than itself and one
+-- "Entries count from 1" (02, Q-2): a number in decimal, of at most n + 1 digits
 unfoldable pub decimalOf : ℕ → List ℕ
 decimalOf n = digitsOf n n
 
