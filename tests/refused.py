@@ -3,8 +3,9 @@
 
 An edit holds wrong bodies or definitions; before each, lines say who must refuse it by a fact of its own, not because something below it is refused.
 `refused: fn NAME`, a function: the log has an error in its own proof file or, where it has none, says that a search did not close.
-`refused: specs/FILE`, a file of laws or theorems: the log has an error in it. Where a definition is the only wrong thing in its edit, the file that
-is named first has the log's first error, and docs/PROMISES.md, 'Definitions that ..', names the same files if it has the edit.
+`refused: specs/FILE`, a file of laws or theorems, or `refused: proofs/+F/Proof.antt`, that of a function which calls itself: the log has an error in it.
+Where a definition is the only wrong thing in its edit, the file that is named first has the log's first error, and docs/PROMISES.md, 'Definitions that ..',
+names the same files if it has the edit.
 No log says that a proof does not fit the code: then the shape was changed, and nothing was refused for its own sake.
 Every public function is named by two edits of its crate, each with a wrong thing in that function's own body.
 """
