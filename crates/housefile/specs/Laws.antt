@@ -8,7 +8,6 @@ use native.Mathlib.Nat.{eq-or-lt-of-le}
 use native.Mathlib.Omega.{arith}
 use lib.Dec.{eqb, ltb}
 use lib.ListN.{length, drop}
-use lib.Seq.{drop-drop}
 use borrow.Author.Tests.{lt-ltb, le-ltb, eq-eqb, ne-eqb, ltb-false, eqb-true, not-false}
 use Rattle.base.specs.Pick.{pick, pick-ind, and-left, and-right}
 use Rattle.housefile.specs.Kinds.{rowFits}
@@ -57,21 +56,6 @@ pub length-entries : (rows : ℕ → Row) (n i : ℕ) (l : List ℕ) → length 
 unfolding entries
 length-entries rows zero i l = refl
 length-entries rows (suc n) i l = ap suc (length-entries rows n (suc i) (drop (rows i .length) l))
-
--- the entries behind the first k
-pub entries-drop : (rows : ℕ → Row) (k n m i : ℕ) (l : List ℕ) → m ≡ k + n
-    → drop k (entries rows m i l) ≡ entries rows n (i + k) (drop (total rows k i) l)
-unfolding entries total
-entries-drop rows zero n m i l e =
-    let p : m ≡ n = omega arith in
-    let q : i ≡ i + 0 = omega arith in
-    ap (λ (x : ℕ). entries rows x i l) p ∙ ap (λ (x : ℕ). entries rows n x l) q
-entries-drop rows (suc k) n zero i l e = absurd (omega arith)
-entries-drop rows (suc k) n (suc m) i l e =
-    let p : suc i + k ≡ i + suc k = omega arith in
-    entries-drop rows k n m (suc i) (drop (rows i .length) l) (omega arith)
-    ∙ ap (λ (x : ℕ). entries rows n x (drop (total rows k (suc i)) (drop (rows i .length) l))) p
-    ∙ ap (entries rows n (i + suc k)) (drop-drop (total rows k (suc i)) (rows i .length) l)
 
 -- ---- a good file
 

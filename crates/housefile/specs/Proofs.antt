@@ -4,11 +4,10 @@ pub mod Back
 pub mod Again
 pub mod Judged
 pub mod Code
-use Prim.Native.Nat.{ℕ}
 use mathlib.Core.List.{[], _∷_}
-use mathlib.Core.Path.{_≡_, refl}
+use mathlib.Core.Path.{refl}
 use native.Mathlib.Omega.{arith}
-use Rattle.housefile.specs.Format.{total, allFit, entries, bad, read}
+use Rattle.housefile.specs.Format.{total, allFit, entries, read}
 use Rattle.housefile.specs.Laws.{bad-unequal}
 use Rattle.housefile.specs.Statements.{Examples, House}
 use Rattle.housefile.specs.Proofs.Judged.{judged}

@@ -24,7 +24,7 @@ use Rattle.rules.specs.Proofs.WholeRefusals.{planned-small}
 use Rattle.promises.specs.ByteRuns.{byteStep}
 use Rattle.promises.specs.Statements.Lifted.{valueOf}
 use Rattle.housefile.specs.Kinds.{known, kindOf, bodyFits, rowFits}
-use Rattle.housefile.specs.Format.{Entry, good, countOf, rowsBegin, rowsEnd, rowAt, total, read}
+use Rattle.housefile.specs.Format.{Entry, good, countOf, rowsEnd, rowAt, total, read}
 use Rattle.housefile.specs.Laws.{good-is, length-entries, total-next, total-below, fit-at}
 use Rattle.housefile.specs.declared.Kind.{Kind}
 use Rattle.housefile.specs.declared.Kind.the-variants.{Command, Success, Failure, SetWire, PlatformReset, EspiReset, TakeWrite}
@@ -61,9 +61,6 @@ module _ (file : List ℕ) (p : Place) (s : Stands file p) where
           body = omega (arith, s .body, next-total);
         }
 
-    pub row-there : rowsBegin + 3 * (p .number) + 3 ≤ length file
-    row-there = omega (arith, s .adds, s .counted)
-
     pub body-there : p .body + rowAt file (p .number) .length ≤ length file
     body-there =
         omega (arith, s .adds, s .body, next-total, total-below (rowAt file) (p .number + 1) (countOf file) (omega (arith, s .counted)))
@@ -71,7 +68,7 @@ module _ (file : List ℕ) (p : Place) (s : Stands file p) where
     pub row-fits : rowFits (rowAt file (p .number)) ≡ true
     row-fits = fit-at (rowAt file) (countOf file) (p .number) (s .fit) (omega (arith, s .counted))
 
-    pub body-length : length (entryAt file p .body) ≡ rowAt file (p .number) .length
+    body-length : length (entryAt file p .body) ≡ rowAt file (p .number) .length
     body-length = length-take-le _ (drop (p .body) file) (simp length-drop (omega (arith, body-there)))
 
     pub body-fits : bodyFits (kindOf (entryAt file p .kind)) (length (entryAt file p .body)) ≡ true
@@ -115,11 +112,11 @@ digit-more k b f zero n h = omega arith
 digit-more k b f (suc most) n h =
     pick-ind (λ (l : List ℕ). length l ≤ k + 1) (ltb n 10) (λ _. omega arith) λ _. simp length-append (omega (arith, f most (n / 10) (omega arith)))
 
-pub decimal-three : (n : ℕ) → n < 1000 → length (decimalOf n) ≤ 3
+decimal-three : (n : ℕ) → n < 1000 → length (decimalOf n) ≤ 3
 unfolding Short decimalOf
 decimal-three n h = digit-more 2 100 (digit-more 1 10 one-digit) n n h
 
-pub decimal-five : (n : ℕ) → n < 100000 → length (decimalOf n) ≤ 5
+decimal-five : (n : ℕ) → n < 100000 → length (decimalOf n) ≤ 5
 unfolding Short decimalOf
 decimal-five n h = digit-more 4 10000 (digit-more 3 1000 (digit-more 2 100 (digit-more 1 10 one-digit))) n n h
 
@@ -171,10 +168,10 @@ module _ (state command reply write read : List ℕ) where
         most = omega (arith, reply-length (p .reply) (unpacked state .wires) read (exchange-fits (unpacked state) (good .isSound) command .reply));
       }
 
-  pub reply-there : valueOf (exchangeCall state command reply write read .word) ≤ length (exchangeCall state command reply write read .reply)
+  reply-there : valueOf (exchangeCall state command reply write read .word) ≤ length (exchangeCall state command reply write read .reply)
   reply-there = replied .there
 
-  pub reply-most : valueOf (exchangeCall state command reply write read .word) ≤ 263
+  reply-most : valueOf (exchangeCall state command reply write read .word) ≤ 263
   reply-most = replied .most
 
 -- .. and so of any entry

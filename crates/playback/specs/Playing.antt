@@ -133,7 +133,7 @@ begin-size file st st′ line line′ r e = go (read file) e
 
 module _ (file : List ℕ) (p : Place) (s : Stands file p) (some : 0 < p .left) (r : Said) (st reply write read line st′ reply′ write′ read′ line′ : List ℕ)
     (e : played r st′ reply′ write′ read′ line′ ≡ playEntry file p st reply write read line) where
-  pub play-next : r .next ≡ placeAfter file p
+  play-next : r .next ≡ placeAfter file p
   unfolding playEntry
   play-next = ap (λ (x : Played). x .said .next) e
 

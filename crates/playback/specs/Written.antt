@@ -26,7 +26,7 @@ module _ (at n : ℕ) (h : 10 ≤ n) where
 -- ---- hex: one byte more
 
 module _ (bytes : List ℕ) (i : ℕ) (h : i < length bytes) where
-  pub hex-length : length (hexOf (take i bytes)) ≡ 2 * i
+  hex-length : length (hexOf (take i bytes)) ≡ 2 * i
   hex-length = length-hex (take i bytes) ∙ ap (λ (n : ℕ). 2 * n) (length-take-le i bytes (le-of-lt h))
 
   hex-more : hexOf (take (i + 1) bytes) ≡ hexOf (take i bytes) ++ (upperOf (getD bytes i 0 / 16) ∷ upperOf (getD bytes i 0 % 16) ∷ [])

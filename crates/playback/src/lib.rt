@@ -73,6 +73,7 @@ fn hex(line: &mut [u8], at: usize, bytes: &[u8]) -> usize
     end
 }
 
+// A reply in hex, or "-" if there is none.
 fn shown(line: &mut [u8], at: usize, reply: &[u8]) -> usize
     requires { ⌜ at + length (shownOf (now reply)) ≤ length (now line) ⌝ }
     ensures { λ r. ⌜ (now (line .exit) ≡ put at (shownOf (now (reply .entry))) (now (line .entry))) × (r ≡ at + length (shownOf (now (reply .entry)))) ⌝ }
@@ -106,6 +107,7 @@ fn wide(x: u8) -> u32
     x as u32
 }
 
+// An answer's body begins with the serial, low byte first.
 fn answer(state: &mut [u8], read_store: &mut [u8], success: u32, body: &[u8]) -> u32
     requires { ⌜ 4 ≤ length (now body) ⌝ }
     ensures { λ r. ⌜
@@ -116,6 +118,7 @@ fn answer(state: &mut [u8], read_store: &mut [u8], success: u32, body: &[u8]) ->
     espi::espi_answer(state, read_store, serial, success, &body[4..])
 }
 
+// A wire's body: index, bit, value.
 fn set(state: &mut [u8], body: &[u8]) -> u32
     requires { ⌜ 3 ≤ length (now body) ⌝ }
     ensures { λ r. ⌜
@@ -125,6 +128,7 @@ fn set(state: &mut [u8], body: &[u8]) -> u32
     espi::espi_set_wire(state, wide(body[0]), wide(body[1]), wide(body[2]))
 }
 
+// The report is not told.
 fn take(state: &mut [u8], write_store: &[u8]) -> u32
     ensures { λ r. ⌜ done r (now (state .exit)) ≡ taking (now (state .entry)) (now («write_store» .entry)) ⌝ }
 {

@@ -1,7 +1,7 @@
 -- Laws by which the reply's writers meet their contracts: each follows the writes in the code's order.
 use Prim.Native.Nat.{ℕ, suc, _+_, _-_, _≤_, _<_}
 use mathlib.Core.Bool.{Bool, true, false, _&&_, true≢false}
-use mathlib.Core.List.{List, [], _∷_, _++_, append-assoc}
+use mathlib.Core.List.{List, [], _∷_, _++_}
 use mathlib.Core.Path.{_≡_, refl, sym, ap, ap₂, subst, _∙_}
 use native.Mathlib.Omega.{arith}
 use lib.ListN.{getD, length, take, drop, length-append, length-drop}
@@ -10,7 +10,7 @@ use lib.Dec.{ltb}
 use borrow.Author.Tests.{ltb-true, ltb-false}
 use borrow.Rule.Slice.PartMut.{midOf, putMid}
 use Rattle.base.specs.Pick.{pick, and-left, and-right}
-use Rattle.base.specs.Bytes.{low2, put, over, copied, put-none, put-over, put-first, take-over, over-over, tail-lent, tail-back, over-take, drop-over, over-parts, copied-over}
+use Rattle.base.specs.Bytes.{low2, put, over, copied, put-none, put-over, put-put, put-first, take-over, over-over, tail-lent, tail-back, over-take, drop-over, over-parts, copied-over}
 use Rattle.crc.specs.Crc.{crc}
 use Rattle.wires.specs.Table.{groupAt, senderOf, isUp}
 use Rattle.wires.specs.Groups.{levelAt, groupByte, pairAt, pairBytes, packetBytes}
@@ -83,17 +83,6 @@ by-body body case′ w l l₁ reads code n e p q r =
     subst (λ (z : Body). (l₁ ≡ over (code ∷ bodyBytes z w reads) l) × (n ≡ length (code ∷ bodyBytes z w reads)) × (n ≤ 260)) (sym e) (p, q, r)
 
 -- ---- a wire packet, pair after pair
-
--- two writes, the second behind the first
-put-put : (us vs l : List ℕ) (at : ℕ) → at ≤ length l → put (at + length us) vs (put at us l) ≡ put at (us ++ vs) l
-put-put us vs l at h =
-    let p = take at l in
-    let hp : length p ≡ at = length-take-le at l h in
-    let at-once : (zs : List ℕ) → put at zs l ≡ over (p ++ zs) l = λ zs. ap (put at zs) (sym (over-take l at h)) ∙ put-over p zs l at hp in
-    ap (put (at + length us) vs) (at-once us)
-    ∙ put-over (p ++ us) vs l (at + length us) (length-append p us ∙ ap (λ (n : ℕ). n + length us) hp)
-    ∙ ap (λ (z : List ℕ). over z l) (append-assoc p us vs)
-    ∙ sym (at-once (us ++ vs))
 
 pairs-both : (w : Wires) (xs ys : List ℕ) → pairBytes w (xs ++ ys) ≡ pairBytes w xs ++ pairBytes w ys
 unfolding pairBytes
@@ -172,8 +161,11 @@ written-next w g g′ at at′ n l l′ whole small more h e ea eg s =
     let f = ap (λ (x : Going). pairBytes w (turnOf w x)) eg in
     record {
       rest =
-          ap₂ (λ (k : ℕ) (z : List ℕ). put k z l′) ea f ∙ ap (put (at + length us) vs) e ∙ put-put us vs l at h ∙ ap (λ (z : List ℕ). put at z l) (sym t) ∙ s
-          .rest;
+          ap₂ (λ (k : ℕ) (z : List ℕ). put k z l′) ea f
+          ∙ ap (put (at + length us) vs) e
+          ∙ put-put at (at + length us) us vs l h refl
+          ∙ ap (λ (z : List ℕ). put at z l) (sym t)
+          ∙ s .rest;
       end = omega (arith, s .end, ap length t, length-append us vs, ap length f, ea);
     }
 

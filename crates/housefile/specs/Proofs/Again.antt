@@ -57,7 +57,7 @@ unfolding rowsOf
 length-rowsOf [] = refl
 length-rowsOf (e ∷ es) = omega (arith, length-rowsOf es)
 
-pub length-written : (es : List Entry) → length (write es) ≡ rowsEnd (length es) + length (bodiesOf es)
+length-written : (es : List Entry) → length (write es) ≡ rowsEnd (length es) + length (bodiesOf es)
 unfolding write
 length-written es = omega (arith, length-append (rowsOf es) (bodiesOf es), length-rowsOf es)
 

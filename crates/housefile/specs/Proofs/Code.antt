@@ -13,7 +13,6 @@ use Rattle.housefile.specs.Laws.{good-is, length-entries}
 use Rattle.housefile.specs.Entries.{Agree, agree-same, total-of, fit-of, entries-of, agree-entries, bodies-entries}
 use Rattle.housefile.specs.Answers.{into}
 use Rattle.housefile.specs.Proofs.Back.{whole, back, fits}
-use Rattle.housefile.specs.Proofs.Again.{length-written}
 
 -- slices with the kinds, the lengths and the bodies of a capture are written as its file
 pub writes : (kinds lengths out : List ℕ) (es : List Entry) → Fits es
