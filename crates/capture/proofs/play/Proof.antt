@@ -31,7 +31,7 @@ add-at : tie.Need-add-at Inv-loop μ-loop
 add-at c =
     let p = c .before .before .before .before .before .before .before in let o = p .before .before .before .before .before .before in
     let l = o .before .before .before .before in let t = o .before .before .if1 .taken in
-    record { fits = omega (arith, o .room .ensures, play-size _ _ (l .loop .inv .1 t) t _ _ _ _ _ _ _ _ _ _ _ (p .play .ensures)) }
+    record { fits = omega (arith, o .room .ensures .1, play-size _ _ (l .loop .inv .1 t) t _ _ _ _ _ _ _ _ _ _ _ (p .play .ensures)) }
 
 loop-less : tie.Need-loop-less Inv-loop μ-loop
 loop-less c =
@@ -45,7 +45,7 @@ loop-again c =
     let l = o .before .before .before .before in let t = o .before .before .if1 .taken in
     let e = same-len-mid (o .room .result) (65536 - o .room .result) (l .loop .block) (p .play .last .1 .1 .1 .1 .1 .1 .0)
     (p .play .kept .1 .1 .1 .1 .1 .1 .0) in (
-      omega (arith, o .room .ensures, play-size _ _ (l .loop .inv .1 t) t _ _ _ _ _ _ _ _ _ _ _ (p .play .ensures)),
+      omega (arith, o .room .ensures .1, play-size _ _ (l .loop .inv .1 t) t _ _ _ _ _ _ _ _ _ _ _ (p .play .ensures)),
       λ _. play-stands _ _ (l .loop .inv .1 t) t _ _ _ _ _ _ _ _ _ _ _ (p .play .ensures),
       search needs,
       search needs,
