@@ -10,9 +10,9 @@ use borrow.Author.Tests.{lt-ltb, le-ltb, eq-eqb, ne-eqb, eqb-true}
 use Rattle.base.specs.Bytes.{over, put, put-over}
 use Rattle.base.specs.Pick.{pick, taken, passed}
 use Rattle.housefile.specs.Format.{bad, longest, countOf, rowsEnd, rowAt, total, allFit, entries, read, found}
-use Rattle.housefile.specs.Format.{rowOf, contentsBytes, write, Written, written, writeInto}
+use Rattle.housefile.specs.Format.{rowOf, write, Written, written, writeInto}
 use Rattle.housefile.specs.Laws.{length-entries, is-good, bad-longer, bad-unequal, bad-unfit}
-use Rattle.housefile.specs.Tables.{tableOf, length-rows}
+use Rattle.housefile.specs.Tables.{tableOf, contentsBytes, length-rows}
 use Rattle.housefile.specs.Entries.{write-entries, length-write}
 use Rattle.housefile.specs.declared.Row.{Row}
 use Rattle.housefile.specs.declared.Table.{Table}

@@ -7,10 +7,10 @@ use native.Mathlib.Omega.{arith}
 use lib.ListN.{length, take, drop, length-append, length-drop, take-append-drop}
 use lib.Seq.{length-take-le, take-append-seam, drop-append-seam}
 use Rattle.base.specs.Pick.{and-true}
-use Rattle.housefile.specs.Format.{Entry, rowsEnd, row, total, allFit, entries, rowsOf, bodiesOf, write, rowBytes, contentsBytes}
+use Rattle.housefile.specs.Format.{Entry, rowsEnd, row, total, allFit, entries, rowsOf, bodiesOf, write}
 use Rattle.housefile.specs.Statements.{EachFits}
 use Rattle.housefile.specs.Laws.{length-entries}
-use Rattle.housefile.specs.Tables.{length-rows}
+use Rattle.housefile.specs.Tables.{rowBytes, contentsBytes, length-rows}
 use Rattle.housefile.specs.declared.Row.{Row}
 
 -- the rows from i on are those of the entries: "for each entry a kind byte and a 16-bit length" (02, Q-2)

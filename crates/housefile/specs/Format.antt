@@ -105,15 +105,6 @@ found (good es) = Entries (length es)
 abbrev pub rowOf : (kinds lengths : List ℕ) → ℕ → Row
 rowOf kinds lengths i = row (getD kinds i 0) (getD lengths i 0)
 
--- n rows from row i on, as bytes (02, Q-2)
-unfoldable pub rowBytes : (ℕ → Row) → (n i : ℕ) → List ℕ
-rowBytes rows zero i = []
-rowBytes rows (suc n) i = rows i .kind ∷ low2 (rows i .length) ++ rowBytes rows n (suc i)
-
--- "The house file starts with its contents": count and rows (02, Q-2)
-abbrev pub contentsBytes : (ℕ → Row) → ℕ → List ℕ
-contentsBytes rows n = low2 n ++ rowBytes rows n 0
-
 -- what the writer leaves: how long the file is, 0 for none, and the lent slice (docs/DECISIONS.md, 57)
 pub record Written : Type 0 where
   pub size : ℕ

@@ -1,7 +1,7 @@
 -- The first rows of a table, row after row: what the loops of the reader and the writer keep.
 use Prim.Native.Nat.{ℕ, zero, suc, _+_, _*_, _<_, _≤_}
 use mathlib.Core.Bool.{Bool, true, false, _&&_, and-true}
-use mathlib.Core.List.{List, _∷_, _++_, append-nil}
+use mathlib.Core.List.{List, [], _∷_, _++_, append-nil}
 use mathlib.Core.Path.{_≡_, refl, sym, ap, _∙_}
 use native.Mathlib.Nat.{zero-add}
 use native.Mathlib.Numerals.{add-one}
@@ -10,7 +10,7 @@ use lib.ListN.{length, getD, take, drop, take-append-drop}
 use borrow.Author.Tests.{ne-eqb}
 use Rattle.base.specs.Bytes.{low2, over, put, put-over, put-first, put-put}
 use Rattle.housefile.specs.Kinds.{kindOf, rowFits}
-use Rattle.housefile.specs.Format.{total, allFit, rowsBegin, row, rowAt, rowBytes, contentsBytes}
+use Rattle.housefile.specs.Format.{total, allFit, rowsBegin, row, rowAt}
 use Rattle.housefile.specs.Laws.{total-next}
 use Rattle.housefile.specs.declared.Kind.the-variants.{TakeWrite}
 use Rattle.housefile.specs.declared.Row.{Row}
@@ -23,6 +23,15 @@ tableOf rows n = record { fit = allFit rows n 0; total = total rows n 0 }
 -- .. and one row more (02, Q-2)
 abbrev pub tableWith : Table → Row → Table
 tableWith t r = record { fit = t .fit && rowFits r; total = t .total + r .length }
+
+-- n rows from row i on, as bytes (02, Q-2)
+unfoldable pub rowBytes : (ℕ → Row) → (n i : ℕ) → List ℕ
+rowBytes rows zero i = []
+rowBytes rows (suc n) i = rows i .kind ∷ low2 (rows i .length) ++ rowBytes rows n (suc i)
+
+-- "The house file starts with its contents": count and rows (02, Q-2)
+abbrev pub contentsBytes : (ℕ → Row) → ℕ → List ℕ
+contentsBytes rows n = low2 n ++ rowBytes rows n 0
 
 -- ---- a kind, and a row
 

@@ -5,8 +5,8 @@ ghost use Prim.Native.Nat.{_+_, _*_, _<_, _≤_};
 ghost use lib.ListN.{length};
 ghost use Rattle.base.specs.Bytes.{over, low2};
 ghost use Rattle.housefile.specs.Kinds.{kindOf, bodyFits, rowFits};
-ghost use Rattle.housefile.specs.Format.{rowsBegin, rowAt, found, rowOf, contentsBytes, written, writeInto};
-ghost use Rattle.housefile.specs.Tables.{tableWith, tableOf};
+ghost use Rattle.housefile.specs.Format.{rowsBegin, rowAt, found, rowOf, written, writeInto};
+ghost use Rattle.housefile.specs.Tables.{tableWith, tableOf, contentsBytes};
 
 // The longest file.
 const LONGEST: usize = 65536;

@@ -15,7 +15,8 @@ use Rattle.base.specs.Numbers.{join}
 use Rattle.base.specs.Pick.{and-left, and-right}
 use Rattle.housefile.specs.Kinds.{kindOf, bodyFits, rowFits}
 use Rattle.housefile.specs.Format.{Entry, good, longest, read, entries, write, rowsOf, bodiesOf}
-use Rattle.housefile.specs.Format.{countOf, rowsEnd, rowAt, total, allFit, rowBytes, contentsBytes}
+use Rattle.housefile.specs.Format.{countOf, rowsEnd, rowAt, total, allFit}
+use Rattle.housefile.specs.Tables.{rowBytes, contentsBytes}
 use Rattle.housefile.specs.Statements.{EachFits, Fits}
 use Rattle.housefile.specs.Laws.{IsGood, good-is, length-entries}
 use Rattle.housefile.specs.Entries.{Agree, agree-entries, bodies-entries, write-entries}
