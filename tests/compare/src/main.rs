@@ -1,23 +1,32 @@
-//! The proved engine's archive beside plain Rust: the same mix of exchanges through each.
+//! The speed of the proved engine's archive beside that of plain Rust: the same mix of exchanges through each.
 //!
-//!     compare --check [EXCHANGES]             every reply compared
+//!     compare [--bars] [EXCHANGES [ROUNDS]]   every reply compared, then times and instructions; with --bars a missed bar of
+//!                                             instructions is a failure
+//!     compare --check [EXCHANGES]             every reply compared and nothing else
 //!     compare --differential [CALLS]          plain Rust over lent bytes against the archive in the run of tests/differential
+//!     compare --play ENGINE EXCHANGES SEED    the mix once on one engine, for callgrind
 mod check;
+mod count;
 mod kind;
 #[allow(dead_code)]
 #[path = "../../differential/src/linked.rs"]
 mod linked;
 mod mix;
 mod players;
+mod report;
+mod time;
 
 use linked::Archive;
 use mix::Mix;
 use players::{Kept, Lent, Plain};
+use report::{Measured, NAMES};
 use std::process::ExitCode;
 
-const NAMES: [&str; 3] = ["archive", "(a)", "(b)"];
 const SEED: u64 = 1;
 const EXCHANGES: usize = 1_000_000;
+/// Of the mix's first ones the instructions are counted.
+const COUNTED: usize = 100_000;
+const ROUNDS: usize = 15;
 /// From this many calls on the differential run must have reached everything.
 const ENOUGH: u64 = 100_000;
 
@@ -40,6 +49,26 @@ fn checked(exchanges: usize) -> Result<Mix, String> {
     Ok(mix)
 }
 
+fn compare(exchanges: usize, rounds: usize, bars: bool) -> Result<(), String> {
+    let mix = checked(exchanges)?;
+    let counted = COUNTED.min(exchanges);
+    let first = Mix::new(counted, SEED);
+    let (number, seed) = (counted.to_string(), SEED.to_string());
+    let count = |engine| count::count(&first, ["--play", engine, &number, &seed]);
+    let counts = match [count(NAMES[0])?, count(NAMES[1])?, count(NAMES[2])?] {
+        [Some(archive), Some(a), Some(b)] => Some([archive, a, b]),
+        _ => None,
+    };
+    let over_mix = time::over_mix::<One, Two, Three>(&mix, rounds)?;
+    let by_kind = time::by_kind::<One, Two, Three>(&mix, rounds);
+    let measured = Measured { mix: &mix, counts, counted, over_mix, by_kind, rounds };
+    println!("\n{}\n{}\n{}", measured.tables(), measured.notes(SEED), measured.bars());
+    if bars && (measured.counts.is_none() || !measured.over_in_instructions().is_empty()) {
+        return Err("the instructions are not within their bars".to_string());
+    }
+    Ok(())
+}
+
 fn differential(calls: u64) -> Result<(), String> {
     match differential::run::run(&mut Archive::new(), &mut Plain, calls, SEED) {
         Ok(coverage) => {
@@ -54,14 +83,31 @@ fn differential(calls: u64) -> Result<(), String> {
     }
 }
 
-const USAGE: &str = "usage: compare --check [EXCHANGES] | --differential [CALLS]";
+fn play(engine: &str, exchanges: usize, seed: u64) -> Result<(), String> {
+    let mix = Mix::new(exchanges, seed);
+    match NAMES.iter().position(|&name| name == engine) {
+        Some(0) => count::play::<One>(&mix),
+        Some(1) => count::play::<Two>(&mix),
+        Some(_) => count::play::<Three>(&mix),
+        None => return Err(format!("no engine {engine}")),
+    }
+    Ok(())
+}
+
+const USAGE: &str = "usage: compare [--bars] [EXCHANGES [ROUNDS]] | --check [EXCHANGES] | --differential [CALLS]";
 
 fn run(words: &[&str]) -> Result<(), String> {
     let number = |word: Option<&&str>, or: usize| word.map_or(Ok(or), |word| word.parse::<usize>().map_err(|_| USAGE.to_string()));
     match words {
         ["--check", rest @ ..] => checked(number(rest.first(), EXCHANGES)?).map(|_| ()),
         ["--differential", rest @ ..] => differential(number(rest.first(), 2_000_000)? as u64),
-        _ => Err(USAGE.to_string()),
+        ["--play", engine, exchanges, seed] => play(engine, number(Some(exchanges), 0)?, number(Some(seed), 0)? as u64),
+        words => {
+            let bars = words.first() == Some(&"--bars");
+            let rest = &words[usize::from(bars)..];
+            let (exchanges, rounds) = (number(rest.first(), EXCHANGES)?, number(rest.get(1), ROUNDS)?);
+            compare(exchanges.max(1), rounds.max(9), bars)
+        }
     }
 }
 

@@ -1,0 +1,149 @@
+//! The tables, and what is over the bars.
+use crate::count::Count;
+use crate::kind::{ByKind, Kind, KINDS};
+use crate::mix::Mix;
+use crate::time::Time;
+use std::process::Command;
+
+/// The engines by their names in the tables.
+pub const NAMES: [&str; 3] = ["archive", "(a)", "(b)"];
+
+/// At most so much of (a) over the mix, in instructions and in time; and of any kind, in either.
+const INSTRUCTIONS_BAR: f64 = 1.0;
+const TIME_BAR: f64 = 1.1;
+const KIND_BAR: f64 = 1.25;
+
+pub struct Measured<'a> {
+    pub mix: &'a Mix,
+    /// By engine, of the first exchanges of the mix; `None` where there is no valgrind.
+    pub counts: Option<[ByKind<Count>; 3]>,
+    pub counted: usize,
+    pub over_mix: [Time; 3],
+    pub by_kind: ByKind<[Time; 3]>,
+    pub rounds: usize,
+}
+
+/// The archive's share of (a) and of (b).
+fn ratios(numbers: [f64; 3]) -> [f64; 2] {
+    [numbers[0] / numbers[1], numbers[0] / numbers[2]]
+}
+
+/// Numbers of one width; what was not measured is no number.
+fn cells(numbers: &[f64], width: usize, places: usize) -> String {
+    let cell = |&number: &f64| if number.is_nan() { format!(" {:>width$}", "-") } else { format!(" {number:>width$.places$}") };
+    numbers.iter().map(cell).collect()
+}
+
+fn heads(names: &[&str], width: usize) -> String {
+    names.iter().map(|name| format!(" {name:>width$}")).collect()
+}
+
+impl Measured<'_> {
+    /// Instructions of a call of a kind, by engine.
+    fn instructions(&self, row: usize) -> [f64; 3] {
+        self.counts.as_ref().map_or([f64::NAN; 3], |counts| [0, 1, 2].map(|engine| counts[engine][row].of_one()))
+    }
+
+    /// Instructions for an exchange of the mix: those of the exchanges alone, or with those of the board's calls.
+    fn of_exchange(&self, with_board: bool) -> [f64; 3] {
+        let Some(counts) = &self.counts else { return [f64::NAN; 3] };
+        [0, 1, 2].map(|engine| {
+            let sum = |with_board: bool| -> Count {
+                let of_kind = |&(kind, _): &(Kind, &str)| counts[engine][kind.row()];
+                KINDS.iter().filter(|(kind, _)| with_board || kind.is_exchange()).map(of_kind).sum()
+            };
+            sum(with_board).instructions as f64 / sum(false).calls as f64
+        })
+    }
+
+    pub fn tables(&self) -> String {
+        let line = |name: &str, numbers: [f64; 3]| format!("{name:38}{}{}\n", cells(&numbers, 9, 1), cells(&ratios(numbers), 12, 3));
+        let mut text = format!("{:38}{}{}\n", "for an exchange of the mix", heads(&NAMES, 9), heads(&["archive/(a)", "archive/(b)"], 12));
+        text += &line("nanoseconds, the median", self.over_mix.map(|time| time.median));
+        text += &line("nanoseconds, the least", self.over_mix.map(|time| time.least));
+        text += &line("instructions, exchanges alone", self.of_exchange(false));
+        text += &line("instructions, board calls with them", self.of_exchange(true));
+
+        let of = ["/(a)", "/(b)"];
+        text += &format!("\n{:32} {:>6} |{:<38} |{:<41} | the least\n", "", "share", " instructions", " nanoseconds, the median");
+        text += &format!("{:32} {:>6} |{}{}", "a call of the kind", "%", heads(&NAMES, 7), heads(&of, 6));
+        text += &format!(" |{}{} |{}\n", heads(&NAMES, 8), heads(&of, 6), heads(&of, 6));
+        let made = self.mix.counts();
+        for (row, &(kind, name)) in KINDS.iter().enumerate() {
+            if kind == Kind::Look {
+                text += "board calls; the share is of the exchanges, too\n";
+            }
+            let share = 100.0 * made[row] as f64 / self.mix.exchanges as f64;
+            let instructions = self.instructions(row);
+            let times = self.by_kind[row].map(|time| time.median);
+            let least = self.by_kind[row].map(|time| time.least);
+            text += &format!("{name:32} {share:>6.2} |{}{}", cells(&instructions, 7, 0), cells(&ratios(instructions), 6, 2));
+            text += &format!(" |{}{} |{}\n", cells(&times, 8, 1), cells(&ratios(times), 6, 2), cells(&ratios(least), 6, 2));
+        }
+        text
+    }
+
+    /// What is over the bars in instructions.
+    pub fn over_in_instructions(&self) -> Vec<String> {
+        let mix = [("the mix, exchanges alone", self.of_exchange(false)), ("the mix, board calls with them", self.of_exchange(true))];
+        let kinds = KINDS.iter().enumerate().map(|(row, (_, name))| (*name, self.instructions(row)));
+        let over = mix.into_iter().filter_map(|(name, numbers)| over(name, numbers, INSTRUCTIONS_BAR));
+        over.chain(kinds.filter_map(|(name, numbers)| self::over(name, numbers, KIND_BAR))).collect()
+    }
+
+    /// What is over the bars in time, by the medians.
+    fn over_in_time(&self) -> Vec<String> {
+        let kinds = KINDS.iter().enumerate().map(|(row, (_, name))| (*name, self.by_kind[row].map(|time| time.median)));
+        let mix = over("the mix", self.over_mix.map(|time| time.median), TIME_BAR);
+        mix.into_iter().chain(kinds.filter_map(|(name, numbers)| over(name, numbers, KIND_BAR))).collect()
+    }
+
+    pub fn bars(&self) -> String {
+        let mut text = format!(
+            "Bars, of (a): over the mix {INSTRUCTIONS_BAR} in instructions and {TIME_BAR} in time, {KIND_BAR} for any kind in either.\n"
+        );
+        for (what, over) in [("instructions", self.over_in_instructions()), ("time", self.over_in_time())] {
+            match over.as_slice() {
+                [] if what == "instructions" && self.counts.is_none() => text += "  instructions: not counted, there is no valgrind\n",
+                [] => text += &format!("  {what}: nothing is over them\n"),
+                over => text += &format!("  {what}, over them: {}\n", over.join("; ")),
+            }
+        }
+        text
+    }
+
+    /// What was measured, and how.
+    pub fn notes(&self, seed: u64) -> String {
+        let lines = [
+            "(a): plain Rust over lent bytes, which it tests as the archive does. (b): plain Rust as a struct that nobody tests."
+                .to_string(),
+            format!("The mix: {} exchanges and {} board calls, made of seed {seed} first.", self.mix.exchanges, self.mix.board_calls()),
+            format!("Time over the mix: {} rounds, the engines in turn in one process, one round before them not counted.", self.rounds),
+            "  A round is the whole mix from a fresh state on, board calls and the loop over all calls in it, divided by the exchanges."
+                .to_string(),
+            "Buffers: the stores are zeroed before each round, and nothing is cleared between exchanges, for all engines alike."
+                .to_string(),
+            format!("Time by kind: {} rounds of calls of one kind, each on the state that it had in the mix; to put that", self.rounds),
+            "  in place is timed by itself and subtracted.".to_string(),
+            format!(
+                "Instructions: of the first {} exchanges, by callgrind, from the call of an engine's function to its end.",
+                self.counted
+            ),
+            format!("Machine: {}, {}.", machine(), std::env::consts::ARCH),
+            format!("Plain Rust: {}, {}. Archive, as it is: {}.", env!("COMPARE_RUSTC"), env!("COMPARE_FLAGS"), env!("COMPARE_ARCHIVE")),
+        ];
+        lines.join("\n") + "\n"
+    }
+}
+
+fn over(name: &str, numbers: [f64; 3], bar: f64) -> Option<String> {
+    let of_a = ratios(numbers)[0];
+    (of_a > bar).then(|| format!("{name} {of_a:.3}"))
+}
+
+/// The processor's name.
+fn machine() -> String {
+    let listed = Command::new("lscpu").output().map(|output| String::from_utf8_lossy(&output.stdout).into_owned()).unwrap_or_default();
+    let name = listed.lines().find_map(|line| line.strip_prefix("Model name:"));
+    name.map_or("a processor without a name".to_string(), |name| name.trim().to_string())
+}
