@@ -1,5 +1,5 @@
 # make run: the archive, and a small board played against it. make capture FILE=..: docs/CAPTURE.md. make install, make firmware, make differential,
-# make bench: README.md says what they do.
+# make bench, make compare: README.md says what they do.
 CFLAGS = -std=c11 -O2 -Wall -Wextra -Werror -Iinclude
 ARCHIVE = target/staticlib/libespi.a
 SOURCES = $(shell find crates -name '*.rt' -o -name '*.antt') crates.txt
@@ -19,7 +19,8 @@ TIMED = -native
 endif
 QUICK = 10000000
 
-.PHONY: run board-test archive capture capture-test install header boundary bench figures shapes differential differential-quick rust-test clean
+.PHONY: run board-test archive capture capture-test install header boundary bench figures shapes differential differential-quick rust-test compare \
+	compare-quick clean
 
 run: target/board
 	./target/board
@@ -129,5 +130,19 @@ differential-quick: $(NATIVE)
 	$(DIFFERENTIAL) $(QUICK)
 	$(DIFFERENTIAL) --faults
 
+# The archive beside the same engine in plain Rust, a million exchanges through each: every reply compared, then times and instructions. With BARS=--bars
+# instructions over the bars are a failure. compare-quick compares replies, then any calls on any bytes, and times nothing.
+BUILD_COMPARE = cd tests/compare && ESPI_ARCHIVE_DIR=$(abspath $(dir $(NATIVE))) cargo build --release
+COMPARE = tests/compare/target/release/compare
+
+compare: $(NATIVE)
+	$(BUILD_COMPARE)
+	$(COMPARE) $(BARS)
+
+compare-quick: $(NATIVE)
+	$(BUILD_COMPARE)
+	$(COMPARE) --check 100000
+	$(COMPARE) --differential 2000000
+
 clean:
-	rm -rf target tests/differential/target
+	rm -rf target tests/differential/target tests/plain/target tests/compare/target
