@@ -26,7 +26,8 @@ const SEED: u64 = 1;
 const EXCHANGES: usize = 1_000_000;
 /// Of the mix's first ones the instructions are counted.
 const COUNTED: usize = 100_000;
-const ROUNDS: usize = 15;
+/// Many: of 15 the ratio over the mix came out on either side of its bar, from run to run.
+const ROUNDS: usize = 101;
 /// From this many calls on the differential run must have reached everything.
 const ENOUGH: u64 = 100_000;
 

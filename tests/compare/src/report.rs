@@ -2,7 +2,7 @@
 use crate::count::Count;
 use crate::kind::{ByKind, Kind, KINDS};
 use crate::mix::Mix;
-use crate::time::Time;
+use crate::time::{OverMix, Time};
 use std::process::Command;
 
 /// The engines by their names in the tables.
@@ -18,7 +18,7 @@ pub struct Measured<'a> {
     /// By engine, of the first exchanges of the mix; `None` where there is no valgrind.
     pub counts: Option<[ByKind<Count>; 3]>,
     pub counted: usize,
-    pub over_mix: [Time; 3],
+    pub over_mix: OverMix,
     pub by_kind: ByKind<[Time; 3]>,
     pub rounds: usize,
 }
@@ -59,8 +59,12 @@ impl Measured<'_> {
     pub fn tables(&self) -> String {
         let line = |name: &str, numbers: [f64; 3]| format!("{name:38}{}{}\n", cells(&numbers, 9, 1), cells(&ratios(numbers), 12, 3));
         let mut text = format!("{:38}{}{}\n", "for an exchange of the mix", heads(&NAMES, 9), heads(&["archive/(a)", "archive/(b)"], 12));
-        text += &line("nanoseconds, the median", self.over_mix.map(|time| time.median));
-        text += &line("nanoseconds, the least", self.over_mix.map(|time| time.least));
+        text += &line("nanoseconds, the median", self.over_mix.times.map(|time| time.median));
+        text += &line("nanoseconds, the least", self.over_mix.times.map(|time| time.least));
+        let by_round = self.over_mix.by_round;
+        let half = by_round.map(|shares| format!(" {:>12}", format!("{:.2}..{:.2}", shares.half[0], shares.half[1]))).concat();
+        text += &format!("{:68}{}\n", "  round by round: the median", cells(&by_round.map(|shares| shares.median), 12, 3));
+        text += &format!("{:68}{half}\n", "  half of the rounds within");
         text += &line("instructions, exchanges alone", self.of_exchange(false));
         text += &line("instructions, board calls with them", self.of_exchange(true));
 
@@ -94,7 +98,7 @@ impl Measured<'_> {
     /// What is over the bars in time, by the medians.
     fn over_in_time(&self) -> Vec<String> {
         let kinds = KINDS.iter().enumerate().map(|(row, (_, name))| (*name, self.by_kind[row].map(|time| time.median)));
-        let mix = over("the mix", self.over_mix.map(|time| time.median), TIME_BAR);
+        let mix = over("the mix", self.over_mix.times.map(|time| time.median), TIME_BAR);
         mix.into_iter().chain(kinds.filter_map(|(name, numbers)| over(name, numbers, KIND_BAR))).collect()
     }
 
@@ -108,6 +112,12 @@ impl Measured<'_> {
                 [] => text += &format!("  {what}: nothing is over them\n"),
                 over => text += &format!("  {what}, over them: {}\n", over.join("; ")),
             }
+        }
+        let [from, to] = self.over_mix.by_round[0].half;
+        if (from..=to).contains(&TIME_BAR) {
+            text += &format!(
+                "  time over the mix: {TIME_BAR} lies where half of the rounds do, {from:.2} to {to:.2}, so this run does not decide it\n"
+            );
         }
         text
     }

@@ -27,6 +27,30 @@ impl Time {
     }
 }
 
+/// The archive's share of another engine's time, each round by itself: the median, and between which half of the rounds lie. What
+/// disturbs the machine for longer than a round is in both.
+#[derive(Clone, Copy)]
+pub struct ByRound {
+    pub median: f64,
+    pub half: [f64; 2],
+}
+
+impl ByRound {
+    fn of(archive: &[f64], other: &[f64]) -> ByRound {
+        let mut shares: Vec<f64> = archive.iter().zip(other).map(|(archive, other)| archive / other).collect();
+        shares.sort_by(f64::total_cmp);
+        let quarter = shares.len() / 4;
+        let half = [shares[quarter], shares[shares.len() - 1 - quarter]];
+        ByRound { median: Time::of(shares).median, half }
+    }
+}
+
+/// What was timed over the mix, for an exchange: by engine, and the archive beside (a) and (b) by round.
+pub struct OverMix {
+    pub times: [Time; 3],
+    pub by_round: [ByRound; 2],
+}
+
 /// The events of one kind, and the state before each.
 struct Sample {
     events: Vec<Event>,
@@ -93,7 +117,7 @@ fn nanoseconds(work: impl FnOnce()) -> f64 {
 }
 
 /// Nanoseconds an exchange over the mix, the board's calls within, by engine. A round before the first is not counted.
-pub fn over_mix<A: Player + 'static, B: Player + 'static, C: Player + 'static>(mix: &Mix, rounds: usize) -> Result<[Time; 3], String> {
+pub fn over_mix<A: Player + 'static, B: Player + 'static, C: Player + 'static>(mix: &Mix, rounds: usize) -> Result<OverMix, String> {
     let mut engines = engines::<A, B, C>();
     let mut times: [Vec<f64>; 3] = Default::default();
     let sum = engines[0].play(mix);
@@ -110,7 +134,8 @@ pub fn over_mix<A: Player + 'static, B: Player + 'static, C: Player + 'static>(m
             }
         }
     }
-    Ok(times.map(Time::of))
+    let by_round = [1, 2].map(|other| ByRound::of(&times[0], &times[other]));
+    Ok(OverMix { times: times.map(Time::of), by_round })
 }
 
 /// Events of each kind from all over the mix, with the states before them, which are one engine's over bytes.
