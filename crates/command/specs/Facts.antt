@@ -317,7 +317,7 @@ module _ (on : Channels) (b : List ℕ) where
     pub needs : needData r b (r .carries) ≡ x
 
   -- what this row needs
-  abbrev pub NeedTells : Row → Need → Type 0
+  abbrev NeedTells : Row → Need → Type 0
   NeedTells r (Whole n) = Passes r (Whole n)
   NeedTells r (More k) = (1 ≤ k) × (k ≤ 3)
   NeedTells r Open = Passes r Open
@@ -336,7 +336,7 @@ module _ (on : Channels) (b : List ℕ) where
   row-readable : (r : Row) → rowOf (getD b 0 0) ≡ As r → Readable r
   row-readable r e = subst ListedTells e (row-tells (getD b 0 0)) .readable
 
-  pub row-needs : (r : Row) → 1 ≤ length b → rowOf (getD b 0 0) ≡ As r → NeedTells r (needRow on b r)
+  row-needs : (r : Row) → 1 ≤ length b → rowOf (getD b 0 0) ≡ As r → NeedTells r (needRow on b r)
   row-needs r some e =
       let Q : Need → Type 0 = NeedTells r in
       pick-ind Q (not (channelOn on (r .channel))) (λ _. (omega arith, omega arith))

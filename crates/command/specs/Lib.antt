@@ -4,4 +4,5 @@ pub mod Needs
 pub mod Decode
 pub mod Laws
 pub mod Facts
+pub mod Refused
 pub mod Prefix

@@ -1,13 +1,13 @@
 // Commands: a row an opcode, what a command's bytes need, and the decoder.
 ghost use mathlib.Core.Path.{_≡_};
+ghost use mathlib.Core.Bool.{true};
 ghost use Prim.Native.Nat.{_+_, _^_, _≤_, _<_};
 ghost use lib.ListN.{length, getD};
 ghost use Rattle.command.specs.Rows.{plain, headed, sizeOfCode, short, rowOf};
 ghost use Rattle.command.specs.Needs.{channelOn, cycleListed, wideCycle, addressBytes, lengthOf, groupCount, allFF, wholeWith, needData, needRow, needIn};
-ghost use Rattle.command.specs.Decode.{highFirst, addressIn, headOf, registerAddress, registerData, commandOf, crcGood, crcWrong, checkedAs, readOff, admit};
+ghost use Rattle.command.specs.Decode.{highFirst, addressIn, headOf, registerAddress, registerData, commandOf, crcGood, crcWrong, admit};
 ghost use Rattle.command.specs.Facts.{Reaches};
-ghost use Rattle.command.specs.Laws.{refusal};
-ghost use Rattle.command.specs.declared.Listed.the-variants.{As};
+ghost use Rattle.command.specs.Refused.{numberIn, refusedFixed, refusedShort, headedBytes, refusedHeaded, refusedReset};
 
 // The numbers of the decoder's refusals.
 const LENGTH_WRONG: u8 = 12;
@@ -467,60 +467,127 @@ fn crc_good(b: &[u8]) -> bool
     crc::crc_first(b, n) == b[n]
 }
 
-fn crc_wrong(checked: bool, has: bool, b: &[u8]) -> bool
+fn crc_wrong(checked: bool, b: &[u8]) -> bool
     requires { ⌜ 1 ≤ length (now b) ⌝ }
-    ensures { λ r. ⌜ r ≡ crcWrong checked has (now (b .entry)) ⌝ }
+    ensures { λ r. ⌜ r ≡ crcWrong checked true (now (b .entry)) ⌝ }
 {
     if !checked {
-        return false;
-    }
-    if !has {
         return false;
     }
     !crc_good(b)
 }
 
-fn checked_as(checked: bool, b: &[u8], r: Row) -> Decoded
-    requires { ⌜ (1 ≤ length (now b)) × Reaches r (now b) ⌝ }
-    ensures { λ d. ⌜ d ≡ checkedAs checked (now (b .entry)) r ⌝ }
+// What refuses a command, by one match over the opcode before its row is made: so the lengths are numbers that the compiler knows. Each function
+// gives the number of the refusal; 0: none.
+
+// Of n bytes in all.
+fn refused_fixed(on: bool, checked: bool, b: &[u8], n: usize) -> u8
+    requires { ⌜ 1 ≤ length (now b) ⌝ }
+    ensures { λ r. ⌜ r ≡ refusedFixed on checked (now (b .entry)) n ⌝ }
 {
-    if crc_wrong(checked, r.crc, b) {
-        return Decoded::Refused(CRC_REFUSED);
+    if !on {
+        return CHANNEL_DISABLED;
     }
-    Decoded::Known(command_of(r, b))
+    if b.len() != n {
+        return LENGTH_WRONG;
+    }
+    if crc_wrong(checked, b) {
+        return CRC_REFUSED;
+    }
+    0
 }
 
-// The number of the refusal of so many bytes that need this; 0: none.
-fn refusal(need: Need, n: usize) -> u8
-    ensures { λ r. ⌜ r ≡ refusal need n ⌝ }
+// A short access; c: its C1C0.
+fn refused_short(on: bool, checked: bool, b: &[u8], n: usize, c: u8) -> u8
+    requires { ⌜ 1 ≤ length (now b) ⌝ }
+    ensures { λ r. ⌜ r ≡ refusedShort on checked (now (b .entry)) n c ⌝ }
 {
-    match need {
-        Need::Whole(m) => {
-            if n != (m as usize) {
-                return LENGTH_WRONG;
-            }
-            0
-        }
-        Need::More(_) => LENGTH_WRONG,
-        Need::Open => {
-            if n < 2 {
-                return OPCODE_UNKNOWN;
-            }
-            0
-        }
-        Need::Never(k) => k,
+    if c == 2 {
+        return OPCODE_UNKNOWN;
     }
+    refused_fixed(on, checked, b, n)
 }
 
-fn admit_as(on: Channels, checked: bool, b: &[u8], r: Row) -> Decoded
-    requires { ⌜ (1 ≤ length (now b)) × (rowOf (getD (now b) 0 0) ≡ As r) ⌝ }
-    ensures { λ d. ⌜ d ≡ readOff checked (now (b .entry)) r (needRow on (now (b .entry)) r) ⌝ }
+fn headed_bytes(b: &[u8], wide: u8, writes: bool) -> usize
+    requires { ⌜ 4 ≤ length (now b) ⌝ }
+    ensures { λ n. ⌜ n ≡ headedBytes (now (b .entry)) wide writes ⌝ }
 {
-    let n = refusal(need_row(on, b, r), b.len());
-    if n != 0 {
-        return Decoded::Refused(n);
+    let mut n: usize = 9;
+    if b[1] == wide {
+        n = 13;
     }
-    checked_as(checked, b, r)
+    if writes {
+        n += length_of(b[2], b[3]) as usize;
+    }
+    n
+}
+
+// PUT_PC and PUT_NP: the cycle type first, then the length that the header tells.
+fn refused_headed(on: bool, checked: bool, b: &[u8], narrow: u8, wide: u8, writes: bool) -> u8
+    ensures { λ r. ⌜ r ≡ refusedHeaded on checked (now (b .entry)) narrow wide writes ⌝ }
+{
+    if !on {
+        return CHANNEL_DISABLED;
+    }
+    if b.len() < 2 {
+        return LENGTH_WRONG;
+    }
+    if (b[1] != narrow) & (b[1] != wide) {
+        return CYCLE_UNLISTED;
+    }
+    if b.len() < 4 {
+        return LENGTH_WRONG;
+    }
+    refused_fixed(on, checked, b, headed_bytes(b, wide, writes))
+}
+
+fn refused_reset(b: &[u8]) -> u8
+    ensures { λ r. ⌜ r ≡ refusedReset (now (b .entry)) ⌝ }
+{
+    if !all_ff(b) | (b.len() < 2) {
+        return OPCODE_UNKNOWN;
+    }
+    0
+}
+
+fn refused_in(on: Channels, checked: bool, b: &[u8]) -> u8
+    requires { ⌜ 1 ≤ length (now b) ⌝ }
+    ensures { λ r. ⌜ r ≡ numberIn (admit on checked (now (b .entry))) ⌝ }
+{
+    let op = b[0];
+    match op {
+        0x00 => refused_headed(on.peripheral, checked, b, 0x01, 0x03, true),
+        0x01 => refused_fixed(on.peripheral, checked, b, 2),
+        0x02 => refused_headed(on.peripheral, checked, b, 0x00, 0x02, false),
+        0x04 => refused_fixed(
+            on.wires,
+            checked,
+            b,
+            3 + 2 * (group_count(byte_at(b, 1)) as usize),
+        ),
+        0x05 => refused_fixed(on.wires, checked, b, 2),
+        0x21 => refused_fixed(true, checked, b, 4),
+        0x22 => refused_fixed(true, checked, b, 8),
+        0x25 => refused_fixed(true, checked, b, 2),
+        0x40..=0x43 => refused_short(on.peripheral, checked, b, 4, op % 4),
+        0x44..=0x47 => refused_short(
+            on.peripheral,
+            checked,
+            b,
+            4 + (size_of_code(op % 4) as usize),
+            op % 4,
+        ),
+        0x48..=0x4B => refused_short(on.peripheral, checked, b, 6, op % 4),
+        0x4C..=0x4F => refused_short(
+            on.peripheral,
+            checked,
+            b,
+            6 + (size_of_code(op % 4) as usize),
+            op % 4,
+        ),
+        0xFF => refused_reset(b),
+        _ => OPCODE_UNKNOWN,
+    }
 }
 
 // The command that the bytes are, or the number of the refusal: 12 to 16 in document 01's order.
@@ -530,9 +597,13 @@ pub fn admit(on: Channels, checked: bool, b: &[u8]) -> Decoded
     if b.len() == 0 {
         return Decoded::Refused(LENGTH_WRONG);
     }
+    let n = refused_in(on, checked, b);
+    if n != 0 {
+        return Decoded::Refused(n);
+    }
     let listed = row_of(b[0]);
     match listed {
-        Listed::As(r) => admit_as(on, checked, b, r),
+        Listed::As(r) => Decoded::Known(command_of(r, b)),
         Listed::Unlisted => Decoded::Refused(OPCODE_UNKNOWN),
     }
 }

@@ -7,17 +7,7 @@ returns : tie.Need-returns
 returns c = simp (not-true (c .before .before .args .checked) (c .if1 .taken))
 
 returns-2 : tie.Need-returns-2
-returns-2 c =
-    simp (not-false (c .before .before .before .args .checked) (c .before .if1 .left), not-true (c .before .before .before .args .has) (c .if2 .taken))
-
-returns-3 : tie.Need-returns-3
-returns-3 c =
-    simp (
-      not-false (c .before .before .before .before .args .checked) (c .before .before .if1 .left),
-      not-false
-          (c .before .before .before .before .args .has) (c .before .if2 .left),
-      c .crc-good .ensures,
-    )
+returns-2 c = simp (not-false (c .before .before .before .args .checked) (c .before .if1 .left), c .crc-good .ensures)
 
 pub crc-wrong-spec : {M : Type 1} → statement M
-crc-wrong-spec = tie.close (tie.spec returns returns-2 (λ c κs. search needs) returns-3)
+crc-wrong-spec = tie.close (tie.spec returns (λ c κs. search needs) returns-2)
