@@ -108,10 +108,6 @@ sent w capacity = sentFrom w (w .place) capacity
 abbrev pub groupAfter : ℕ → ℕ
 groupAfter i = groupAt (after senders (senderOf i))
 
--- the group of the row at a place that goes up, or else the one that comes next: how `groupAfter` is read from the table (docs/DECISIONS.md, 25)
-abbrev pub upOr : ℕ → ℕ → ℕ
-upOr at next = pick (rowAt at .down) next (rowAt at .index)
-
 -- "and their pending marks go"; the place follows the one just sent (01, Wires)
 abbrev pub leftBy : Wires → ℕ → Wires
 leftBy w k = withGroup w (groupAt k) (levelAt w (groupAt k)) false (groupAt (after senders k))

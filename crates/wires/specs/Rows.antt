@@ -15,7 +15,7 @@ use Rattle.base.specs.Bytes.{bit}
 use Rattle.wires.specs.Below.{every, some, at-every}
 use Rattle.wires.specs.Table.{table, rowAt, isGroup, upsBefore, senders, groupAt, senderOf, isUp}
 use Rattle.wires.specs.Turn.{after}
-use Rattle.wires.specs.Groups.{definedBit, settable, firstPlace, waiting, anyPending, groupAfter, upOr}
+use Rattle.wires.specs.Groups.{definedBit, settable, firstPlace, waiting, anyPending, groupAfter}
 use Rattle.wires.specs.declared.Wires.{Wires}
 
 -- ---- the rows
@@ -76,6 +76,20 @@ up-group i u =
       upto = leb-true i 6 (and-right (leb 4 i) _ e₂);
     }
 
+-- what holds of each up group holds of any
+pub by-group : (P : ℕ → Type 0) (i : ℕ) → isUp i ≡ true → P 4 → P 5 → P 6 → P i
+by-group P i u four five six = let g = up-group i u in go (i - 4) (omega (arith, g .from)) (omega (arith, g .upto))
+  where
+    go : (k : ℕ) → i ≡ k + 4 → k ≤ 2 → P i
+    go zero e h = subst P (sym e) four
+    go (suc zero) e h = subst P (sym e) five
+    go (suc (suc zero)) e h = subst P (sym e) six
+    go (suc (suc (suc k))) e h = absurd (omega arith)
+
+-- so one that is neither 4 nor 5 is 6: where a chain of guards ends
+pub last-group : (i : ℕ) → isUp i ≡ true → (i ≡ 4 → ⊥) → (i ≡ 5 → ⊥) → i ≡ 6
+last-group i u = by-group (λ (j : ℕ). (j ≡ 4 → ⊥) → (j ≡ 5 → ⊥) → j ≡ 6) i u (λ a b. absurd (a refl)) (λ a b. absurd (b refl)) (λ a b. refl)
+
 -- the going-round place is an up group
 pub place-group : (p : ℕ) → 4 ≤ p → p ≤ 6 → isUp p ≡ true
 place-group p h l = where-holds 7 (leb 4) isUp refl p (omega arith) (le-leb 4 p h)
@@ -119,22 +133,11 @@ some-next w (suc (suc (suc (suc zero)))) h = refl
 some-next w (suc (suc (suc (suc (suc zero))))) h = or-none (anyPending w)
 some-next w (suc (suc (suc (suc (suc (suc i)))))) h = absurd (omega arith)
 
--- the group that comes after each row, from the last row back
-abbrev pub afterRows : List ℕ
-afterRows =
-    let e = upOr 5 firstPlace in
-    let d = upOr 4 e in
-    let c = upOr 3 d in
-    let b = upOr 2 c in
-    upOr 1 b ∷ b ∷ c ∷ d ∷ e ∷ firstPlace ∷ []
-
-pub rows-back : {a b c d e : ℕ} → a ≡ upOr 1 b → b ≡ upOr 2 c → c ≡ upOr 3 d → d ≡ upOr 4 e → e ≡ upOr 5 firstPlace
-    → a ∷ b ∷ c ∷ d ∷ e ∷ firstPlace ∷ [] ≡ afterRows
-rows-back p q r s t = rw (p, q, r, s, t)
-
-pub after-rows : (i : ℕ) → isUp i ≡ true → getD afterRows (i - 2) 0 ≡ groupAfter i
+-- the group after each, going round
+pub group-next : (i : ℕ) → isUp i ≡ true → pick (eqb i 6) firstPlace (i + 1) ≡ groupAfter i
 unfolding after
-after-rows i u = eqb-true _ _ (where-holds 8 isUp (λ (k : ℕ). eqb (getD afterRows (k - 2) 0) (groupAfter k)) refl i (omega (arith, up-group i u .upto)) u)
+group-next i u =
+    eqb-true _ _ (where-holds 8 isUp (λ (k : ℕ). eqb (pick (eqb k 6) firstPlace (k + 1)) (groupAfter k)) refl i (omega (arith, up-group i u .upto)) u)
 
 -- ---- the tests on an index, a bit and a value
 

@@ -5,7 +5,6 @@ use mathlib.Core.List.{List, [], _∷_, _++_}
 use mathlib.Core.Path.{_≡_, refl, sym, ap, _∙_}
 use native.Mathlib.Omega.{arith}
 use lib.Dec.{leb}
-use lib.ListN.{getD}
 use borrow.Author.Tests.{leb-true}
 use Rattle.base.specs.Pick.{pick}
 use Rattle.wires.specs.Turn.{turn, after, sizes}
@@ -187,9 +186,9 @@ gone-on {w} {next} {capacity} {g} next′ h s more e q =
 pub gone-less : (w : Wires) (g h : Going) → isUp (g .group) ≡ true → 0 < g .left → h ≡ past w g → h .left < g .left
 gone-less w g h up more e = omega (arith, ap (λ (x : Going). x .left) e, step w g up more .less)
 
--- with the mark read at the group's row
-pub past-at : (w : Wires) (g h : Going) {row : ℕ} → row ≡ g .group - 2 → h ≡ goPast (getD (w .pending) row false) g → h ≡ past w g
-past-at w g h r e = e ∙ ap (λ (i : ℕ). goPast (getD (w .pending) i false) g) r
+-- with the mark as it was read
+pub past-at : (w : Wires) (g h : Going) {waits : Bool} → waits ≡ markAt w (g .group) → h ≡ goPast waits g → h ≡ past w g
+past-at w g h m e = e ∙ ap (λ (b : Bool). goPast b g) m
 
-pub takes-at : (w : Wires) (g : Going) {t b : Bool} {row : ℕ} → row ≡ g .group - 2 → t ≡ goTakes (getD (w .pending) row false) g → t ≡ b → takes w g ≡ b
-takes-at w g r e h = sym (e ∙ ap (λ (i : ℕ). goTakes (getD (w .pending) i false) g) r) ∙ h
+pub takes-at : (w : Wires) (g : Going) {t b waits : Bool} → waits ≡ markAt w (g .group) → t ≡ goTakes waits g → t ≡ b → takes w g ≡ b
+takes-at w g m e h = sym (e ∙ ap (λ (b : Bool). goTakes b g) m) ∙ h

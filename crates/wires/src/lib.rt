@@ -7,7 +7,7 @@ ghost use mathlib.Core.List.{_++_};
 ghost use Rattle.base.specs.Bytes.{put, low4, low8};
 ghost use Rattle.wires.specs.Table.{senders, senderOf, isUp};
 ghost use Rattle.wires.specs.Sending.{begun, goTakes, goPast, sending};
-ghost use Rattle.wires.specs.Groups.{senderSize, groupAfter, upOr, pairAt, freshWires, withGroup, levelAt, nibble, definedBit, settable, setWire, readWire, anyPending, wiresStatus, remarked, enabled, disabled, resetGroup, platformWires, inRow};
+ghost use Rattle.wires.specs.Groups.{senderSize, groupAfter, pairAt, freshWires, withGroup, levelAt, markAt, nibble, definedBit, settable, setWire, readWire, anyPending, wiresStatus, remarked, enabled, disabled, resetGroup, platformWires, inRow};
 ghost use Rattle.wires.specs.Transitions.{putting};
 ghost use Rattle.wires.specs.Course.{courseOf, counted, pastPair, withLevel, withLevels, Small};
 ghost use Rattle.wires.specs.Layout.{wiresBytes, wiresIn, holdsWires, levelsFit, marksIn, wordsIn, wiresOf};
@@ -60,6 +60,9 @@ pub const TABLE: [WireRow; 6] = [
 
 // Where going round begins: "from 4 itself".
 const FIRST_PLACE: u8 = 4;
+
+// The last group that goes up.
+const LAST_PLACE: u8 = 6;
 
 // The wires that the host drives, the defined bits of the down groups, in one word: bit k of group i is its bit i * 4 + k.
 const HOST_WIRES: u32 = 0x70007700;
@@ -132,37 +135,15 @@ fn senders() -> u8
     ups
 }
 
-// The place in the table of a group that goes up.
-fn row_of(group: u8) -> usize
-    requires { ⌜ isUp group ≡ true ⌝ }
-    ensures { λ r. ⌜ (r ≡ group - 2) × (2 ≤ group) × (r < 6) ⌝ }
-{
-    (group - 2) as usize
-}
-
-// The group of a row that goes up, or else the one that comes next.
-fn up_or(at: usize, next: u8) -> u8
-    requires { ⌜ at < 6 ⌝ }
-    ensures { λ r. ⌜ r ≡ upOr at next ⌝ }
-{
-    if TABLE[at].down {
-        return next;
-    }
-    TABLE[at].index
-}
-
-// The next group that goes up, going round: after the last row the first place. The compiler knows every entry.
+// The next group that goes up, going round: after the last the first place.
 fn group_after(group: u8) -> u8
     requires { ⌜ isUp group ≡ true ⌝ }
     ensures { λ r. ⌜ r ≡ groupAfter group ⌝ }
 {
-    let e = up_or(5, FIRST_PLACE);
-    let d = up_or(4, e);
-    let c = up_or(3, d);
-    let b = up_or(2, c);
-    let a = up_or(1, b);
-    let next = [a, b, c, d, e, FIRST_PLACE];
-    next[row_of(group)]
+    if group == LAST_PLACE {
+        return FIRST_PLACE;
+    }
+    group + 1
 }
 
 // A group is one entry of a packet.
@@ -247,13 +228,18 @@ impl Course {
     }
 }
 
-// Index and data of a group, "with all defined bits valid".
+// Index and data of a group, "with all defined bits valid"; the compiler knows each row.
 pub fn pair(group: u8, level: u8) -> [u8; 2]
     requires { ⌜ (isUp group ≡ true) × (level < 16) ⌝ }
     ensures { λ r. ⌜ r ≡ pairAt group level ⌝ }
 {
-    let valid = TABLE[row_of(group)].defined;
-    [group, valid * 16 + level]
+    if group == 4 {
+        return [group, TABLE[2].defined * 16 + level];
+    }
+    if group == 5 {
+        return [group, TABLE[3].defined * 16 + level];
+    }
+    [group, TABLE[4].defined * 16 + level]
 }
 
 pub fn defined_bit(index: u32, bit: u32) -> bool
@@ -385,6 +371,34 @@ impl Wires {
         ((self.level[at] >> bit) % 2) as u32
     }
 
+    // The mark of a group that goes up. Where the compiler knows each index, the arrays stay in registers; so in `unmarked`.
+    fn waits(self, group: u8) -> bool
+        requires { ⌜ isUp group ≡ true ⌝ }
+        ensures { λ r. ⌜ r ≡ markAt self group ⌝ }
+    {
+        if group == 4 {
+            return self.pending[2];
+        }
+        if group == 5 {
+            return self.pending[3];
+        }
+        self.pending[4]
+    }
+
+    // Such a group's mark goes, and the next packet begins with this place.
+    fn unmarked(self, group: u8, place: u8) -> Wires
+        requires { ⌜ isUp group ≡ true ⌝ }
+        ensures { λ r. ⌜ r ≡ withGroup self group (levelAt self group) false place ⌝ }
+    {
+        if group == 4 {
+            return self.with(4, self.level[2], false, place);
+        }
+        if group == 5 {
+            return self.with(5, self.level[3], false, place);
+        }
+        self.with(6, self.level[4], false, place)
+    }
+
     pub fn send(self, capacity: u32) -> Sending
         requires { ⌜ (4 ≤ self .place) × (self .place ≤ 6) × (capacity ≤ 64) ⌝ }
         ensures { λ r. ⌜ r ≡ sending self capacity ⌝ }
@@ -393,11 +407,10 @@ impl Wires {
         let mut next = self;
         let mut g = go_round(place, capacity);
         while 0 < g.left {
-            let at = row_of(g.group);
-            let waits = self.pending[at];
+            let waits = self.waits(g.group);
             let on = g.past(waits);
             if g.takes(waits) {
-                next = next.with(g.group as usize, next.level[at], false, on.group);
+                next = next.unmarked(g.group, on.group);
             }
             g = on;
         }

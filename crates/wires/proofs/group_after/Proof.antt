@@ -1,27 +1,20 @@
-use Prim.Native.Nat.{ℕ}
-use mathlib.Core.Path.{ap₂, _∙_}
-use mathlib.Core.List.{List}
-use lib.ListN.{getD}
-use Rattle.wires.specs.Rows.{rows-back, after-rows}
+use mathlib.Core.Path.{refl, _∙_}
+use native.Mathlib.Omega.{arith}
+use borrow.Author.Tests.{eq-eqb, ne-eqb}
+use Rattle.base.specs.Pick.{taken, passed}
+use Rattle.wires.specs.Rows.{up-group, group-next}
 use borrow.Author.Needs.{needs}
 use Rattle.wires.proofs.group_after.Statement.{statement}
 use Rattle.wires.proofs.group_after.Tie as tie
 
 returns : tie.Need-returns
-returns c = let e = c .before .before .before .before .before in
-    let rows = rows-back (c .before .up-or5 .ensures) (c .before .before .up-or4 .ensures) (c .before .before .before .up-or3 .ensures)
-    (c .before .before .before .before .up-or2 .ensures) (e .up-or .ensures) in
-    ap₂ (λ (l : List ℕ) (i : ℕ). getD l i 0) rows (c .row-of .ensures .0) ∙ after-rows (e .before .args .group) (e .before .pre)
+returns c = taken _ _ (eq-eqb _ _ (c .if1 .taken)) refl ∙ group-next (c .before .args .group) (c .before .pre)
+
+add-result : tie.Need-add-result
+add-result c = let u = up-group (c .before .args .group) (c .before .pre) .upto in search needs
+
+returns-2 : tie.Need-returns-2
+returns-2 c = passed _ _ (ne-eqb _ _ (c .if1 .left)) refl ∙ group-next (c .before .args .group) (c .before .pre)
 
 pub group-after-spec : {M : Type 1} → statement M
-group-after-spec =
-    tie.close
-    (tie.spec
-    (λ c κs. search needs)
-    (λ c κs. search needs)
-    (λ c κs. search needs)
-    (λ c κs. search needs)
-    (λ c κs. search needs)
-    (λ c κs. search needs)
-    (λ c. search needs)
-    returns)
+group-after-spec = tie.close (tie.spec returns add-result returns-2)

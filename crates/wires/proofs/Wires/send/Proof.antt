@@ -2,10 +2,9 @@ use Prim.Native.Nat.{ℕ, _-_}
 use mathlib.Core.Bool.{false}
 use mathlib.Core.Path.{_≡_, sym, ap, ap₂, _∙_}
 use native.Mathlib.Omega.{arith}
-use lib.ListN.{getD}
 use Rattle.wires.specs.Turn.{sizes}
 use Rattle.wires.specs.Rows.{place-group}
-use Rattle.wires.specs.Groups.{senderSize, sent, afterSent, withGroup}
+use Rattle.wires.specs.Groups.{levelAt, senderSize, sent, afterSent, withGroup}
 use Rattle.wires.specs.Sending.{Gone, gone-first, gone-on, gone-less, turnOf, past, past-at, takes-at, left-taken, left-passed, left-over, sizes-over}
 use Rattle.wires.specs.declared.Wires.{Wires}
 use Rattle.wires.specs.declared.Going.{Going}
@@ -14,64 +13,63 @@ use Rattle.wires.proofs.Wires.send.Statement.{statement}
 use Rattle.wires.proofs.Wires.send.Tie as tie
 
 abbrev Inv-loop : tie.InvT-loop
-Inv-loop capacity self place next₀ g₀ next g = Gone self capacity next g
+Inv-loop self capacity place next₀ g₀ next g = Gone self capacity next g
 
 abbrev μ-loop : tie.MeasureT-loop
-μ-loop capacity self place next₀ g₀ next g = g .left
+μ-loop self capacity place next₀ g₀ next g = g .left
 
 loop-holds : tie.Need-loop-holds Inv-loop μ-loop
 loop-holds c =
-    let w = c .before .args .t1 in
+    let w = c .before .args .self in
     gone-first w (c .before .args .capacity) _ (place-group (w .place) (c .before .pre .0) (c .before .pre .1)) (c .go-round .ensures)
 
-row-of-requires : tie.Need-row-of-requires Inv-loop μ-loop
-row-of-requires c κs = c .before .before .loop .inv .up
+waits-requires : tie.Need-waits-requires Inv-loop μ-loop
+waits-requires c κs = c .before .before .loop .inv .up
 
 past-requires : tie.Need-past-requires Inv-loop μ-loop
-past-requires c κs = (c .before .before .before .before .loop .inv .up, c .before .before .if1 .taken)
+past-requires c κs = (c .before .before .before .loop .inv .up, c .before .if1 .taken)
 
-with-requires : tie.Need-with-requires Inv-loop μ-loop
-with-requires c κs = let r = c .before .before .before .before .before .before .row-of .ensures in (r .1, omega (arith, r .0, r .2))
+unmarked-requires : tie.Need-unmarked-requires Inv-loop μ-loop
+unmarked-requires c κs = c .before .before .before .before .before .before .loop .inv .up
 
 loop-less : tie.Need-loop-less Inv-loop μ-loop
-loop-less c = let s = c .before .before .before .before .before .before .before in
+loop-less c = let s = c .before .before .before .before in
     let l = s .before .before .before .loop in
-    let w = s .before .before .before .before .before .args .t1 in
-    gone-less w (l .g) _ (l .inv .up) (s .before .if1 .taken)
-    (past-at w (l .g) _ (s .row-of .ensures .0) (c .before .before .before .before .before .past .ensures))
+    let w = s .before .before .before .before .before .args .self in
+    gone-less w (l .g) _ (l .inv .up) (s .before .if1 .taken) (past-at w (l .g) _ (s .waits .ensures) (c .before .before .before .past .ensures))
 
 loop-again : tie.Need-loop-again Inv-loop μ-loop
-loop-again c = let s = c .before .before .before .before .before .before .before in
+loop-again c = let s = c .before .before .before .before in
     let l = s .before .before .before .loop in
-    let w = s .before .before .before .before .before .args .t1 in
-    let r = s .row-of .ensures .0 in
-    let e = past-at w (l .g) _ r (c .before .before .before .before .before .past .ensures) in
+    let w = s .before .before .before .before .before .args .self in
+    let m = s .waits .ensures in
+    let e = past-at w (l .g) _ m (c .before .before .before .past .ensures) in
     gone-on _ _ (l .inv) (s .before .if1 .taken) e
     (ap (λ (v : Wires). afterSent v (turnOf w (past w (l .g))))
-    (c .with .ensures ∙ ap₂ (λ (i : ℕ) (h : Going). withGroup (l .next) (l .g .group) (getD (l .next .level) i 0) false (h .group)) r e)
+    (c .unmarked .ensures ∙ ap (λ (h : Going). withGroup (l .next) (l .g .group) (levelAt (l .next) (l .g .group)) false (h .group)) e)
     ∙ left-taken w (l .g) (l .inv .up) (s .before .if1 .taken) (l .next)
-    (takes-at w (l .g) r (c .before .before .before .before .takes .ensures) (c .before .before .before .if2 .taken)))
+    (takes-at w (l .g) m (c .before .before .takes .ensures) (c .before .if2 .taken)))
 
 loop-less-2 : tie.Need-loop-less-2 Inv-loop μ-loop
-loop-less-2 c = let s = c .before .before .before .before in
+loop-less-2 c = let s = c .before .before .before in
     let l = s .before .before .before .loop in
-    let w = s .before .before .before .before .before .args .t1 in
-    gone-less w (l .g) _ (l .inv .up) (s .before .if1 .taken) (past-at w (l .g) _ (s .row-of .ensures .0) (c .before .before .past .ensures))
+    let w = s .before .before .before .before .before .args .self in
+    gone-less w (l .g) _ (l .inv .up) (s .before .if1 .taken) (past-at w (l .g) _ (s .waits .ensures) (c .before .before .past .ensures))
 
 loop-again-2 : tie.Need-loop-again-2 Inv-loop μ-loop
-loop-again-2 c = let s = c .before .before .before .before in
+loop-again-2 c = let s = c .before .before .before in
     let l = s .before .before .before .loop in
-    let w = s .before .before .before .before .before .args .t1 in
-    let r = s .row-of .ensures .0 in
-    gone-on _ _ (l .inv) (s .before .if1 .taken) (past-at w (l .g) _ r (c .before .before .past .ensures))
-    (left-passed w (l .g) (l .inv .up) (s .before .if1 .taken) (l .next) (takes-at w (l .g) r (c .before .takes .ensures) (c .if2 .left)))
+    let w = s .before .before .before .before .before .args .self in
+    let m = s .waits .ensures in
+    gone-on _ _ (l .inv) (s .before .if1 .taken) (past-at w (l .g) _ m (c .before .before .past .ensures))
+    (left-passed w (l .g) (l .inv .up) (s .before .if1 .taken) (l .next) (takes-at w (l .g) m (c .before .takes .ensures) (c .if2 .left)))
 
 sub-count : tie.Need-sub-count Inv-loop μ-loop
 sub-count c = let l = c .before .before .before .loop in
-    omega (arith, l .inv .room, sizes-over (c .before .before .before .before .before .args .t1) (l .g) (omega (arith, c .before .if1 .left)))
+    omega (arith, l .inv .room, sizes-over (c .before .before .before .before .before .args .self) (l .g) (omega (arith, c .before .if1 .left)))
 
 returns : tie.Need-returns Inv-loop μ-loop
-returns c = let w = c .before .before .before .before .before .args .t1 in
+returns c = let w = c .before .before .before .before .before .args .self in
     let n = c .before .before .before .before .before .args .capacity in
     let l = c .before .before .before .loop in
     let z : l .g .left ≡ 0 = omega (arith, c .before .if1 .left) in
@@ -87,13 +85,10 @@ send-spec =
     μ-loop
     (λ c κs. search needs)
     loop-holds
-    row-of-requires
-    (λ c. search needs)
+    waits-requires
     past-requires
     (λ c κs. search needs)
-    (λ c. search needs)
-    (λ c. search needs)
-    with-requires
+    unmarked-requires
     loop-less
     loop-again
     loop-less-2
