@@ -4,7 +4,7 @@ use mathlib.Core.Bool.{Bool, true, false, _&&_, true≢false}
 use mathlib.Core.List.{List, [], _∷_, _++_}
 use mathlib.Core.Path.{_≡_, refl, sym, ap, ap₂, subst, _∙_}
 use native.Mathlib.Omega.{arith}
-use lib.ListN.{getD, length, take, drop, length-append, length-drop}
+use lib.ListN.{length, take, drop, length-append, length-drop}
 use lib.Seq.{length-take-le}
 use lib.Dec.{ltb}
 use borrow.Author.Tests.{ltb-true, ltb-false}
@@ -13,7 +13,7 @@ use Rattle.base.specs.Pick.{pick, and-left, and-right}
 use Rattle.base.specs.Bytes.{low2, put, over, copied, put-none, put-over, put-put, put-first, take-over, over-over, tail-lent, tail-back, over-take, drop-over, over-parts, copied-over}
 use Rattle.crc.specs.Crc.{crc}
 use Rattle.wires.specs.Table.{groupAt, senderOf, isUp}
-use Rattle.wires.specs.Groups.{levelAt, groupByte, pairAt, pairBytes, packetBytes}
+use Rattle.wires.specs.Groups.{levelAt, markAt, groupByte, pairAt, pairBytes, packetBytes}
 use Rattle.wires.specs.Rows.{up-group}
 use Rattle.wires.specs.Sending.{begun, turnOf, goTakes, takes, past, nowTaken, step, begun-turn, turn-over, turn-closed}
 use Rattle.wires.specs.Sent.{packet-length}
@@ -105,11 +105,11 @@ pair-taken g waits level at l l₁ pair e ep h =
     let z : pairNow g waits level ≡ pairAt (g .group) level = ap (λ (b : Bool). pick b (pairAt (g .group) level) []) e in
     (h ∙ ap (λ (p : List ℕ). put at p l) (ep ∙ sym z), omega (arith, ap length z))
 
--- over the wires it is what the packet takes now; mark and level are read at the group's row
-pub pair-is : (w : Wires) (g : Going) (row : ℕ) → isUp (g .group) ≡ true → row ≡ g .group - 2
-    → pairNow g (getD (w .pending) row false) (getD (w .level) row 0) ≡ pairBytes w (nowTaken w g)
+-- over the wires, with the group's mark and level, it is what the packet takes now
+pub pair-is : (w : Wires) (g : Going) {waits : Bool} {level : ℕ} → isUp (g .group) ≡ true → waits ≡ markAt w (g .group) → level ≡ levelAt w (g .group)
+    → pairNow g waits level ≡ pairBytes w (nowTaken w g)
 unfolding pairBytes
-pair-is w g row up e = ap (λ (i : ℕ). pairNow g (getD (w .pending) i false) (getD (w .level) i 0)) e ∙ go (takes w g)
+pair-is w g up m l = ap₂ (pairNow g) m l ∙ go (takes w g)
   where
     go : (b : Bool) → pick b (pairAt (g .group) (levelAt w (g .group))) [] ≡ pairBytes w (pick b (senderOf (g .group) ∷ []) [])
     go true = ap (λ (i : ℕ). pairAt i (levelAt w i)) (sym (up-group (g .group) up .back))
@@ -201,9 +201,3 @@ data-by dst dst′ src part at n h ep e =
 
 pub by-kept : (k k′ : Kept) (dst dst′ src : List ℕ) → k ≡ k′ → dst′ ≡ over (keptBytes k′ src) dst → dst′ ≡ over (keptBytes k src) dst
 by-kept k k′ dst dst′ src e h = h ∙ ap (λ (z : Kept). over (keptBytes z src) dst) (sym e)
-
--- a packet over the wires that these are
-pub by-groups : (w w′ : Wires) (p : Packet) (l l₁ : List ℕ) (code n : ℕ) → w′ ≡ w
-    → (l₁ ≡ over (code ∷ packetBytes w′ p) l) × (n ≡ length (code ∷ packetBytes w′ p)) × (n ≤ 260)
-    → (l₁ ≡ over (code ∷ packetBytes w p) l) × (n ≡ length (code ∷ packetBytes w p)) × (n ≤ 260)
-by-groups w w′ p l l₁ code n e h = subst (λ (z : Wires). (l₁ ≡ over (code ∷ packetBytes z p) l) × (n ≡ length (code ∷ packetBytes z p)) × (n ≤ 260)) e h

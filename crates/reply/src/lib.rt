@@ -9,7 +9,6 @@ use rules::Reply;
 use rules::Response;
 use wires::Going;
 use wires::Packet;
-use wires::Wires;
 use wires::Words;
 ghost use mathlib.Core.Path.{_≡_};
 ghost use mathlib.Core.Bool.{true};
@@ -78,17 +77,18 @@ fn put_pair(reply: &mut [u8], at: usize, g: Going, waits: bool, level: u8) -> us
 }
 
 // The response byte and a wire packet, group by group over the wires as they were, until it is full.
-fn put_groups(reply: &mut [u8], code: u8, w: Wires, p: Packet) -> usize
-    requires { ⌜ (replyLength ≤ length (now reply)) × PacketFits w p ⌝ }
-    ensures { λ r. ⌜ (now (reply .exit) ≡ over (code ∷ packetBytes w p) (now (reply .entry))) × (r ≡ length (code ∷ packetBytes w p)) × (r ≤ 260) ⌝ }
+fn put_groups(reply: &mut [u8], code: u8, w: Words, p: Packet) -> usize
+    requires { ⌜ (replyLength ≤ length (now reply)) × PacketFits (wiresOf w) p ⌝ }
+    ensures { λ r. ⌜
+        (now (reply .exit) ≡ over (code ∷ packetBytes (wiresOf w) p) (now (reply .entry)))
+        × (r ≡ length (code ∷ packetBytes (wiresOf w) p)) × (r ≤ 260) ⌝ }
 {
     base::put_at(reply, 0, &[code, p.count - 1]);
     let mut at: usize = 2;
     let mut g = wires::go_round(p.place, p.count as u32);
     while (0 < g.left) & (0 < g.room) {
-        let row = (g.group - 2) as usize;
-        let waits = w.pending[row];
-        at = put_pair(reply, at, g, waits, w.level[row]);
+        let waits = w.waits(g.group);
+        at = put_pair(reply, at, g, waits, w.level(g.group));
         g = g.past(waits);
     }
     at
@@ -117,7 +117,7 @@ fn put_body(reply: &mut [u8], code: u8, body: Body, w: Words, reads: &[u8]) -> u
         }
         Body::Word(v) => put_word(reply, code, v),
         Body::Piece(c) => put_piece(reply, code, c, reads),
-        Body::Groups(p) => put_groups(reply, code, w.wires(), p),
+        Body::Groups(p) => put_groups(reply, code, w, p),
     }
 }
 

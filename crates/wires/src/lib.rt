@@ -561,30 +561,20 @@ impl Words {
         }
     }
 
-    pub fn wires(self) -> Wires
-        ensures { λ r. ⌜ r ≡ wiresOf self ⌝ }
+    // The mark of a group that goes up: the high word has group 4's first.
+    pub fn waits(self, group: u8) -> bool
+        requires { ⌜ isUp group ≡ true ⌝ }
+        ensures { λ r. ⌜ r ≡ markAt (wiresOf self) group ⌝ }
     {
-        let low = self.low;
-        let high = self.high;
-        Wires {
-            level: [
-                (low % 256) as u8,
-                (low / 256 % 256) as u8,
-                (low / 65536 % 256) as u8,
-                (low / 16777216 % 256) as u8,
-                (low / 4294967296 % 256) as u8,
-                (low / 1099511627776 % 256) as u8,
-            ],
-            pending: [
-                low / 281474976710656 % 256 == 1,
-                low / 72057594037927936 % 256 == 1,
-                high % 256 == 1,
-                high / 256 % 256 == 1,
-                high / 65536 % 256 == 1,
-                high / 16777216 % 256 == 1,
-            ],
-            place: self.place,
-        }
+        (self.high >> (((group - 4) as u32) * 8)) % 256 == 1
+    }
+
+    // Its level: the low word has group 2's first.
+    pub fn level(self, group: u8) -> u8
+        requires { ⌜ isUp group ≡ true ⌝ }
+        ensures { λ r. ⌜ r ≡ levelAt (wiresOf self) group ⌝ }
+    {
+        ((self.low >> (((group - 2) as u32) * 8)) % 256) as u8
     }
 }
 

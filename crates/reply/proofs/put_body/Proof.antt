@@ -1,11 +1,9 @@
-use mathlib.Core.Path.{refl, sym, subst, _∙_}
+use mathlib.Core.Path.{refl, subst, _∙_}
 use Rattle.base.specs.Bytes.{put-first}
 use Rattle.wires.specs.Layout.{wiresOf}
-use Rattle.wires.specs.Sending.{PacketFits}
-use Rattle.wires.specs.declared.Wires.{Wires}
 use Rattle.rules.specs.Rules.Fits.{BodyFits}
 use Rattle.rules.specs.declared.Body.{Body}
-use Rattle.reply.specs.Written.{by-body, by-groups, piece-length}
+use Rattle.reply.specs.Written.{by-body, piece-length}
 use native.Mathlib.Omega.{arith}
 use borrow.Author.Needs.{needs}
 use Rattle.reply.proofs.put_body.Statement.{statement}
@@ -18,13 +16,9 @@ put-piece-requires c κs =
     (c .before .before .before .before .before .before .pre .0, c .before .before .before .before .before .before .pre .1, f .most, f .end)
 
 put-groups-requires : tie.Need-put-groups-requires
-put-groups-requires c κs = (
-  c .before .before .before .before .before .before .before .pre .0,
-  subst (λ (z : Wires). PacketFits z (c .before .before .before .body3 .given .0 .0))
-      (sym (c .wires .ensures))
-      (subst (λ (z : Body). BodyFits z (wiresOf (c .before .before .before .before .before .before .before .args .w)))
-      (c .before .before .before .body3 .given .1) (c .before .before .before .before .before .before .before .pre .2)),
-)
+put-groups-requires c κs =
+    let s = c .before .before .before .before .before .before in
+    (s .pre .0, subst (λ (z : Body). BodyFits z (wiresOf (s .args .w))) (c .before .before .body3 .given .1) (s .pre .2))
 
 returns : tie.Need-returns
 returns c =
@@ -48,10 +42,8 @@ returns-3 c =
 
 returns-4 : tie.Need-returns-4
 returns-4 c =
-    let g = c .before .before .before .before .before .before .body3 .given in
-    let p = by-groups (wiresOf (c .before .before .before .before .before .before .before .before .before .before .args .w)) _ (g .0 .0) _ _
-    (c .before .before .before .before .before .before .before .before .before .before .args .code) _ (c .before .before .before .wires .ensures)
-    (c .before .before .put-groups .ensures) in by-body _ _ _ _ _ _ _ _ (g .1) (p .0) (p .1) (p .2)
+    let p = c .before .before .put-groups .ensures in
+    by-body _ _ _ _ _ _ _ _ (c .before .before .before .before .before .body3 .given .1) (p .0) (p .1) (p .2)
 
 pub put-body-spec : {M : Type 1} → statement M
 put-body-spec =
@@ -65,7 +57,6 @@ put-body-spec =
     (λ c. search needs)
     put-piece-requires
     (λ c. search needs)
-    (λ c κs. search needs)
     put-groups-requires
     (λ c. search needs)
     returns
