@@ -16,11 +16,13 @@ use Rattle.state.specs.Sound.{sound}
 use Rattle.state.specs.Layout.{stateLength, packed, unpacked}
 use Rattle.state.specs.declared.State.{State}
 use Rattle.rules.specs.Rules.Channel.{Channel, peripheral, wires, Part, Change, nextOf, outOf}
+use Rattle.rules.specs.Rules.Numbers.{nonFatalError}
 use Rattle.rules.specs.Rules.Calls.{kept}
 use Rattle.rules.specs.declared.Kept.the-variants as K
 use Rattle.rules.specs.declared.Body.{Body}
 use Rattle.rules.specs.declared.Out.{Out}
-use Rattle.rules.specs.declared.Response.the-variants.{Accept}
+use Rattle.rules.specs.declared.Body.the-variants.{Nothing}
+use Rattle.rules.specs.declared.Response.the-variants.{Accept, NonFatal}
 use Rattle.rules.specs.declared.Reply.the-variants.{Silent, Said}
 use Rattle.rules.specs.declared.Plan.{Plan}
 use Rattle.engine.specs.declared.Outgoing.{Outgoing}
@@ -89,6 +91,10 @@ Stays s p = eqb (p .number) 0 ≡ false → p .next ≡ s
 -- a plan that shows: ACCEPT, this body, this status (01, Replies and refusals: "Reply: response byte")
 abbrev pub showing : Body → ℕ → Outgoing
 showing body word = record { number = 0; reply = Said Accept body word; kept = K.Nothing }
+
+-- a forbidden configuration value: NON_FATAL, this status (01, Replies and refusals: number 2)
+abbrev pub forbidding : ℕ → Outgoing
+forbidding word = record { number = nonFatalError; reply = Said NonFatal Nothing word; kept = K.Nothing }
 
 -- a silent plan: "none; unchanged", or a RESET's "0 bytes" (01, Replies and refusals)
 abbrev pub quiet : ℕ → Outgoing

@@ -9,12 +9,11 @@ use rules::Body;
 use rules::Kept;
 use rules::Reply;
 use rules::Response;
-use state::State;
 ghost use mathlib.Core.Path.{_≡_};
+ghost use Rattle.state.specs.Layout.{unpacked};
 ghost use Rattle.rules.specs.Rules.Calls.{kept};
-ghost use Rattle.rules.specs.Rules.Lift.{nonFatal};
 ghost use Rattle.rules.specs.Rules.Exchange.{channelsOf, reconfigured, setConfiguration, reset008h};
-ghost use Rattle.engine.specs.Carried.{Packs, carried, carriedBy, outgoing};
+ghost use Rattle.engine.specs.Carried.{Loadable, carried, carriedBy, forbidding};
 
 // Which channels are on.
 pub(crate) fn channels(c: Config) -> Channels
@@ -28,47 +27,46 @@ pub(crate) fn channels(c: Config) -> Channels
     }
 }
 
-// The registers' bytes, and those of a channel whose enable bit has an edge.
-fn reconfigure(s: State, c: Config, state: &mut [u8])
-    requires { ⌜ Packs s (now state) ⌝ }
-    ensures { λ _. ⌜ now (state .exit) ≡ kept (reconfigured s c) (now (state .entry)) ⌝ }
+// The registers' bytes, and those of a channel whose enable bit has an edge: each reads its own where they stand.
+fn reconfigure(c: Config, next: Config, state: &mut [u8])
+    requires { ⌜ Loadable (now state) × (c ≡ unpacked (now state) .config) ⌝ }
+    ensures { λ _. ⌜ now (state .exit) ≡ kept (reconfigured (unpacked (now (state .entry))) next) (now (state .entry)) ⌝ }
 {
-    let was = channels(s.config);
-    let is = channels(c);
-    c.pack(state);
-    peripheral_channel::store_edge(was.peripheral, is.peripheral, s.peripheral, state);
-    wires_channel::store_edge(was.wires, is.wires, s.wires, state);
+    let was = channels(c);
+    let is = channels(next);
+    next.pack(state);
+    peripheral_channel::store_edge(was.peripheral, is.peripheral, state);
+    wires_channel::store_edge(was.wires, is.wires, state);
 }
 
-fn non_fatally(s: State) -> Outgoing
-    ensures { λ r. ⌜ r ≡ outgoing (nonFatal s) ⌝ }
+fn non_fatally(word: u32) -> Outgoing
+    ensures { λ r. ⌜ r ≡ forbidding word ⌝ }
 {
     Outgoing {
         number: rules::NON_FATAL,
-        reply: Reply::Said(Response::NonFatal, Body::Nothing, s.status()),
+        reply: Reply::Said(Response::NonFatal, Body::Nothing, word),
         kept: Kept::Nothing,
     }
 }
 
-pub(crate) fn set(s: State, address: u32, val: u32, state: &mut [u8]) -> Outgoing
-    requires { ⌜ Packs s (now state) ⌝ }
-    ensures { λ r. ⌜ carried r (now (state .exit)) ≡ carriedBy (setConfiguration s address val) (now (state .entry)) ⌝ }
+pub(crate) fn set(c: Config, address: u32, val: u32, state: &mut [u8]) -> Outgoing
+    requires { ⌜ Loadable (now state) × (c ≡ unpacked (now state) .config) ⌝ }
+    ensures { λ r. ⌜ carried r (now (state .exit)) ≡ carriedBy (setConfiguration (unpacked (now (state .entry))) address val) (now (state .entry)) ⌝ }
 {
-    if registers::forbidden(address, val) {
-        return non_fatally(s);
-    }
-    let c = s.config;
-    reconfigure(s, c.write(address, val), state);
     // The reply shows the status before the write.
-    crate::shown(Body::Nothing, s.status())
+    let word = state::status_in(state);
+    if registers::forbidden(address, val) {
+        return non_fatally(word);
+    }
+    reconfigure(c, c.write(address, val), state);
+    crate::shown(Body::Nothing, word)
 }
 
 // RESET: register 008h and nothing else.
-pub(crate) fn reset_008(s: State, state: &mut [u8])
-    requires { ⌜ Packs s (now state) ⌝ }
-    ensures { λ _. ⌜ now (state .exit) ≡ kept (reset008h s) (now (state .entry)) ⌝ }
+pub(crate) fn reset_008(c: Config, state: &mut [u8])
+    requires { ⌜ Loadable (now state) × (c ≡ unpacked (now state) .config) ⌝ }
+    ensures { λ _. ⌜ now (state .exit) ≡ kept (reset008h (unpacked (now (state .entry)))) (now (state .entry)) ⌝ }
 {
-    let c = s.config;
     let r010 = c.r010;
     let r020 = c.r020;
     let next = Config {

@@ -21,13 +21,13 @@ use rules::WiresChange;
 use state::State;
 use wires::Wires;
 ghost use mathlib.Core.Path.{_≡_};
-ghost use Prim.Native.Nat.{_≤_};
-ghost use lib.ListN.{length};
+ghost use Prim.Native.Nat.{_+_, _*_, _≤_};
+ghost use lib.ListN.{length, take, drop};
 ghost use Rattle.command.specs.Facts.{CommandFits, PeripheralFits, WiresFits};
 ghost use Rattle.state.specs.Layout.{stateLength, unpacked};
 ghost use Rattle.rules.specs.Rules.Reset.{espiReset, platformReset};
 ghost use Rattle.rules.specs.Rules.Peripheral.{succeeded, answerTo, taken};
-ghost use Rattle.rules.specs.Rules.Wires.{setting};
+ghost use Rattle.rules.specs.Rules.Wires.{Act, setting};
 ghost use Rattle.rules.specs.Rules.Channel.{peripheral, wires, actOf};
 ghost use Rattle.rules.specs.Rules.Lift.{withStatus, lift};
 ghost use Rattle.rules.specs.Rules.Exchange.{wasReset, acted, decide, exchange};
@@ -118,6 +118,32 @@ fn reset_in(state: &mut [u8])
 }
 
 // Where a PUT_VWIRE has lowered PLTRST# the platform reset follows its reply, which is made by then.
+fn put_wires(c: Config, n: u32, b: &[u8], state: &mut [u8]) -> Outgoing
+    requires { ⌜ Loadable (now state) × (c ≡ unpacked (now state) .config) × (2 + n * 2 ≤ length (now b)) ⌝ }
+    ensures { λ r. ⌜
+        carried r (now (state .exit))
+        ≡ carriedBy (acted wires (unpacked (now (state .entry))) (Act.puts n (take (n * 2) (drop 2 (now (b .entry)))))) (now (state .entry)) ⌝ }
+{
+    let w = Wires::unpack(state);
+    let was = wires_channel::pltrst(w);
+    let x = wires_channel::put_vwire(c, w, n, b);
+    let is = wires_channel::pltrst(x.next);
+    let out = lift_wires(x, state);
+    if was & !is {
+        reset_in(state);
+    }
+    out
+}
+
+// A GET_VWIRE leaves every level.
+fn send_wires(c: Config, state: &mut [u8]) -> Outgoing
+    requires { ⌜ Loadable (now state) × (c ≡ unpacked (now state) .config) ⌝ }
+    ensures { λ r. ⌜ carried r (now (state .exit)) ≡ carriedBy (acted wires (unpacked (now (state .entry))) Act.gets) (now (state .entry)) ⌝ }
+{
+    lift_wires(wires_channel::get_vwire(c, Wires::unpack(state)), state)
+}
+
+// The two are apart, so that a GET_VWIRE pays nothing for PLTRST#.
 fn act_wires(c: Config, o: WiresCommand, b: &[u8], state: &mut [u8]) -> Outgoing
     requires { ⌜ Loadable (now state) × (c ≡ unpacked (now state) .config) × WiresFits o (now b) ⌝ }
     ensures { λ r. ⌜
@@ -125,13 +151,10 @@ fn act_wires(c: Config, o: WiresCommand, b: &[u8], state: &mut [u8]) -> Outgoing
         ≡ carriedBy (acted wires (unpacked (now (state .entry))) (actOf wires (unpacked (now (state .entry)) .config) o (now (b .entry)))) (now (state .entry))
         ⌝ }
 {
-    let w = Wires::unpack(state);
-    let was = wires_channel::pltrst(w);
-    let out = lift_wires(wires_channel::decide(c, w, o, b), state);
-    if was & !wires_channel::pltrst(Wires::unpack(state)) {
-        reset_in(state);
+    match o {
+        WiresCommand::PutVwire(n) => put_wires(c, n, b, state),
+        WiresCommand::GetVwire => send_wires(c, state),
     }
-    out
 }
 
 // ---- above all channels
@@ -164,10 +187,10 @@ fn decided(c: Config, o: Command, b: &[u8], state: &mut [u8]) -> Outgoing
         Command::Peripheral(k) => act_peripheral(c, k, b, state),
         Command::Wires(k) => act_wires(c, k, b, state),
         Command::GetConfiguration(a) => shown(Body::Word(c.read(a)), state::status_in(state)),
-        Command::SetConfiguration(a, v) => configuration::set(state::unpack(state), a, v, state),
+        Command::SetConfiguration(a, v) => configuration::set(c, a, v, state),
         Command::GetStatus => shown(Body::Nothing, state::status_in(state)),
         Command::Reset => {
-            configuration::reset_008(state::unpack(state), state);
+            configuration::reset_008(c, state);
             silently(0)
         }
     }

@@ -311,11 +311,12 @@ pub(crate) fn store(number: u8, p: Peripheral, state: &mut [u8])
 }
 
 // The edge from on to off drops the queues.
-pub(crate) fn store_edge(was: bool, is: bool, p: Peripheral, state: &mut [u8])
+pub(crate) fn store_edge(was: bool, is: bool, state: &mut [u8])
     requires { ⌜ stateLength ≤ length (now state) ⌝ }
-    ensures { λ _. ⌜ now (state .exit) ≡ edgeStored peripheral was is p (now (state .entry)) ⌝ }
+    ensures { λ _. ⌜ now (state .exit) ≡ edgeStored peripheral was is (peripheralIn (now (state .entry))) (now (state .entry)) ⌝ }
 {
     if was & !is {
+        let p = Peripheral::unpack(state);
         let q = p.dropped();
         q.pack(state);
     }

@@ -1,6 +1,5 @@
 // Channel 1: its commands and the board's setting of a wire, over the configuration and the channel's own part.
 use crate::out;
-use command::WiresCommand;
 use registers::Config;
 use rules::Body;
 use rules::Kept;
@@ -13,7 +12,7 @@ ghost use lib.Dec.{eqb};
 ghost use lib.ListN.{length, take, drop};
 ghost use Rattle.registers.specs.Registers.{reachable, on1};
 ghost use Rattle.wires.specs.Groups.{soundWires};
-ghost use Rattle.command.specs.Facts.{WiresFits};
+ghost use Rattle.wires.specs.Layout.{wiresIn};
 ghost use Rattle.state.specs.Layout.{stateLength};
 ghost use Rattle.rules.specs.Rules.Channel.{wires};
 ghost use Rattle.rules.specs.Rules.Out as O;
@@ -30,7 +29,7 @@ fn fatally(w: Wires) -> WiresChange
 }
 
 // The pairs stand from the command's third byte on.
-fn put_vwire(c: Config, w: Wires, n: u32, b: &[u8]) -> WiresChange
+pub(crate) fn put_vwire(c: Config, w: Wires, n: u32, b: &[u8]) -> WiresChange
     requires { ⌜ (soundWires (on1 (c .r020)) w ≡ true) × (2 + n * 2 ≤ length (now b)) ⌝ }
     ensures { λ r. ⌜ r ≡ W.putVwire c w n (take (n * 2) (drop 2 (now (b .entry)))) ⌝ }
 {
@@ -49,7 +48,7 @@ fn put_vwire(c: Config, w: Wires, n: u32, b: &[u8]) -> WiresChange
     }
 }
 
-fn get_vwire(c: Config, w: Wires) -> WiresChange
+pub(crate) fn get_vwire(c: Config, w: Wires) -> WiresChange
     requires { ⌜ (reachable c ≡ true) × (soundWires (on1 (c .r020)) w ≡ true) ⌝ }
     ensures { λ r. ⌜ r ≡ W.getVwire c w ⌝ }
 {
@@ -64,16 +63,6 @@ fn get_vwire(c: Config, w: Wires) -> WiresChange
     WiresChange {
         next,
         out: out::accept(Body::Groups(packet), Kept::Nothing),
-    }
-}
-
-pub(crate) fn decide(c: Config, w: Wires, o: WiresCommand, b: &[u8]) -> WiresChange
-    requires { ⌜ (reachable c ≡ true) × (soundWires (on1 (c .r020)) w ≡ true) × WiresFits o (now b) ⌝ }
-    ensures { λ r. ⌜ r ≡ W.decide c w o (now (b .entry)) ⌝ }
-{
-    match o {
-        WiresCommand::PutVwire(n) => put_vwire(c, w, n, b),
-        WiresCommand::GetVwire => get_vwire(c, w),
     }
 }
 
@@ -115,16 +104,18 @@ pub(crate) fn store(number: u8, w: Wires, state: &mut [u8])
     w.pack(state);
 }
 
-pub(crate) fn store_edge(was: bool, is: bool, w: Wires, state: &mut [u8])
+pub(crate) fn store_edge(was: bool, is: bool, state: &mut [u8])
     requires { ⌜ stateLength ≤ length (now state) ⌝ }
-    ensures { λ _. ⌜ now (state .exit) ≡ edgeStored wires was is w (now (state .entry)) ⌝ }
+    ensures { λ _. ⌜ now (state .exit) ≡ edgeStored wires was is (wiresIn (now (state .entry))) (now (state .entry)) ⌝ }
 {
     if was & !is {
+        let w = Wires::unpack(state);
         let q = w.disabled();
         q.pack(state);
         return;
     }
     if !was & is {
+        let w = Wires::unpack(state);
         let q = w.enabled();
         q.pack(state);
     }

@@ -1,6 +1,6 @@
 -- P3, packing: sound states and their 77 bytes, there and back; nothing past them matters.
 use Prim.Native.Nat.{ℕ, zero, suc, _<_, _≤_}
-use mathlib.Core.Bool.{true}
+use mathlib.Core.Bool.{Bool, true}
 use mathlib.Core.List.{List, []}
 use mathlib.Core.Logic.{_↔_}
 use mathlib.Core.Path.{_≡_, refl, sym, ap, subst, _∙_}
@@ -12,7 +12,7 @@ use borrow.Author.Tests.{eq-eqb}
 use Rattle.base.specs.Pick.{and-left, and-right, and-true}
 use Rattle.base.specs.Bytes.{over, over-take, take-over, agree, agree-take}
 use Rattle.registers.specs.Layout.{configIn, config-back, config-in-fits, config-same}
-use Rattle.state.specs.Channel.{Part, part, on, fitsPart, partIn}
+use Rattle.state.specs.Channel.{Channel, Part, part, on, soundPart, fitsPart, partIn}
 use Rattle.state.specs.Parts.{last, state-is, part-found, part-back, part-bytes, part-fits, part-same, front, behind, front-length, joined-length, partsBytes, packed-config, packed-is, packed-ends, packed-all}
 use Rattle.state.specs.Sound.{sound, fits, Sound}
 use Rattle.state.specs.Facts.{sound-parts, fit-parts, fit-made}
@@ -21,18 +21,6 @@ use Rattle.state.specs.declared.State.{State}
 
 pub packed-length : (s : State) → length (packed s) ≡ stateLength
 packed-length s = ap length (packed-ends s) ∙ joined-length last (front last s) (part last s) (front-length last s)
-
--- ---- a sound state's bytes, unpacked, give it back: part by part
-
-round : (s : State) → Sound s → unpacked (packed s) ≡ s
-unfolding unpacked
-round s w =
-    let g = sound-parts s (w .isSound) in
-    let f = fit-parts s (w .isFit) in
-    state-is (unpacked (packed s)) s (ap configIn (packed-config s) ∙ config-back (s .config) (partsBytes s) (f .config))
-    (λ k.
-    part-found k (packed s) ∙ ap (partIn k) (packed-is k s)
-    ∙ part-back k (on k (s .config)) (front k s) (behind k s []) (part k s) (front-length k s) (g .each k) (f .each k))
 
 -- a sound state packs to bytes
 pub packed-bytes : (s : State) → sound s ≡ true → (k : ℕ) → getD (packed s) k 0 < 256
@@ -82,6 +70,25 @@ unpacked-same a b e = unpacked-at a b (each a b stateLength e)
 pub holds-same : (a b : List ℕ) → take stateLength a ≡ take stateLength b → holds a ≡ holds b
 unfolding holds
 holds-same a b e = rw (unpacked-same a b e, agree-each stateLength (packed (unpacked b)) a b (each a b stateLength e))
+
+-- ---- a sound state's bytes, unpacked, give it back: part by part
+
+-- a sound part among a state's bytes, whatever the others are, and its channel on or off
+pub part-there : (k : Channel) (on : Bool) (s : State) (l : List ℕ) → soundPart k on (part k s) ≡ true → fitsPart k (part k s) ≡ true
+    → take stateLength l ≡ packed s → partIn k l ≡ part k s
+part-there k on s l g f e =
+    part-same k l (packed s) (each l (packed s) stateLength (e ∙ sym (take-all stateLength (packed s) (le-of-eq (packed-length s)))))
+    ∙ ap (partIn k) (packed-is k s) ∙ part-back k on (front k s) (behind k s []) (part k s) (front-length k s) g f
+
+round : (s : State) → Sound s → unpacked (packed s) ≡ s
+unfolding unpacked
+round s w =
+    let g = sound-parts s (w .isSound) in
+    let f = fit-parts s (w .isFit) in
+    state-is (unpacked (packed s)) s (ap configIn (packed-config s) ∙ config-back (s .config) (partsBytes s) (f .config))
+    (λ k.
+    part-found k (packed s)
+    ∙ part-there k (on k (s .config)) s (packed s) (g .each k) (f .each k) (take-all stateLength (packed s) (le-of-eq (packed-length s))))
 
 -- ---- a sound state's bytes give it back, whatever comes after them
 

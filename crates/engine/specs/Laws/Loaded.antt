@@ -2,7 +2,7 @@
 use Prim.Native.Nat.{ℕ, _/_, _≤_}
 use mathlib.Core.Bool.{Bool, true, false, _&&_, not}
 use mathlib.Core.List.{List, _++_}
-use mathlib.Core.Path.{_≡_, refl, sym, ap, ap₂, subst, _∙_}
+use mathlib.Core.Path.{_≡_, refl, sym, ap, ap₂, _∙_}
 use native.Mathlib.Omega.{arith}
 use lib.Dec.{eqb}
 use lib.ListN.{length, drop, take-append-drop}
@@ -27,15 +27,14 @@ use Rattle.state.specs.Facts.{sound-config, sound-request, sound-wires}
 use Rattle.state.specs.declared.State.{State}
 use Rattle.command.specs.Facts.{IsBytes}
 use Rattle.command.specs.declared.PeripheralCommand.{PeripheralCommand}
-use Rattle.command.specs.declared.WiresCommand.{WiresCommand}
 use Rattle.rules.specs.Rules.Calls.{kept}
 use Rattle.rules.specs.Rules.Reset.{platformReset}
-use Rattle.rules.specs.Rules.Exchange.{setConfiguration, reset008h, wasReset, thenReset, acted}
+use Rattle.rules.specs.Rules.Exchange.{wasReset, thenReset, acted}
 use Rattle.rules.specs.Rules.Peripheral as P
 use Rattle.rules.specs.Rules.Wires as W
 use Rattle.rules.specs.Rules.Channel as C
 use Rattle.rules.specs.Rules.Channel.{peripheral, wires}
-use Rattle.rules.specs.Rules.Lift.{lift, show, withStatus}
+use Rattle.rules.specs.Rules.Lift.{lift, show, nonFatal, withStatus}
 use Rattle.rules.specs.Proofs.Events.{one-or-zero}
 use Rattle.rules.specs.Proofs.Plans.{did}
 use Rattle.rules.specs.Proofs.SoundParts.{parts, with-part}
@@ -48,9 +47,8 @@ use Rattle.rules.specs.declared.Reply.{Reply}
 use Rattle.rules.specs.declared.PeripheralChange.{PeripheralChange}
 use Rattle.rules.specs.declared.WiresChange.{WiresChange}
 use Rattle.rules.specs.declared.Plan.{Plan}
-use Rattle.engine.specs.Carried.{Loadable, Stays, Changed, changedTo, changedBy, Carried, carried, carriedBy, outgoing, showing}
+use Rattle.engine.specs.Carried.{Loadable, Stays, Changed, changedTo, changedBy, Carried, carried, carriedBy, outgoing, showing, forbidding}
 use Rattle.engine.specs.Laws.Stored.{again, lift-carried}
-use Rattle.engine.specs.Laws.Wires.{low-as}
 use Rattle.engine.specs.declared.Outgoing.{Outgoing}
 
 -- ---- the parts where they stand
@@ -98,10 +96,10 @@ unfolding P.decide unpacked
 decided-there l c o b e = ap (λ (z : Config). changedBy peripheral (P.acting z (peripheralIn l) (P.actOf z o b)) l) e
 
 -- channel 1's likewise
-pub wires-decided : (l : List ℕ) (c : Config) (w : Wires) (o : WiresCommand) (b : List ℕ) → c ≡ unpacked l .config → w ≡ wiresIn l
-    → W.decide c w o b ≡ W.acting (unpacked l .config) (unpacked l .wires) (W.actOf o b)
-unfolding W.decide unpacked
-wires-decided l c w o b e f = ap (λ (z : Config). W.acting z w (W.actOf o b)) e ∙ ap (λ (z : Wires). W.acting (configIn l) z (W.actOf o b)) f
+pub wires-acting : (l : List ℕ) (c : Config) (w : Wires) (a : W.Act) → c ≡ unpacked l .config → w ≡ wiresIn l
+    → W.acting c w a ≡ W.acting (unpacked l .config) (unpacked l .wires) a
+unfolding unpacked
+wires-acting l c w a e f = ap (λ (z : Config). W.acting z w a) e ∙ ap (λ (z : Wires). W.acting (configIn l) z a) f
 
 -- a change that is another, lifted
 pub lifted-by : (k : C.Channel) (l : List ℕ) {x y : C.Change k} {z : Carried} → z ≡ carriedBy (lift k (unpacked l) x) l → x ≡ y
@@ -112,13 +110,13 @@ lifted-by k l e f = e ∙ ap (λ (c : C.Change k). carriedBy (lift k (unpacked l
 abbrev goesWith : State → Out → Outgoing
 goesWith s out = record { number = out .number; reply = withStatus (out .say) (status s); kept = out .kept }
 
--- a command of channel 1 put back, and the platform reset where PLTRST# went low (02, Q-1)
-module _ (l b : List ℕ) (o : WiresCommand) (h : Loadable l) (bytes : IsBytes l) where
+-- a PUT_VWIRE put back, and the platform reset where PLTRST# went low (02, Q-1)
+module _ (l : List ℕ) (n : ℕ) (pairs : List ℕ) (h : Loadable l) (bytes : IsBytes l) where
   abbrev s : State
   s = unpacked l
 
   abbrev a : W.Act
-  a = W.actOf o b
+  a = W.Act.puts n pairs
 
   abbrev x : WiresChange
   x = W.acting (s .config) (s .wires) a
@@ -144,17 +142,13 @@ module _ (l b : List ℕ) (o : WiresCommand) (h : Loadable l) (bytes : IsBytes l
     found : unpacked l₁ ≡ t
     found = ap unpacked stored ∙ unpacked-over t l left-sound
 
-    module _ (w w₁ : Wires) (was is : Bool) (ew : w ≡ wiresIn l) (e₁ : w₁ ≡ wiresIn l₁) (eb : was ≡ eqb (W.pltrst w) 1) (ea : is ≡ eqb (W.pltrst w₁) 1) where
-      after : w₁ ≡ x .next
-      unfolding unpacked
-      after = e₁ ∙ ap (λ (z : State). z .wires) found
-
+    module _ (w : Wires) (y : WiresChange) (was is : Bool) (ew : w ≡ wiresIn l) (ey : y ≡ x) (eb : was ≡ eqb (W.pltrst w) 1)
+        (ea : is ≡ eqb (W.pltrst (y .next)) 1) where
       follows : {u : Bool} → was && not is ≡ u → W.resetFollows (s .wires) a (x .next) ≡ u
       unfolding unpacked
       follows f =
-          sym (low-as (s .config) (s .wires) o b)
-          ∙ ap₂ (λ (z : Wires) (u : Bool). eqb (W.pltrst z) 1 && u) (sym ew) (sym (one-or-zero (levelAt (x .next) 3 / 2)))
-          ∙ sym (ap₂ (λ (p q : Bool). p && not q) eb (ea ∙ ap (λ (z : Wires). eqb (W.pltrst z) 1) after)) ∙ f
+          ap₂ (λ (z : Wires) (u : Bool). eqb (W.pltrst z) 1 && u) (sym ew) (sym (one-or-zero (levelAt (x .next) 3 / 2)))
+          ∙ sym (ap₂ (λ (p q : Bool). p && not q) eb (ea ∙ ap (λ (z : WiresChange). eqb (W.pltrst (z .next)) 1) ey)) ∙ f
 
       pub high-carried : was && not is ≡ false → carried out l₁ ≡ carriedBy (acted wires s a) l
       high-carried f = e ∙ ap (λ (p : Plan). carriedBy p l) (passed _ _ (follows f) refl)
@@ -174,18 +168,13 @@ pub set-there : (l : List ℕ) (c : Config) (w : Wires) (index bit value : ℕ) 
 unfolding unpacked
 set-there l c w index bit value e f = ap (λ (z : Config). W.setting z w index bit value) e ∙ ap (λ (z : Wires). W.setting (configIn l) z index bit value) f
 
--- a state that is the bytes', configured or cleared
-pub set-unpacked : (l : List ℕ) (a v : ℕ) {s : State} {z : Carried} → z ≡ carriedBy (setConfiguration s a v) l → s ≡ unpacked l
-    → z ≡ carriedBy (setConfiguration (unpacked l) a v) l
-set-unpacked l a v e f = e ∙ ap (λ (t : State). carriedBy (setConfiguration t a v) l) f
-
-pub reset-unpacked : (l : List ℕ) {s : State} {l′ : List ℕ} → l′ ≡ kept (reset008h s) l → s ≡ unpacked l → l′ ≡ kept (reset008h (unpacked l)) l
-reset-unpacked l e f = e ∙ ap (λ (t : State). kept (reset008h t) l) f
-
 -- ---- a plan that shows
 
 pub shown-is : (s : State) (body : Body) (word : ℕ) (r : Outgoing) → r ≡ showing body word → word ≡ status s → r ≡ outgoing (show body s)
 shown-is s body word r k e = k ∙ ap (showing body) e
+
+pub forbidden-is : (s : State) (word : ℕ) (r : Outgoing) → r ≡ forbidding word → word ≡ status s → r ≡ outgoing (nonFatal s)
+forbidden-is s word r k e = k ∙ ap forbidding e
 
 -- ---- a change of channel 0 that stores its queue itself
 

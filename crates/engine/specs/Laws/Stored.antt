@@ -16,7 +16,10 @@ use Rattle.command.specs.declared.Channels.{Channels}
 use Rattle.peripheral.specs.Queues.{dropped}
 use Rattle.state.specs.Status.{status}
 use Rattle.state.specs.Layout.{stateLength, packed}
-use Rattle.state.specs.Packing.{packed-length}
+use Rattle.state.specs.Sound.{fits, Sound}
+use Rattle.state.specs.Facts.{sound-parts, fit-parts}
+use Rattle.state.specs.Channel.{soundPart, fitsPart, partIn}
+use Rattle.state.specs.Packing.{packed-length, part-there}
 use Rattle.state.specs.Stored.{stored-config, stored-part}
 use Rattle.state.specs.declared.State.{State}
 use Rattle.rules.specs.Rules.Out.{fatal, number}
@@ -128,16 +131,37 @@ on-of wires c = refl
 pub record Configured (s : State) (c : Config) (l : List ℕ) (was is : Channels) (t : State) (m : List ℕ) : Type 0 where
   before : was ≡ channelsOf (s .config)
   after : is ≡ channelsOf c
+  whole : Sound s
   bytes : m ≡ kept t l
 
 module _ {s : State} {c : Config} {l : List ℕ} {was is : Channels} {m : List ℕ} where
-  pub configured-start : was ≡ channelsOf (s .config) → is ≡ channelsOf c → Packs s l → m ≡ B.put 0 (configBytes c) l
+  pub configured-start : was ≡ channelsOf (s .config) → is ≡ channelsOf c → Packs s l → fits s ≡ true → m ≡ B.put 0 (configBytes c) l
       → Configured s c l was is (each (λ k q. q) c s) m
-  configured-start ew ei h e = record { before = ew; after = ei; bytes = e ∙ config-stored s l l (unchanged s l h) c }
+  configured-start ew ei h f e =
+      record {
+        before = ew;
+        after = ei;
+        whole = record { isSound = h .good; isFit = f };
+        bytes = e ∙ config-stored s l l (unchanged s l h) c;
+      }
 
-  pub configured-then : {t : State} {n : List ℕ} (k : Channel) → n ≡ edgeStored k (isOn k was) (isOn k is) (part k t) m → Configured s c l was is t m
-      → Configured s c l was is (put k (enableEdge k (isOn k was) (isOn k is) (part k t)) t) n
-  configured-then {t} {n} k e h = record { before = h .before; after = h .after; bytes = e ∙ edge-stored k t l m (isOn k was) (isOn k is) (h .bytes) }
+  -- a channel's part is still the one before the write, and is found among the bytes
+  still : {t : State} (k : Channel) → part k t ≡ part k s → Configured s c l was is t m → partIn k m ≡ part k t
+  still {t} k e h =
+      part-there k (on k (s .config)) t m (subst (λ (q : Part k). soundPart k (on k (s .config)) q ≡ true) (sym e) (sound-parts s (h .whole .isSound) .each k))
+      (subst (λ (q : Part k). fitsPart k q ≡ true) (sym e) (fit-parts s (h .whole .isFit) .each k)) (found t l m (h .bytes))
+
+  pub configured-then : {t : State} {n : List ℕ} (k : Channel) → part k t ≡ part k s → n ≡ edgeStored k (isOn k was) (isOn k is) (partIn k m) m
+      → Configured s c l was is t m → Configured s c l was is (put k (enableEdge k (isOn k was) (isOn k is) (part k t)) t) n
+  configured-then {t} {n} k f e h =
+      record {
+        before = h .before;
+        after = h .after;
+        whole = h .whole;
+        bytes =
+            e ∙ ap (λ (q : Part k). edgeStored k (isOn k was) (isOn k is) q m) (still k f h)
+            ∙ edge-stored k t l m (isOn k was) (isOn k is) (h .bytes);
+      }
 
   pub configured-done : Configured s c l was is (each (λ k. enableEdge k (isOn k was) (isOn k is)) c s) m → m ≡ kept (reconfigured s c) l
   configured-done h =

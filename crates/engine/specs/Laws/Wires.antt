@@ -1,12 +1,12 @@
 -- Channel 1.
-use Prim.Native.Nat.{ℕ, _*_, _/_, _%_, _≤_}
-use mathlib.Core.Bool.{Bool, true, false, _&&_, not}
+use Prim.Native.Nat.{ℕ, _*_, _≤_}
+use mathlib.Core.Bool.{Bool, true, false, not}
 use mathlib.Core.List.{List, [], _∷_}
 use mathlib.Core.Path.{_≡_, refl, sym, ap, _∙_}
 use native.Mathlib.Omega.{arith}
 use borrow.Author.Tests.{not-true, not-false}
-use lib.Dec.{eqb, ltb}
-use lib.ListN.{getD, length, take, drop}
+use lib.Dec.{ltb}
+use lib.ListN.{length, take, drop}
 use Rattle.base.specs.Pick.{taken, passed}
 use Rattle.registers.specs.Registers.{operatingCount, on1, reachable}
 use Rattle.registers.specs.Laws.{reachable-r020, count-range}
@@ -14,16 +14,13 @@ use Rattle.registers.specs.declared.Config.{Config}
 use Rattle.wires.specs.Transitions.{putting}
 use Rattle.wires.specs.Groups.{sent, anyPending, packetOf, afterSent, settable, setWire, soundWires}
 use Rattle.wires.specs.Sending as G
-use Rattle.wires.specs.Sent.{sent-none, sent-some, sent-levels}
+use Rattle.wires.specs.Sent.{sent-none, sent-some}
 use Rattle.wires.specs.Kept.{sound-view}
 use Rattle.wires.specs.declared.Wires.{Wires}
 use Rattle.wires.specs.declared.Putting.{Putting}
 use Rattle.wires.specs.declared.Sending.{Sending}
 use Rattle.rules.specs.Rules.Out.{fatal, accept, number, keep}
-use Rattle.command.specs.declared.WiresCommand.{WiresCommand}
-use Rattle.command.specs.declared.WiresCommand.the-variants.{PutVwire, GetVwire}
-use Rattle.rules.specs.Rules.Wires.{change, putVwire, sentOut, getVwire, actOf, acting, pltrst, resetFollows, setting}
-use Rattle.rules.specs.Proofs.Wires.{not-both}
+use Rattle.rules.specs.Rules.Wires.{change, putVwire, sentOut, getVwire, setting}
 use Rattle.rules.specs.declared.Body.the-variants as B
 use Rattle.rules.specs.declared.Kept.the-variants as K
 use Rattle.rules.specs.declared.Out.{Out}
@@ -55,18 +52,6 @@ module _ (c : Config) (w : Wires) where
     unfolding putVwire
     put-done out t k =
         passed _ _ within (passed _ _ (ap (λ (z : Putting). z .third) (sym put-as) ∙ t) (changed (ap (λ (z : Putting). z .next) put-as) k))
-
-  -- GET_VWIRE leaves the levels, so whether PLTRST# went low says whether the reset follows
-  sent-level : (ks : List ℕ) → sentOut w ks .next .level ≡ w .level
-  sent-level [] = refl
-  sent-level (k ∷ ks) = sent-levels w (k ∷ ks)
-
-  pub low-as : (o : WiresCommand) (b : List ℕ)
-      → (eqb (pltrst w) 1 && eqb (pltrst (acting c w (actOf o b) .next)) 0) ≡ resetFollows w (actOf o b) (acting c w (actOf o b) .next)
-  unfolding getVwire
-  low-as (PutVwire n) b = refl
-  low-as GetVwire b =
-      ap (λ (l : List ℕ). eqb (pltrst w) 1 && eqb (getD l 1 0 / 2 % 2) 0) (sent-level (sent w (operatingCount (c .r020)))) ∙ not-both (pltrst w)
 
   send-list : (ks : List ℕ) → 1 ≤ length ks → change (afterSent w ks) (accept (B.Groups (packetOf w ks)) K.Nothing) ≡ sentOut w ks
   send-list [] h = absurd (omega arith)

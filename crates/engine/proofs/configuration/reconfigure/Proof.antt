@@ -1,19 +1,22 @@
+use mathlib.Core.Path.{refl, ap, _∙_}
+use native.Mathlib.Omega.{arith}
+use denote.Ref.{now}
+use Rattle.state.specs.Packing.{unpacked-fits}
 use Rattle.rules.specs.Rules.Channel as K
+use Rattle.rules.specs.Rules.Exchange.{channelsOf}
 use Rattle.engine.specs.Laws.Stored.{configured-start, configured-then, configured-done}
 use borrow.Author.Needs.{needs}
 use Rattle.engine.proofs.configuration.reconfigure.Statement.{statement}
 use Rattle.engine.proofs.configuration.reconfigure.Tie as tie
 
 returns : tie.Need-returns
-returns c =
-    let w = c .before .before in
-    let p = w .before .before .before .before in
-    let r = p .before .before .before .before in
+returns c = let a = c .before .before .before .before .before .before .before .before .before .before .before .before .before .before .before in
+    let l = now (a .args .state) in
     configured-done
-    (configured-then K.wires (w .store-edge2 .ensures)
-    (configured-then K.peripheral (p .store-edge .ensures)
-    (configured-start (r .before .before .before .channels .ensures) (r .before .before .channels2 .ensures) (r .before .before .before .before .before .pre)
-    (r .pack .ensures))))
+    (configured-then K.wires refl (c .before .before .store-edge2 .ensures)
+    (configured-then K.peripheral refl (c .before .before .before .before .before .before .store-edge .ensures)
+    (configured-start (c .before .before .before .before .before .before .before .before .before .before .before .before .before .channels .ensures ∙ ap channelsOf (a .pre .1)) (c .before .before .before .before .before .before .before .before .before .before .before .before .channels2 .ensures) (a .pre .0)
+    (unpacked-fits l (λ i. omega (arith, c .before .before .before .before .before .before .before .before .before .before .before .before .before .before .slice-known .given i))) (c .before .before .before .before .before .before .before .before .before .before .pack .ensures))))
 
 pub reconfigure-spec : {M : Type 1} → statement M
 reconfigure-spec =
