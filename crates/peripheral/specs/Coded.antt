@@ -5,10 +5,10 @@ use mathlib.Core.List.{List, _++_, append-assoc}
 use mathlib.Core.Path.{_≡_, refl, sym, ap, subst, _∙_}
 use native.Mathlib.Nat.{add-comm, add-zero}
 use native.Mathlib.Omega.{arith}
-use lib.Dec.{eqb, ltb}
+use lib.Dec.{eqb, ltb, leb}
 use lib.ListN.{length, getD}
 use borrow.Author.Tests.{not-true, not-false, eqb-true, eq-eqb, ne-eqb, lt-ltb, le-ltb}
-use Rattle.base.specs.Pick.{and-right, taken, passed}
+use Rattle.base.specs.Pick.{pick, and-right, taken, passed}
 use Rattle.base.specs.Bytes.{bit, low4, number4, number8, put, put-put}
 use Rattle.base.specs.Numbers.{length-join, none8}
 use Rattle.pieces.specs.Marks.{markOf, markType}
@@ -18,7 +18,7 @@ use Rattle.pieces.specs.Laws.{next-mark}
 use Rattle.pieces.specs.declared.Mark.{Mark}
 use Rattle.peripheral.specs.Upward.{nextOf, nextPiece, bare, successOf, upward, firstOf, leftOf, afterPiece, afterSuccess, handed}
 use Rattle.peripheral.specs.Status.{pcFree, npFree, pcAvail, peripheralStatus}
-use Rattle.peripheral.specs.Sound.{shortSize, ioMade, soundRequest, soundWrite, nothingHeld}
+use Rattle.peripheral.specs.Sound.{shortSize, ioMade, requestMade, sentRight, soundRequest, soundWrite, nothingHeld}
 use Rattle.peripheral.specs.Facts.{Block, ready-request}
 use Rattle.peripheral.specs.Layout.{writeBytes, requestBytes, npBytes, handedBytes, peripheralBytes, writeOf, kindOf, npOf, postedIn, requestIn, writeIn, npIn, peripheralIn, tidyWrite, tidyRequest, blankIn, holdsWrite, holdsRequest, holdsPeripheral}
 use Rattle.peripheral.specs.Packing.{write-length, np-length}
@@ -171,6 +171,36 @@ phase-rest l = go (getD l 29 0)
     go (suc (suc zero)) x y z v = absurd (z refl)
     go (suc (suc (suc zero))) x y z v = absurd (v refl)
     go (suc (suc (suc (suc n)))) x y z v = refl
+
+-- the test that the three phases of a held request share
+abbrev pub heldRight : Bool → ℕ → Request → ℕ → Bool
+heldRight success kind q sent = requestMade q && (leb kind 2 && pick success (sentRight (q .kind) q sent) (eqb sent 0))
+
+apart : (m k t : Bool) → (m && (k && t)) ≡ (k && (m && t))
+apart true k t = refl
+apart false true t = refl
+apart false false t = refl
+
+aside : (m k t : Bool) → (m && (k && t)) ≡ ((k && t) && m)
+aside true true true = refl
+aside true true false = refl
+aside true false t = refl
+aside false true true = refl
+aside false true false = refl
+aside false false t = refl
+
+pub phase-held : (l : List ℕ) (x : Bool) → (getD l 29 0 ≡ 0 → ⊥) → getD l 29 0 ≤ 3
+    → x ≡ heldRight (eqb (getD l 29 0) 2) (getD l 30 0) (requestIn l) (number4 56 l) → x ≡ holdsRequest l
+unfolding soundRequest
+phase-held l x = go (getD l 29 0) (getD l 30 0) (requestIn l) (number4 56 l)
+  where
+    go : (n kind : ℕ) (q : Request) (sent : ℕ) → (n ≡ 0 → ⊥) → n ≤ 3 → x ≡ heldRight (eqb n 2) kind q sent
+        → x ≡ (tidyRequest n kind q sent && soundRequest (npOf n q sent))
+    go zero kind q sent z h e = absurd (z refl)
+    go (suc zero) kind q sent z h e = e ∙ aside (requestMade q) (leb kind 2) (eqb sent 0)
+    go (suc (suc zero)) kind q sent z h e = e ∙ apart (requestMade q) (leb kind 2) (sentRight (q .kind) q sent)
+    go (suc (suc (suc zero))) kind q sent z h e = e ∙ aside (requestMade q) (leb kind 2) (eqb sent 0)
+    go (suc (suc (suc (suc n)))) kind q sent z h e = absurd (omega arith)
 
 pub then-true : (x : Bool) → x ≡ (x && true)
 then-true true = refl

@@ -1,9 +1,9 @@
 // Channel 0: the held write and request, what GET_PC hands over of them. A status bit is computed from its queue, never stored beside it.
 ghost use mathlib.Core.Path.{_≡_};
-ghost use mathlib.Core.Bool.{true, _&&_};
+ghost use mathlib.Core.Bool.{true};
 ghost use mathlib.Core.List.{_++_};
 ghost use Prim.Native.Nat.{_+_, _*_, _%_, _^_, _≤_, _<_};
-ghost use lib.Dec.{eqb, ltb, leb};
+ghost use lib.Dec.{ltb};
 ghost use lib.ListN.{length};
 ghost use Rattle.base.specs.Bytes.{put, low4, number4};
 ghost use Rattle.registers.specs.Registers.{payloadLegal, readLegal};
@@ -15,6 +15,7 @@ ghost use Rattle.peripheral.specs.Status.{pcFree, npFree, pcAvail, perip
 ghost use Rattle.peripheral.specs.Upward.{bare, nextPiece, successOf, upward, firstOf, leftOf, afterPiece, afterSuccess};
 ghost use Rattle.peripheral.specs.Facts.{Block};
 ghost use Rattle.peripheral.specs.Sound.{within, shortSize, ioMade, madeAs, requestMade, writeMade, sentRight, soundRequest};
+ghost use Rattle.peripheral.specs.Coded.{heldRight};
 ghost use Rattle.peripheral.specs.Layout.{handedBytes, writeBytes, kindNumber, numberBytes, requestBytes, npBytes, peripheralBytes, postedIn, writeIn, kindOf, requestIn, npIn, peripheralIn, holdsWrite, blankIn, holdsRequest, holdsPeripheral};
 
 pub enum Kind {
@@ -307,15 +308,6 @@ fn sent_right(q: Request, sent: u32) -> bool
     }
 }
 
-fn ready_made(q: Request, sent: u32) -> bool
-    ensures { λ r. ⌜ r ≡ (requestMade q && sentRight (q .kind) q sent) ⌝ }
-{
-    if !request_made(q) {
-        return false;
-    }
-    sent_right(q, sent)
-}
-
 // ---- the bytes (docs/STATE.md)
 
 fn posted_bytes(w: Posted) -> [u8; 17]
@@ -505,25 +497,32 @@ fn blank(b: &[u8]) -> bool
     (b[30] == 0) & ((b[31] == 0) & ((address == 0) & ((sizes == 0) & ((more == 0) & (sent == 0)))))
 }
 
-// A kind, and no byte sent.
-fn unsent(kind: u8, sent: u32) -> bool
-    ensures { λ r. ⌜ r ≡ (leb kind 2 && eqb sent 0) ⌝ }
+// A request of bytes with this kind: one that a command makes; only after an answer with success bytes are sent.
+fn held_holds(success: bool, kind: u8, q: Request, sent: u32) -> bool
+    ensures { λ r. ⌜ r ≡ heldRight success kind q sent ⌝ }
 {
+    if !request_made(q) {
+        return false;
+    }
+    if success {
+        return (kind <= 2) & sent_right(q, sent);
+    }
     (kind <= 2) & (sent == 0)
 }
 
+// The three phases of a held request share one test, so that the request is read once and stays in registers.
 fn request_holds(b: &[u8]) -> bool
     requires { ⌜ 64 ≤ length (now b) ⌝ }
     ensures { λ r. ⌜ r ≡ holdsRequest (now (b .entry)) ⌝ }
 {
-    let n = b[29];
-    match n {
-        0 => blank(b),
-        1 => unsent(b[30], base::get4(b, 56)) & request_made(request_in(b)),
-        2 => (b[30] <= 2) & ready_made(request_in(b), base::get4(b, 56)),
-        3 => unsent(b[30], base::get4(b, 56)) & request_made(request_in(b)),
-        _ => false,
+    let phase = b[29];
+    if phase == 0 {
+        return blank(b);
     }
+    if 3 < phase {
+        return false;
+    }
+    held_holds(phase == 2, b[30], request_in(b), base::get4(b, 56))
 }
 
 // ---- the channel
