@@ -13,13 +13,14 @@ use Rattle.base.specs.Bytes.{bit, low4, number4, number8, put, put-put}
 use Rattle.base.specs.Numbers.{length-join, none8}
 use Rattle.pieces.specs.Marks.{markOf, markType}
 use Rattle.pieces.specs.Pieces.{nextMark}
+use Rattle.pieces.specs.Blocks.{Block}
 use Rattle.pieces.specs.Edges.{place-low}
 use Rattle.pieces.specs.Laws.{next-mark}
 use Rattle.pieces.specs.declared.Mark.{Mark}
 use Rattle.peripheral.specs.Upward.{nextOf, nextPiece, bare, successOf, upward, firstOf, leftOf, afterPiece, afterSuccess, handed}
 use Rattle.peripheral.specs.Status.{pcFree, npFree, pcAvail, peripheralStatus}
 use Rattle.peripheral.specs.Sound.{shortSize, ioMade, requestMade, sentRight, soundRequest, soundWrite, nothingHeld}
-use Rattle.peripheral.specs.Facts.{Block, ready-request}
+use Rattle.peripheral.specs.Facts.{ready-request}
 use Rattle.peripheral.specs.Layout.{writeBytes, requestBytes, npBytes, handedBytes, peripheralBytes, writeOf, kindOf, npOf, postedIn, requestIn, writeIn, npIn, peripheralIn, tidyWrite, tidyRequest, blankIn, holdsWrite, holdsRequest, holdsPeripheral}
 use Rattle.peripheral.specs.Packing.{write-length, np-length}
 use Rattle.peripheral.specs.declared.Kind.{Kind}
@@ -66,10 +67,10 @@ io-short q e = and-right (ltb (q .address) (2 ^ 16)) _ (and-right (eqb (q .tag) 
 
 -- what the cutting of the next piece asks for
 pub piece-facts : (n : Np) (q : Request) (sent : ℕ) → soundRequest n ≡ true → n ≡ Ready q sent
-    → (sent < q .length) × (q .length ≤ 4096) × (1 ≤ q .payload) × (4096 % q .payload ≡ 0)
+    → (sent < q .length) × (q .length ≤ 4096) × Block (q .payload)
 piece-facts n q sent e h =
     let r = ready-request q sent (subst (λ (z : Np). soundRequest z ≡ true) h e) in
-    (r .short, r .made .most, omega (arith, r .made .payload .least), r .made .payload .divides)
+    (r .short, r .made .most, r .made .payload .block)
 
 -- the bytes of what is left, as the code decides it
 module _ (q : Request) (gone : ℕ) (l l′ bytes : List ℕ) (k : l′ ≡ put 29 bytes l) where

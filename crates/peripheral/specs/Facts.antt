@@ -10,6 +10,7 @@ use Rattle.base.specs.Pick.{or-either, pick-ind, and-left, and-right, and-true}
 use Rattle.registers.specs.Registers.{payloadLegal, readLegal}
 use Rattle.registers.specs.Sizes.{payload-cases, read-cases}
 use Rattle.pieces.specs.Pieces.{nextSize}
+use Rattle.pieces.specs.Blocks.{Block, block-bits}
 use Rattle.pieces.specs.Edges.{next-le, next-pos, next-ok}
 use Rattle.peripheral.specs.Upward.{nextOf, handed, afterPiece, afterSuccess}
 use Rattle.peripheral.specs.Status.{pcFree, npFree}
@@ -29,38 +30,36 @@ use Rattle.peripheral.specs.Sound.{within, shortSize, ioMade, madeAs, re
 pub record LegalPayload (p : ℕ) : Type 0 where
   pub least : 64 ≤ p
   pub most : p ≤ 256
-  pub divides : 4096 % p ≡ 0
+  pub block : Block p
 
 pub legal-payload : (p : ℕ) → payloadLegal p ≡ true → LegalPayload p
 legal-payload =
-    payload-cases LegalPayload (is (omega arith) (omega arith) refl) (is (omega arith) (omega arith) refl) (is (omega arith) (omega arith) refl)
+    payload-cases LegalPayload (is (omega arith) (omega arith) (block-bits 6 refl)) (is (omega arith) (omega arith) (block-bits 7 refl))
+    (is (omega arith) (omega arith) (block-bits 8 refl))
   where
-    is : {p : ℕ} → 64 ≤ p → p ≤ 256 → 4096 % p ≡ 0 → LegalPayload p
-    is l m d = record { least = l; most = m; divides = d }
+    is : {p : ℕ} → 64 ≤ p → p ≤ 256 → Block p → LegalPayload p
+    is l m b = record { least = l; most = m; block = b }
 
 pub record LegalRead (p : ℕ) : Type 0 where
   pub least : 64 ≤ p
   pub most : p ≤ 4096
-  pub divides : 4096 % p ≡ 0
+  pub block : Block p
 
 pub legal-read : (p : ℕ) → readLegal p ≡ true → LegalRead p
 legal-read =
-    read-cases LegalRead (is (omega arith) (omega arith) refl) (is (omega arith) (omega arith) refl) (is (omega arith) (omega arith) refl)
-    (is (omega arith) (omega arith) refl) (is (omega arith) (omega arith) refl) (is (omega arith) (omega arith) refl) (is (omega arith) (omega arith) refl)
+    read-cases LegalRead (is (omega arith) (omega arith) (block-bits 6 refl)) (is (omega arith) (omega arith) (block-bits 7 refl))
+    (is (omega arith) (omega arith) (block-bits 8 refl)) (is (omega arith) (omega arith) (block-bits 9 refl))
+    (is (omega arith) (omega arith) (block-bits 10 refl)) (is (omega arith) (omega arith) (block-bits 11 refl))
+    (is (omega arith) (omega arith) (block-bits 12 refl))
   where
-    is : {p : ℕ} → 64 ≤ p → p ≤ 4096 → 4096 % p ≡ 0 → LegalRead p
-    is l m d = record { least = l; most = m; divides = d }
-
--- a size of blocks that 4,096 bytes are made of, as every legal size is
-pub record Block (b : ℕ) : Type 0 where
-  pub least : 1 ≤ b
-  pub divides : 4096 % b ≡ 0
+    is : {p : ℕ} → 64 ≤ p → p ≤ 4096 → Block p → LegalRead p
+    is l m b = record { least = l; most = m; block = b }
 
 pub payload-block : (p : ℕ) → payloadLegal p ≡ true → Block p
-payload-block p e = let l = legal-payload p e in record { least = omega (arith, l .least); divides = l .divides }
+payload-block p e = legal-payload p e .block
 
 pub read-block : (p : ℕ) → readLegal p ≡ true → Block p
-read-block p e = let l = legal-read p e in record { least = omega (arith, l .least); divides = l .divides }
+read-block p e = legal-read p e .block
 
 pub within-block : (A L B : ℕ) → within A L B ≡ true → A % B + L ≤ B
 within-block A L B e = leb-true (A % B + L) B e

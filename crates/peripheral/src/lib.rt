@@ -7,13 +7,13 @@ ghost use lib.Dec.{ltb};
 ghost use lib.ListN.{length};
 ghost use Rattle.base.specs.Bytes.{put, low4, number4};
 ghost use Rattle.registers.specs.Registers.{payloadLegal, readLegal};
+ghost use Rattle.pieces.specs.Blocks.{Block};
 ghost use Rattle.peripheral.specs.declared.Kind.the-variants.{MemoryRead, IoRead, IoWrite};
 ghost use Rattle.peripheral.specs.declared.Np.the-variants.{Free, Waiting};
 ghost use Rattle.peripheral.specs.declared.Write.the-variants.{Held};
 ghost use Rattle.peripheral.specs.Queues.{idle, dropped};
 ghost use Rattle.peripheral.specs.Status.{pcFree, npFree, pcAvail, peripheralStatus};
 ghost use Rattle.peripheral.specs.Upward.{bare, nextPiece, successOf, upward, firstOf, leftOf, afterPiece, afterSuccess};
-ghost use Rattle.peripheral.specs.Facts.{Block};
 ghost use Rattle.peripheral.specs.Sound.{within, shortSize, ioMade, madeAs, requestMade, writeMade, sentRight, soundRequest};
 ghost use Rattle.peripheral.specs.Coded.{heldRight};
 ghost use Rattle.peripheral.specs.Layout.{handedBytes, writeBytes, kindNumber, numberBytes, requestBytes, npBytes, peripheralBytes, postedIn, writeIn, kindOf, requestIn, npIn, peripheralIn, holdsWrite, blankIn, holdsRequest, holdsPeripheral};
@@ -146,7 +146,7 @@ fn put_left(q: Request, gone: u32, b: &mut [u8])
 
 // The next piece, and the request's bytes after it.
 fn hand_piece(q: Request, sent: u32, b: &mut [u8]) -> Completion
-    requires { ⌜ (64 ≤ length (now b)) × (sent < q .length) × (q .length ≤ 4096) × (1 ≤ q .payload) × (4096 % q .payload ≡ 0) ⌝ }
+    requires { ⌜ (64 ≤ length (now b)) × (sent < q .length) × (q .length ≤ 4096) × Block (q .payload) ⌝ }
     ensures { λ r. ⌜ (r ≡ nextPiece q sent) × (now (b .exit) ≡ put 29 (npBytes (afterPiece q sent)) (now (b .entry))) ⌝ }
 {
     let length = pieces::next_size(q.address, q.length, q.payload, sent);
@@ -173,7 +173,7 @@ fn hand_bare(cycle: u8, q: Request, b: &mut [u8]) -> Completion
 }
 
 fn hand_success(q: Request, sent: u32, b: &mut [u8]) -> Completion
-    requires { ⌜ (64 ≤ length (now b)) × (sent < q .length) × (q .length ≤ 4096) × (1 ≤ q .payload) × (4096 % q .payload ≡ 0) ⌝ }
+    requires { ⌜ (64 ≤ length (now b)) × (sent < q .length) × (q .length ≤ 4096) × Block (q .payload) ⌝ }
     ensures { λ r. ⌜ (r ≡ successOf (q .kind) q sent) × (now (b .exit) ≡ put 29 (npBytes (afterSuccess (q .kind) q sent)) (now (b .entry))) ⌝ }
 {
     let k = q.kind;
@@ -192,7 +192,7 @@ pub fn within(address: u64, length: u32, block: u32) -> bool
     ensures { λ r. ⌜ r ≡ within address length block ⌝ }
 {
     let low = (address % 4096) as u32;
-    let at = (low % block) as u64;
+    let at = pieces::place_in(low, block) as u64;
     at + (length as u64) <= (block as u64)
 }
 
@@ -292,7 +292,7 @@ fn at_edge(q: Request, sent: u32) -> bool
     ensures { λ r. ⌜ r ≡ sentRight MemoryRead q sent ⌝ }
 {
     let low = (q.address % 4096) as u32;
-    let at = (low + sent % 4096) % q.payload;
+    let at = pieces::place_in(low + sent % 4096, q.payload);
     (sent < q.length) & ((sent == 0) | (at == 0))
 }
 

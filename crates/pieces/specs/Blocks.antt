@@ -1,14 +1,30 @@
 -- N, the number of blocks of P bytes that a read of L bytes at A touches.
 use Prim.Native.Nat.{ℕ, suc, _+_, _-_, _*_, _/_, _%_, _^_, _≤_, _<_}
 use mathlib.Core.Bool.{Bool, true, false}
-use mathlib.Core.Path.{_≡_, refl, ap}
+use mathlib.Core.Path.{_≡_, refl, sym, ap, _∙_}
 use native.Mathlib.Nat.{mod-lt, mul-le-mul-right, div-add-mod', div-mul-le-self, le-div-iff-mul-le, div-lt-iff-lt-mul}
 use native.Mathlib.Omega.{arith}
 use lib.Arith.{mod-mul}
+use lib.Bits.{bitAnd, and-mask}
 use lib.Dec.{leb}
 use lib.Pow.{pow-add, pow-pos, pow-mono}
 use borrow.Author.Tests.{leb-true, leb-false}
 use Rattle.pieces.specs.Pieces.{blocks}
+
+-- a size of blocks that 4,096 bytes are made of, as every legal size is: a power of two
+pub record Block (b : ℕ) : Type 0 where
+  pub bits : ℕ
+  pub power : b ≡ 2 ^ bits
+  pub least : 1 ≤ b
+  pub divides : 4096 % b ≡ 0
+
+pub block-bits : (k : ℕ) → 4096 % 2 ^ k ≡ 0 → Block (2 ^ k)
+block-bits k d = record { bits = k; power = refl; least = pow-pos k; divides = d }
+
+-- so a number's low bits are its place in a block
+pub low-bits : (n b : ℕ) → Block b → bitAnd n (b - 1) ≡ n % b
+low-bits n b h =
+    ap (λ (x : ℕ). bitAnd n (x - 1)) (h .power) ∙ and-mask n (h .bits) ∙ ap (λ (x : ℕ). n % x) (sym (h .power))
 
 div-mono : {a b : ℕ} (P : ℕ) → 0 < P → a ≤ b → a / P ≤ b / P
 div-mono {a} {b} P p h = le-div-iff-mul-le p .1 (omega (arith, div-mul-le-self a P))

@@ -25,7 +25,8 @@ use Rattle.peripheral.specs.declared.Completion.{Completion}
 use Rattle.peripheral.specs.declared.Next.{Next}
 use Rattle.peripheral.specs.declared.Next.the-variants.{Nothing, One}
 use Rattle.peripheral.specs.Sound.{within}
-use Rattle.peripheral.specs.Facts.{Block, payload-block, read-block}
+use Rattle.pieces.specs.Blocks.{Block}
+use Rattle.peripheral.specs.Facts.{payload-block, read-block}
 use Rattle.peripheral.specs.Layout.{peripheralBytes}
 use Rattle.rules.specs.Rules.Channel.{peripheral}
 use Rattle.rules.specs.Rules.Out.{fatal, accept, defer, number}

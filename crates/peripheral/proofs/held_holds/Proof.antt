@@ -1,6 +1,5 @@
 use mathlib.Core.Bool.{Bool, _&&_}
 use mathlib.Core.Path.{ap, sym, _∙_}
-use native.Mathlib.Omega.{arith}
 use lib.Dec.{leb, eqb}
 use Rattle.base.specs.Pick.{pick, stops, goes-on}
 use Rattle.peripheral.specs.Sound.{sentRight}
@@ -14,8 +13,8 @@ returns : tie.Need-returns
 returns c = stops _ (refused (c .before .request-made .ensures) (c .if1 .taken))
 
 sent-right-requires : tie.Need-sent-right-requires
-sent-right-requires c κs = let l = request-made (c .before .before .before .args .q) (admitted (c .before .before .request-made .ensures) (c .before .if1 .left)) .payload in
-    record { least = omega (arith, l .least); divides = l .divides }
+sent-right-requires c κs =
+    request-made (c .before .before .before .args .q) (admitted (c .before .before .request-made .ensures) (c .before .if1 .left)) .payload .block
 
 returns-2 : tie.Need-returns-2
 returns-2 c = let a = c .before .before .before .before .args in

@@ -1,6 +1,6 @@
 use mathlib.Core.Path.{refl, sym, subst, _∙_}
 use denote.Ref.{now}
-use Rattle.peripheral.specs.Facts.{Block}
+use Rattle.pieces.specs.Blocks.{Block}
 use Rattle.peripheral.specs.Layout.{peripheralIn}
 use Rattle.peripheral.specs.Stored.{stored-asking}
 use Rattle.peripheral.specs.declared.Np.the-variants.{Waiting}

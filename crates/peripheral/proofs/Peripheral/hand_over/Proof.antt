@@ -9,7 +9,7 @@ hand-success-requires c κs =
     let f = piece-facts _ (c .before .before .n .given .0 .0) (c .before .before .n .given .0 .1 .0)
     (c .before .before .before .before .before .before .before .pre .1)
     (sym (c .before .before .before .before .np-in .ensures) ∙ c .before .before .n .given .1) in
-    (c .before .before .before .before .before .before .before .pre .0, f .0, f .1, f .2, f .3)
+    (c .before .before .before .before .before .before .before .pre .0, f .0, f .1, f .2)
 
 returns : tie.Need-returns
 returns c = free-handed _ _ _ _ (c .before .before .np-in .ensures) (c .enum-told .given .1) refl
