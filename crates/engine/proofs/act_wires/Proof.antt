@@ -20,12 +20,14 @@ put-wires-requires c κs = let s = c .before .before .before .before .before .be
 returns : tie.Need-returns
 returns c = let a = c .before .before .before .before .before .before .before .before .before .args in
     let l = now (a .state) in
-    c .before .before .put-wires .ensures ∙ ap (λ (z : WiresCommand). carriedBy (acted wires (unpacked l) (actOf z (now (a .b)))) l) (sym (c .before .before .before .before .before .o .given .1))
+    c .before .before .put-wires .ensures ∙ ap (λ (z : WiresCommand). carriedBy (acted wires (unpacked l) (actOf z (now (a .b)))) l) (sym
+    (c .before .before .before .before .before .o .given .1))
 
 returns-2 : tie.Need-returns-2
 returns-2 c = let a = c .before .before .before .before .before .before .before .before .args in
     let l = now (a .state) in
-    c .before .before .send-wires .ensures ∙ ap (λ (z : WiresCommand). carriedBy (acted wires (unpacked l) (actOf z (now (a .b)))) l) (sym (c .before .before .before .before .enum-told .given .1))
+    c .before .before .send-wires .ensures ∙ ap (λ (z : WiresCommand). carriedBy (acted wires (unpacked l) (actOf z (now (a .b)))) l) (sym
+    (c .before .before .before .before .enum-told .given .1))
 
 pub act-wires-spec : {M : Type 1} → statement M
 act-wires-spec =

@@ -20,16 +20,21 @@ act-wires-requires c κs = let s = c .before .before .before .before .before .be
     (s .pre .0, s .pre .1, fits-as (now (s .args .b)) (c .before .before .o2 .given .1) (s .pre .2))
 
 returns : tie.Need-returns
-returns c = acted-decided (unpacked (now (c .before .before .before .before .before .before .before .before .before .args .state))) _ _ _ peripheral _ _ (c .before .before .before .before .before .o .given .1) (c .before .before .act-peripheral .ensures)
+returns c = acted-decided (unpacked (now
+    (c .before .before .before .before .before .before .before .before .before .args .state))) _ _ _ peripheral _ _
+    (c .before .before .before .before .before .o .given .1) (c .before .before .act-peripheral .ensures)
 
 returns-2 : tie.Need-returns-2
-returns-2 c = acted-decided (unpacked (now (c .before .before .before .before .before .before .before .before .before .args .state))) _ _ _ wires _ _ (c .before .before .before .before .before .o2 .given .1) (c .before .before .act-wires .ensures)
+returns-2 c = acted-decided (unpacked (now (c .before .before .before .before .before .before .before .before .before .args .state))) _ _ _ wires _ _
+    (c .before .before .before .before .before .o2 .given .1) (c .before .before .act-wires .ensures)
 
 returns-3 : tie.Need-returns-3
 returns-3 c = let s = unpacked (now (c .before .before .before .before .before .before .before .before .before .args .state)) in
     let a = c .before .before .before .before .before .o3 .given .0 .0 in
-    read-decided s _ _ _ a _ _ (c .before .before .before .before .before .before .before .before .before .pre .0) (c .before .before .before .before .before .o3 .given .1)
-    (c .before .before .before .read .ensures ∙ ap (λ (z : Config). readAt z a) (c .before .before .before .before .before .before .before .before .before .pre .1)) (shown-is s _ _ _ (c .shown .ensures) (c .before .status-in .ensures))
+    read-decided s _ _ _ a _ _ (c .before .before .before .before .before .before .before .before .before .pre .0)
+    (c .before .before .before .before .before .o3 .given .1)
+    (c .before .before .before .read .ensures ∙ ap (λ (z : Config). readAt z a)
+    (c .before .before .before .before .before .before .before .before .before .pre .1)) (shown-is s _ _ _ (c .shown .ensures) (c .before .status-in .ensures))
 
 returns-4 : tie.Need-returns-4
 returns-4 c = let l = now (c .before .before .before .before .before .before .before .before .before .args .state) in
@@ -37,11 +42,13 @@ returns-4 c = let l = now (c .before .before .before .before .before .before .be
 
 returns-5 : tie.Need-returns-5
 returns-5 c = let s = unpacked (now (c .before .before .before .before .before .before .before .args .state)) in
-    status-decided s _ _ _ _ (c .before .before .before .before .before .before .before .pre .0) (c .before .before .before .enum-told .given .1) (shown-is s B.Nothing _ _ (c .shown2 .ensures) (c .before .status-in2 .ensures))
+    status-decided s _ _ _ _ (c .before .before .before .before .before .before .before .pre .0) (c .before .before .before .enum-told .given .1)
+    (shown-is s B.Nothing _ _ (c .shown2 .ensures) (c .before .status-in2 .ensures))
 
 returns-6 : tie.Need-returns-6
 returns-6 c = let l = now (c .before .before .before .before .before .before .before .before .before .args .state) in
-    reset-decided (unpacked l) _ l _ _ _ (c .before .before .before .before .before .enum-told2 .given .1) (c .before .before .before .reset-008 .ensures) (c .silently .ensures)
+    reset-decided (unpacked l) _ l _ _ _ (c .before .before .before .before .before .enum-told2 .given .1)
+    (c .before .before .before .reset-008 .ensures) (c .silently .ensures)
 
 pub decided-spec : {M : Type 1} → statement M
 decided-spec =

@@ -20,25 +20,35 @@ put-vwire-requires c κs = let s = c .before .before .before .before .before in
 lift-wires-requires : tie.Need-lift-wires-requires
 lift-wires-requires c κs = let s = c .before .before .before .before .before .before .before .before in
     let l = now (s .args .state) in
-    let a = Act.puts (s .args .n) (take (s .args .n * 2) (drop 2 (now (s .args .b)))) in
-    (s .pre .0, acting-stays wires (unpacked l) a _ (c .before .before .put-vwire .ensures ∙ wires-acting l (s .args .c) _ a (s .pre .1) (c .before .before .before .before .unpack .ensures)))
+    let a = Act.puts (s .args .n) (take (s .args .n * 2) (drop 2 (now (s .args .b)))) in (
+      s .pre .0,
+      acting-stays wires (unpacked l) a _ (c .before .before .put-vwire .ensures ∙ wires-acting l (s .args .c) _ a (s .pre .1)
+          (c .before .before .before .before .unpack .ensures)),
+    )
 
 returns : tie.Need-returns
-returns c = let s = c .before .before .before .before .before .before .before .before .before .before .before .before .before .before .before .before in
+returns c =
+    let d = c .before .before .before .before .before .before .before .before .before .before in
+    let s = d .before .before .before .before .before .before in
     let l = now (s .args .state) in
     let pairs = take (s .args .n * 2) (drop 2 (now (s .args .b))) in
-    let e = c .before .before .before .before .before .before .before .before .before .before .put-vwire .ensures ∙ wires-acting l (s .args .c) _ (Act.puts (s .args .n) pairs) (s .pre .1) (c .before .before .before .before .before .before .before .before .before .before .before .before .unpack .ensures) in
-    low-carried l (s .args .n) pairs (s .pre .0) (λ i. omega (arith, c .before .before .before .before .before .before .before .before .before .before .before .before .before .before .slice-known .given i)) _ _
-    (lifted-by wires l (c .before .before .before .before .before .before .before .lift-wires .ensures) e) _ _ _ _ (c .before .before .before .before .before .before .before .before .before .before .before .before .unpack .ensures) e (c .before .before .before .before .before .before .before .before .before .before .before .pltrst .ensures) (c .before .before .before .before .before .before .before .before .before .pltrst2 .ensures) _
-    (c .before .before .before .before .if1 .taken) (c .before .before .reset-in .ensures)
+    let e = d .put-vwire .ensures ∙ wires-acting l (s .args .c) _ (Act.puts (s .args .n) pairs) (s .pre .1) (d .before .before .unpack .ensures) in
+    low-carried l (s .args .n) pairs (s .pre .0) (λ i. omega (arith, d .before .before .before .before .slice-known .given i)) _ _
+    (lifted-by wires l (c .before .before .before .before .before .before .before .lift-wires .ensures) e) _ _ _ _
+    (d .before .before .unpack .ensures) e (d .before .pltrst .ensures)
+    (c .before .before .before .before .before .before .before .before .before .pltrst2 .ensures) _ (c .before .before .before .before .if1 .taken)
+    (c .before .before .reset-in .ensures)
 
 returns-2 : tie.Need-returns-2
-returns-2 c = let s = c .before .before .before .before .before .before .before .before .before .before .before .before in
+returns-2 c =
+    let d = c .before .before .before .before .before .before in
+    let s = d .before .before .before .before .before .before in
     let l = now (s .args .state) in
     let pairs = take (s .args .n * 2) (drop 2 (now (s .args .b))) in
-    let e = c .before .before .before .before .before .before .put-vwire .ensures ∙ wires-acting l (s .args .c) _ (Act.puts (s .args .n) pairs) (s .pre .1) (c .before .before .before .before .before .before .before .before .unpack .ensures) in
-    high-carried l (s .args .n) pairs (s .pre .0) (λ i. omega (arith, c .before .before .before .before .before .before .before .before .before .before .slice-known .given i)) _ _
-    (lifted-by wires l (c .before .before .before .lift-wires .ensures) e) _ _ _ _ (c .before .before .before .before .before .before .before .before .unpack .ensures) e (c .before .before .before .before .before .before .before .pltrst .ensures) (c .before .before .before .before .before .pltrst2 .ensures) (c .if1 .left)
+    let e = d .put-vwire .ensures ∙ wires-acting l (s .args .c) _ (Act.puts (s .args .n) pairs) (s .pre .1) (d .before .before .unpack .ensures) in
+    high-carried l (s .args .n) pairs (s .pre .0) (λ i. omega (arith, d .before .before .before .before .slice-known .given i)) _ _
+    (lifted-by wires l (c .before .before .before .lift-wires .ensures) e) _ _ _ _ (d .before .before .unpack .ensures) e (d .before .pltrst .ensures)
+    (c .before .before .before .before .before .pltrst2 .ensures) (c .if1 .left)
 
 pub put-wires-spec : {M : Type 1} → statement M
 put-wires-spec =

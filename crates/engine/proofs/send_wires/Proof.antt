@@ -15,14 +15,18 @@ get-vwire-requires c κs = let s = c .before .before .before in
 
 lift-wires-requires : tie.Need-lift-wires-requires
 lift-wires-requires c κs = let s = c .before .before .before .before .before in
-    let l = now (s .args .state) in
-    (s .pre .0, acting-stays wires (unpacked l) Act.gets _ (c .before .get-vwire .ensures ∙ wires-acting l (s .args .c) _ Act.gets (s .pre .1) (c .before .before .unpack .ensures)))
+    let l = now (s .args .state) in (
+      s .pre .0,
+      acting-stays wires (unpacked l) Act.gets _ (c .before .get-vwire .ensures ∙ wires-acting l (s .args .c) _ Act.gets (s .pre .1)
+          (c .before .before .unpack .ensures)),
+    )
 
 returns : tie.Need-returns
 returns c = let s = c .before .before .before .before .before .before .before .before in
     let l = now (s .args .state) in
     lifted-by wires l (c .before .before .lift-wires .ensures)
-    (c .before .before .before .before .get-vwire .ensures ∙ wires-acting l (s .args .c) _ Act.gets (s .pre .1) (c .before .before .before .before .before .unpack .ensures))
+    (c .before .before .before .before .get-vwire .ensures ∙ wires-acting l (s .args .c) _ Act.gets (s .pre .1)
+    (c .before .before .before .before .before .unpack .ensures))
 
 pub send-wires-spec : {M : Type 1} → statement M
 send-wires-spec =

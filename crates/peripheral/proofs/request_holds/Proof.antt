@@ -15,7 +15,8 @@ returns-2 c = let l = c .if2 .taken in
     phase-rest (c .before .before .before .before .args .b .now) (λ e. omega (arith, l)) (λ e. omega (arith, l)) (λ e. omega (arith, l)) (λ e. omega (arith, l))
 
 returns-3 : tie.Need-returns-3
-returns-3 c = phase-held (c .before .before .before .before .before .before .before .before .args .b .now) _ (c .before .before .before .before .before .if1 .left) (omega (arith, c .before .before .before .before .if2 .left))
+returns-3 c = phase-held (c .before .before .before .before .before .before .before .before .args .b .now) _
+    (c .before .before .before .before .before .if1 .left) (omega (arith, c .before .before .before .before .if2 .left))
     (rw (c .held-holds .ensures, c .before .before .request-in .ensures, c .before .get4 .ensures))
 
 pub request-holds-spec : {M : Type 1} → statement M

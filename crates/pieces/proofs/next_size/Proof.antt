@@ -7,11 +7,15 @@ use Rattle.pieces.proofs.next_size.Tie as tie
 
 returns : tie.Need-returns
 unfolding nextSize
-returns c = let a = c .before .before .args in omega (arith, c .before .place-in .ensures .0, place-low (a .address) (a .payload) (a .sent) (c .before .before .pre .2 .divides))
+returns c =
+    let a = c .before .before .args in
+    omega (arith, c .before .place-in .ensures .0, place-low (a .address) (a .payload) (a .sent) (c .before .before .pre .2 .divides))
 
 returns-2 : tie.Need-returns-2
 unfolding nextSize
-returns-2 c = let a = c .before .before .args in omega (arith, c .before .place-in .ensures .0, place-low (a .address) (a .payload) (a .sent) (c .before .before .pre .2 .divides))
+returns-2 c =
+    let a = c .before .before .args in
+    omega (arith, c .before .place-in .ensures .0, place-low (a .address) (a .payload) (a .sent) (c .before .before .pre .2 .divides))
 
 pub next-size-spec : {M : Type 1} → statement M
 next-size-spec =

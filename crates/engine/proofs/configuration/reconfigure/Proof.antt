@@ -10,13 +10,15 @@ use Rattle.engine.proofs.configuration.reconfigure.Statement.{statement
 use Rattle.engine.proofs.configuration.reconfigure.Tie as tie
 
 returns : tie.Need-returns
-returns c = let a = c .before .before .before .before .before .before .before .before .before .before .before .before .before .before .before in
-    let l = now (a .args .state) in
+returns c =
+    let p = c .before .before .before .before .before .before in
+    let r = p .before .before .before .before in
+    let s = r .before .before .before .before .before in
     configured-done
     (configured-then K.wires refl (c .before .before .store-edge2 .ensures)
-    (configured-then K.peripheral refl (c .before .before .before .before .before .before .store-edge .ensures)
-    (configured-start (c .before .before .before .before .before .before .before .before .before .before .before .before .before .channels .ensures ∙ ap channelsOf (a .pre .1)) (c .before .before .before .before .before .before .before .before .before .before .before .before .channels2 .ensures) (a .pre .0)
-    (unpacked-fits l (λ i. omega (arith, c .before .before .before .before .before .before .before .before .before .before .before .before .before .before .slice-known .given i))) (c .before .before .before .before .before .before .before .before .before .before .pack .ensures))))
+    (configured-then K.peripheral refl (p .store-edge .ensures)
+    (configured-start (r .before .before .before .channels .ensures ∙ ap channelsOf (s .pre .1)) (r .before .before .channels2 .ensures) (s .pre .0)
+    (unpacked-fits (now (s .args .state)) (λ i. omega (arith, r .before .before .before .before .slice-known .given i))) (r .pack .ensures))))
 
 pub reconfigure-spec : {M : Type 1} → statement M
 reconfigure-spec =

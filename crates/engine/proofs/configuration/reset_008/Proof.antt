@@ -17,7 +17,8 @@ returns c = let a = c .before .before .before .before .before .before .before .b
     cleared-by (unpacked l) l _ (c .before .before .before .before .before .before .before .before .pre .0)
     (c .before .before .pack .ensures
     ∙ ap (λ (z : Reg008). put 0 (configBytes (record { r008 = z; r010 = a .c .r010; r020 = a .c .r020 })) l) (c .before .before .before .before .fresh .ensures)
-    ∙ ap (λ (z : Config). put 0 (configBytes (record { r008 = fresh008; r010 = z .r010; r020 = z .r020 })) l) (c .before .before .before .before .before .before .before .before .pre .1))
+    ∙ ap (λ (z : Config). put 0 (configBytes (record { r008 = fresh008; r010 = z .r010; r020 = z .r020 })) l)
+    (c .before .before .before .before .before .before .before .before .pre .1))
 
 pub reset-008-spec : {M : Type 1} → statement M
 reset-008-spec =

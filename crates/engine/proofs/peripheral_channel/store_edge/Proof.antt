@@ -12,7 +12,8 @@ use Rattle.engine.proofs.peripheral_channel.store_edge.Tie as tie
 returns : tie.Need-returns
 returns c = let l = now (c .before .before .before .before .before .before .before .before .before .args .state) in
     taken _ _ (c .before .before .before .before .before .before .before .if1 .taken)
-    (c .before .before .pack .ensures ∙ ap (λ (z : Peripheral). putPart peripheral z l) (c .before .before .before .before .dropped .ensures ∙ ap dropped (c .before .before .before .before .before .unpack .ensures)))
+    (c .before .before .pack .ensures ∙ ap (λ (z : Peripheral). putPart peripheral z l)
+    (c .before .before .before .before .dropped .ensures ∙ ap dropped (c .before .before .before .before .before .unpack .ensures)))
 
 returns-2 : tie.Need-returns-2
 returns-2 c = passed _ _ (c .if1 .left) refl

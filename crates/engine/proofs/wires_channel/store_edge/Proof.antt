@@ -12,13 +12,15 @@ use Rattle.engine.proofs.wires_channel.store_edge.Tie as tie
 returns : tie.Need-returns
 returns c = let l = now (c .before .before .before .before .before .before .before .before .before .args .state) in
     taken _ _ (c .before .before .before .before .before .before .before .if1 .taken)
-    (c .before .before .pack .ensures ∙ ap (λ (z : Wires). putPart wires z l) (c .before .before .before .before .disabled .ensures ∙ ap disabled (c .before .before .before .before .before .unpack .ensures)))
+    (c .before .before .pack .ensures ∙ ap (λ (z : Wires). putPart wires z l) (c .before .before .before .before .disabled .ensures ∙ ap disabled
+    (c .before .before .before .before .before .unpack .ensures)))
 
 returns-2 : tie.Need-returns-2
 returns-2 c = let l = now (c .before .before .before .before .before .before .before .before .before .before .args .state) in
     passed _ _ (c .before .before .before .before .before .before .before .before .if1 .left)
     (taken _ _ (c .before .before .before .before .before .before .before .if2 .taken)
-    (c .before .before .pack2 .ensures ∙ ap (λ (z : Wires). putPart wires z l) (c .before .before .before .before .enabled .ensures ∙ ap enabled (c .before .before .before .before .before .unpack2 .ensures))))
+    (c .before .before .pack2 .ensures ∙ ap (λ (z : Wires). putPart wires z l) (c .before .before .before .before .enabled .ensures ∙ ap enabled
+    (c .before .before .before .before .before .unpack2 .ensures))))
 
 returns-3 : tie.Need-returns-3
 returns-3 c = passed _ _ (c .before .if1 .left) (passed _ _ (c .if2 .left) refl)
