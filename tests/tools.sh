@@ -1,6 +1,6 @@
 #!/usr/bin/env bash
-# What the tests of the archives for other machines need: cross compilers with their C libraries, and emulators, as Debian's packages. Only what is missing is
-# installed; with all there it takes a moment.
+# What the tests of the archives need beside gcc, make, python3 and cargo, as Debian's packages: cross compilers with their C libraries, emulators, and
+# valgrind. Only what is missing is installed; with all there it takes a moment.
 set -euo pipefail
 missing=()
 
@@ -20,6 +20,8 @@ need 'gcc-arm-linux-gnueabihf libc6-dev-armhf-cross' compiles arm-linux-gnueabih
 need qemu-system-arm runs qemu-system-arm
 need qemu-system-misc runs qemu-system-riscv32
 need qemu-user-static runs qemu-arm-static
+# what counts instructions, where the archive is the machine's own
+[ "$(uname -m)" != x86_64 ] || need valgrind runs valgrind
 # x86-64 and AArch64: the one that is not the machine at hand
 [ "$(uname -m)" = aarch64 ] || need 'gcc-aarch64-linux-gnu libc6-dev-arm64-cross' compiles aarch64-linux-gnu-gcc
 [ "$(uname -m)" = x86_64 ] || need 'gcc-x86-64-linux-gnu libc6-dev-amd64-cross' compiles x86_64-linux-gnu-gcc

@@ -3,6 +3,7 @@
 //!     compare [--bars] [EXCHANGES [ROUNDS]]   every reply compared, then times and instructions; with --bars a missed bar of
 //!                                             instructions is a failure
 //!     compare --check [EXCHANGES]             every reply compared and nothing else
+//!     compare --instructions [EXCHANGES]      instructions alone, within their bars
 //!     compare --differential [CALLS]          plain Rust over lent bytes against the archive in the run of tests/differential
 //!     compare --play ENGINE EXCHANGES SEED    the mix once on one engine, for callgrind
 mod check;
@@ -19,7 +20,7 @@ mod time;
 use linked::Archive;
 use mix::Mix;
 use players::{Kept, Lent, Plain};
-use report::{Measured, NAMES};
+use report::{Counted, Measured, NAMES};
 use std::process::ExitCode;
 
 const SEED: u64 = 1;
@@ -50,22 +51,46 @@ fn checked(exchanges: usize) -> Result<Mix, String> {
     Ok(mix)
 }
 
-fn compare(exchanges: usize, rounds: usize, bars: bool) -> Result<(), String> {
-    let mix = checked(exchanges)?;
-    let counted = COUNTED.min(exchanges);
-    let first = Mix::new(counted, SEED);
-    let (number, seed) = (counted.to_string(), SEED.to_string());
+/// Instructions of the first exchanges; `None` where there is no valgrind.
+fn counted(exchanges: usize) -> Result<Option<Counted>, String> {
+    let first = Mix::new(exchanges, SEED);
+    let (number, seed) = (exchanges.to_string(), SEED.to_string());
     let count = |engine| count::count(&first, ["--play", engine, &number, &seed]);
     let counts = match [count(NAMES[0])?, count(NAMES[1])?, count(NAMES[2])?] {
-        [Some(archive), Some(a), Some(b)] => Some([archive, a, b]),
-        _ => None,
+        [Some(archive), Some(a), Some(b)] => [archive, a, b],
+        _ => return Ok(None),
     };
+    Ok(Some(Counted { counts, exchanges }))
+}
+
+/// The bars of instructions, which every machine of a kind finds alike.
+fn held(counted: Option<&Counted>) -> Result<(), String> {
+    let over = counted.ok_or("there is no valgrind to count instructions")?.over();
+    if over.is_empty() {
+        Ok(())
+    } else {
+        Err(format!("instructions over their bars: {}", over.join("; ")))
+    }
+}
+
+fn compare(exchanges: usize, rounds: usize, bars: bool) -> Result<(), String> {
+    let mix = checked(exchanges)?;
+    let counted = counted(COUNTED.min(exchanges))?;
     let over_mix = time::over_mix::<One, Two, Three>(&mix, rounds)?;
     let by_kind = time::by_kind::<One, Two, Three>(&mix, rounds);
-    let measured = Measured { mix: &mix, counts, counted, over_mix, by_kind, rounds };
+    let measured = Measured { mix: &mix, counted, over_mix, by_kind, rounds };
     println!("\n{}\n{}\n{}", measured.tables(), measured.notes(SEED), measured.bars());
-    if bars && (measured.counts.is_none() || !measured.over_in_instructions().is_empty()) {
-        return Err("the instructions are not within their bars".to_string());
+    if bars {
+        held(measured.counted.as_ref())?;
+    }
+    Ok(())
+}
+
+fn instructions(exchanges: usize) -> Result<(), String> {
+    let counted = counted(exchanges)?;
+    held(counted.as_ref())?;
+    if let Some(counted) = counted {
+        println!("compare: {}; within the bars", counted.told());
     }
     Ok(())
 }
@@ -95,12 +120,14 @@ fn play(engine: &str, exchanges: usize, seed: u64) -> Result<(), String> {
     Ok(())
 }
 
-const USAGE: &str = "usage: compare [--bars] [EXCHANGES [ROUNDS]] | --check [EXCHANGES] | --differential [CALLS]";
+const USAGE: &str =
+    "usage: compare [--bars] [EXCHANGES [ROUNDS]] | --check [EXCHANGES] | --instructions [EXCHANGES] | --differential [CALLS]";
 
 fn run(words: &[&str]) -> Result<(), String> {
     let number = |word: Option<&&str>, or: usize| word.map_or(Ok(or), |word| word.parse::<usize>().map_err(|_| USAGE.to_string()));
     match words {
         ["--check", rest @ ..] => checked(number(rest.first(), EXCHANGES)?).map(|_| ()),
+        ["--instructions", rest @ ..] => instructions(number(rest.first(), COUNTED)?.max(1)),
         ["--differential", rest @ ..] => differential(number(rest.first(), 2_000_000)? as u64),
         ["--play", engine, exchanges, seed] => play(engine, number(Some(exchanges), 0)?, number(Some(seed), 0)? as u64),
         words => {

@@ -13,11 +13,16 @@ const INSTRUCTIONS_BAR: f64 = 1.0;
 const TIME_BAR: f64 = 1.1;
 const KIND_BAR: f64 = 1.25;
 
+/// Instructions by engine, of the first exchanges of a mix.
+pub struct Counted {
+    pub counts: [ByKind<Count>; 3],
+    pub exchanges: usize,
+}
+
 pub struct Measured<'a> {
     pub mix: &'a Mix,
-    /// By engine, of the first exchanges of the mix; `None` where there is no valgrind.
-    pub counts: Option<[ByKind<Count>; 3]>,
-    pub counted: usize,
+    /// `None` where there is no valgrind.
+    pub counted: Option<Counted>,
     pub over_mix: OverMix,
     pub by_kind: ByKind<[Time; 3]>,
     pub rounds: usize,
@@ -38,22 +43,46 @@ fn heads(names: &[&str], width: usize) -> String {
     names.iter().map(|name| format!(" {name:>width$}")).collect()
 }
 
-impl Measured<'_> {
-    /// Instructions of a call of a kind, by engine.
-    fn instructions(&self, row: usize) -> [f64; 3] {
-        self.counts.as_ref().map_or([f64::NAN; 3], |counts| [0, 1, 2].map(|engine| counts[engine][row].of_one()))
+impl Counted {
+    /// Of a call of a kind, by engine.
+    fn of_kind(&self, row: usize) -> [f64; 3] {
+        [0, 1, 2].map(|engine| self.counts[engine][row].of_one())
     }
 
-    /// Instructions for an exchange of the mix: those of the exchanges alone, or with those of the board's calls.
+    /// For an exchange of the mix: those of the exchanges alone, or with those of the board's calls.
     fn of_exchange(&self, with_board: bool) -> [f64; 3] {
-        let Some(counts) = &self.counts else { return [f64::NAN; 3] };
         [0, 1, 2].map(|engine| {
             let sum = |with_board: bool| -> Count {
-                let of_kind = |&(kind, _): &(Kind, &str)| counts[engine][kind.row()];
+                let of_kind = |&(kind, _): &(Kind, &str)| self.counts[engine][kind.row()];
                 KINDS.iter().filter(|(kind, _)| with_board || kind.is_exchange()).map(of_kind).sum()
             };
             sum(with_board).instructions as f64 / sum(false).calls as f64
         })
+    }
+
+    /// What is over the bars.
+    pub fn over(&self) -> Vec<String> {
+        let mix = [("the mix, exchanges alone", self.of_exchange(false)), ("the mix, board calls with them", self.of_exchange(true))];
+        let kinds = KINDS.iter().enumerate().map(|(row, (_, name))| (*name, self.of_kind(row)));
+        let over_mix = mix.into_iter().filter_map(|(name, numbers)| over(name, numbers, INSTRUCTIONS_BAR));
+        over_mix.chain(kinds.filter_map(|(name, numbers)| over(name, numbers, KIND_BAR))).collect()
+    }
+
+    /// The mix in a line.
+    pub fn told(&self) -> String {
+        let [archive, a, b] = self.of_exchange(false);
+        let [of_a, of_b] = ratios([archive, a, b]);
+        format!(
+            "{archive:.1} instructions an exchange, {a:.1} in (a) and {b:.1} in (b), of {} exchanges: {of_a:.3} and {of_b:.3}",
+            self.exchanges
+        )
+    }
+}
+
+impl Measured<'_> {
+    /// Instructions by what is asked, or none.
+    fn instructions(&self, asked: impl Fn(&Counted) -> [f64; 3]) -> [f64; 3] {
+        self.counted.as_ref().map_or([f64::NAN; 3], asked)
     }
 
     pub fn tables(&self) -> String {
@@ -65,8 +94,8 @@ impl Measured<'_> {
         let half = by_round.map(|shares| format!(" {:>12}", format!("{:.2}..{:.2}", shares.half[0], shares.half[1]))).concat();
         text += &format!("{:68}{}\n", "  round by round: the median", cells(&by_round.map(|shares| shares.median), 12, 3));
         text += &format!("{:68}{half}\n", "  half of the rounds within");
-        text += &line("instructions, exchanges alone", self.of_exchange(false));
-        text += &line("instructions, board calls with them", self.of_exchange(true));
+        text += &line("instructions, exchanges alone", self.instructions(|counted| counted.of_exchange(false)));
+        text += &line("instructions, board calls with them", self.instructions(|counted| counted.of_exchange(true)));
 
         let of = ["/(a)", "/(b)"];
         text += &format!("\n{:32} {:>6} |{:<38} |{:<41} | the least\n", "", "share", " instructions", " nanoseconds, the median");
@@ -78,21 +107,13 @@ impl Measured<'_> {
                 text += "board calls; the share is of the exchanges, too\n";
             }
             let share = 100.0 * made[row] as f64 / self.mix.exchanges as f64;
-            let instructions = self.instructions(row);
+            let instructions = self.instructions(|counted| counted.of_kind(row));
             let times = self.by_kind[row].map(|time| time.median);
             let least = self.by_kind[row].map(|time| time.least);
             text += &format!("{name:32} {share:>6.2} |{}{}", cells(&instructions, 7, 0), cells(&ratios(instructions), 6, 2));
             text += &format!(" |{}{} |{}\n", cells(&times, 8, 1), cells(&ratios(times), 6, 2), cells(&ratios(least), 6, 2));
         }
         text
-    }
-
-    /// What is over the bars in instructions.
-    pub fn over_in_instructions(&self) -> Vec<String> {
-        let mix = [("the mix, exchanges alone", self.of_exchange(false)), ("the mix, board calls with them", self.of_exchange(true))];
-        let kinds = KINDS.iter().enumerate().map(|(row, (_, name))| (*name, self.instructions(row)));
-        let over = mix.into_iter().filter_map(|(name, numbers)| over(name, numbers, INSTRUCTIONS_BAR));
-        over.chain(kinds.filter_map(|(name, numbers)| self::over(name, numbers, KIND_BAR))).collect()
     }
 
     /// What is over the bars in time, by the medians.
@@ -106,12 +127,13 @@ impl Measured<'_> {
         let mut text = format!(
             "Bars, of (a): over the mix {INSTRUCTIONS_BAR} in instructions and {TIME_BAR} in time, {KIND_BAR} for any kind in either.\n"
         );
-        for (what, over) in [("instructions", self.over_in_instructions()), ("time", self.over_in_time())] {
-            match over.as_slice() {
-                [] if what == "instructions" && self.counts.is_none() => text += "  instructions: not counted, there is no valgrind\n",
-                [] => text += &format!("  {what}: nothing is over them\n"),
-                over => text += &format!("  {what}, over them: {}\n", over.join("; ")),
-            }
+        let instructions = self.counted.as_ref().map(Counted::over);
+        for (what, over) in [("instructions", instructions), ("time", Some(self.over_in_time()))] {
+            text += &match over.as_deref() {
+                None => format!("  {what}: not counted, there is no valgrind\n"),
+                Some([]) => format!("  {what}: nothing is over them\n"),
+                Some(over) => format!("  {what}, over them: {}\n", over.join("; ")),
+            };
         }
         let [from, to] = self.over_mix.by_round[0].half;
         if (from..=to).contains(&TIME_BAR) {
@@ -137,7 +159,7 @@ impl Measured<'_> {
             "  in place is timed by itself and subtracted.".to_string(),
             format!(
                 "Instructions: of the first {} exchanges, by callgrind, from the call of an engine's function to its end.",
-                self.counted
+                self.counted.as_ref().map_or(0, |counted| counted.exchanges)
             ),
             format!("Machine: {}, {}.", machine(), std::env::consts::ARCH),
             format!("Plain Rust: {}, {}. Archive, as it is: {}.", env!("COMPARE_RUSTC"), env!("COMPARE_FLAGS"), env!("COMPARE_ARCHIVE")),
