@@ -26,12 +26,6 @@ impl State {
             wires: Wires::fresh(),
         }
     }
-
-    pub fn status(self) -> u32
-        ensures { λ r. ⌜ r ≡ status self ⌝ }
-    {
-        self.peripheral.status() + self.wires.status()
-    }
 }
 
 // The state's 77 bytes at the start of `dst`; what is past them stays.

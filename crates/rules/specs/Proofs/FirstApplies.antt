@@ -14,6 +14,7 @@ use Rattle.registers.specs.declared.Config.{Config}
 use Rattle.command.specs.Rows.{rowOf}
 use Rattle.command.specs.Needs.{channelOn, lengthOf, groupCount, allFF, wholeWith, needData}
 use Rattle.command.specs.Decode.{admit, admitListed, readOff, checkedAs, crcGood, crcWrong}
+use Rattle.command.specs.Refused.{numberIn}
 use Rattle.command.specs.Facts.{cycleWrong}
 use Rattle.command.specs.declared.Data.{Data}
 use Rattle.command.specs.declared.Data.the-variants.{Fixed, Length, Pairs, Ones}
@@ -23,8 +24,6 @@ use Rattle.command.specs.declared.Listed.the-variants.{As, Unlisted}
 use Rattle.command.specs.declared.Need.{Need}
 use Rattle.command.specs.declared.Need.the-variants.{Whole}
 use Rattle.command.specs.declared.Command.{Command}
-use Rattle.command.specs.declared.Decoded.{Decoded}
-use Rattle.command.specs.declared.Decoded.the-variants.{Known, Refused}
 use Rattle.state.specs.declared.State.{State}
 use Rattle.state.specs.Facts.{sound-wires}
 use Rattle.state.specs.Sound.{sound}
@@ -51,10 +50,6 @@ use Rattle.rules.specs.declared.Out.{Out}
 use Rattle.rules.specs.declared.Plan.{Plan}
 
 -- ---- the decoder's tests in a chain
-
-abbrev numberIn : Decoded → ℕ
-numberIn (Refused n) = n
-numberIn (Known o) = 0
 
 abbrev crcTest : Config → List ℕ → Row → ℕ
 crcTest c b q = pick (crcWrong (crcChecked (c .r008)) (q .crc) b) 16 0
