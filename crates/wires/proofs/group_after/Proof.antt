@@ -1,5 +1,4 @@
 use mathlib.Core.Path.{refl, _∙_}
-use native.Mathlib.Omega.{arith}
 use borrow.Author.Tests.{eq-eqb, ne-eqb}
 use Rattle.base.specs.Pick.{taken, passed}
 use Rattle.wires.specs.Rows.{up-group, group-next}
