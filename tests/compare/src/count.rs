@@ -128,7 +128,7 @@ fn read(text: &str) -> Result<ByKind<Count>, String> {
     Ok(counts)
 }
 
-/// Counts a run of this program: `--play ENGINE EXCHANGES SEED`, which plays this mix. `None`: there is no valgrind.
+/// Counts a run of this program: `--play ENGINE EXCHANGES SEED`, which plays this mix. `None`: no valgrind runs it.
 pub fn count(mix: &Mix, words: [&str; 4]) -> Result<Option<ByKind<Count>>, String> {
     let out = std::env::temp_dir().join(format!("compare-{}.callgrind", std::process::id()));
     let program = std::env::current_exe().map_err(|error| error.to_string())?;
@@ -144,7 +144,10 @@ pub fn count(mix: &Mix, words: [&str; 4]) -> Result<Option<ByKind<Count>>, Strin
     match run {
         Err(error) if error.kind() == ErrorKind::NotFound => return Ok(None),
         Err(error) => return Err(format!("valgrind: {error}")),
-        Ok(status) if !status.success() => return Err(format!("valgrind: {status}")),
+        Ok(status) if !status.success() => {
+            println!("compare: valgrind does not run this program: {status}");
+            return Ok(None);
+        }
         Ok(_) => {}
     }
     let counts = read(&text.map_err(|error| format!("{}: {error}", out.display()))?)?;

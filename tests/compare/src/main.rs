@@ -51,7 +51,7 @@ fn checked(exchanges: usize) -> Result<Mix, String> {
     Ok(mix)
 }
 
-/// Instructions of the first exchanges; `None` where there is no valgrind.
+/// Instructions of the first exchanges; `None` where no valgrind runs.
 fn counted(exchanges: usize) -> Result<Option<Counted>, String> {
     let first = Mix::new(exchanges, SEED);
     let (number, seed) = (exchanges.to_string(), SEED.to_string());
@@ -65,7 +65,7 @@ fn counted(exchanges: usize) -> Result<Option<Counted>, String> {
 
 /// The bars of instructions, which every machine of a kind finds alike.
 fn held(counted: Option<&Counted>) -> Result<(), String> {
-    let over = counted.ok_or("there is no valgrind to count instructions")?.over();
+    let over = counted.ok_or("no valgrind counts instructions")?.over();
     if over.is_empty() {
         Ok(())
     } else {

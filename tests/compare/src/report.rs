@@ -21,7 +21,7 @@ pub struct Counted {
 
 pub struct Measured<'a> {
     pub mix: &'a Mix,
-    /// `None` where there is no valgrind.
+    /// `None` where no valgrind runs.
     pub counted: Option<Counted>,
     pub over_mix: OverMix,
     pub by_kind: ByKind<[Time; 3]>,
@@ -130,7 +130,7 @@ impl Measured<'_> {
         let instructions = self.counted.as_ref().map(Counted::over);
         for (what, over) in [("instructions", instructions), ("time", Some(self.over_in_time()))] {
             text += &match over.as_deref() {
-                None => format!("  {what}: not counted, there is no valgrind\n"),
+                None => format!("  {what}: not counted, no valgrind runs\n"),
                 Some([]) => format!("  {what}: nothing is over them\n"),
                 Some(over) => format!("  {what}, over them: {}\n", over.join("; ")),
             };
