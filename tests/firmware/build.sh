@@ -5,7 +5,7 @@ set -eu
 cd "$(dirname "$0")/../.."
 out=target/firmware
 # Most functions of the module are called once: -Os alone leaves them apart, which costs stack, and code to hand structs over.
-small='-Os -mllvm -inline-threshold=2000'
+small='-Os -mllvm -inline-threshold=1000'
 case ${1:-} in
 thumbv7em-none-eabi) own=$small ;;
 riscv32-unknown-elf) own="$small -march=rv32imac -mabi=ilp32" ;;
