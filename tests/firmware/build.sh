@@ -4,11 +4,12 @@
 set -eu
 cd "$(dirname "$0")/../.."
 out=target/firmware
-# Most functions of the module are called once: -Os alone leaves them apart, which costs stack, and code to hand structs over.
-small='-Os -mllvm -inline-threshold=1000'
+# Most functions of the module are called once: -Os alone leaves them apart, which costs stack, and code to hand structs over. How far to inline is each
+# core's own: beyond this the CRC would stand at every opcode of the decoder.
+small='-Os -mllvm -inline-threshold'
 case ${1:-} in
-thumbv7em-none-eabi) own=$small ;;
-riscv32-unknown-elf) own="$small -march=rv32imac -mabi=ilp32" ;;
+thumbv7em-none-eabi) own=$small=1000 ;;
+riscv32-unknown-elf) own="$small=1500 -march=rv32imac -mabi=ilp32" ;;
 aarch64-linux-gnu | armv7-linux-gnueabihf) own='-O3 -fPIC' ;;
 *)
     echo "firmware: ${1:+no such TRIPLE: $1; }make firmware TRIPLE=.. with one of" >&2
