@@ -604,6 +604,7 @@ pub fn admit(on: Channels, checked: bool, b: &[u8]) -> Decoded
     let listed = row_of(b[0]);
     match listed {
         Listed::As(r) => Decoded::Known(command_of(r, b)),
+        // What has no row is refused above.
         Listed::Unlisted => Decoded::Refused(OPCODE_UNKNOWN),
     }
 }
