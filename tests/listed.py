@@ -84,8 +84,18 @@ def clause(contract, word):
     return rest[: end.start()] if end else rest
 
 
+def fields(crate, ensures):
+    """Those of the crate's records that an ensures names."""
+    for path in glob.glob(f"crates/{crate}/specs/**/*.antt", recursive=True):
+        for name, block in re.findall(r"^pub record (\w+).* where\n((?:  .*\n)+)", read(path), re.M):
+            if re.search(rf"\b{name}\b", ensures):
+                yield block
+
+
 def form(crate, found, name):
     ensures = clause(found[name].contract, "ensures")
+    if ensures and "≡" not in ensures:
+        ensures = "".join(fields(crate, ensures))
     if not ensures:
         return "prints" if name in printing(crate, found) and "->" not in found[name].contract else "none"
     return str(ensures.count("≡")) + (" + bound" if re.search(r"[<≤]", ensures) else "")
@@ -195,7 +205,7 @@ FURTHER += ["wires/specs/Below", "wires/specs/Table", "wires/specs/Turn", "house
 FURTHER += ["playback/specs/Lines", "playback/specs/Places", "playback/specs/Spelt", "playback/specs/Statements"]
 WHOLE = ["rules/specs/Rules", "rules/specs/Statements", "promises/specs/Statements", "code/specs"]
 PUBLIC = re.compile(r"^( *(?:abbrev|unfoldable) | +(?=pub (?:record|data) ))?pub (record |data )?(?!use |mod )([^\s:({]+)")
-RULE = re.compile(r'"[^"]+"|\b00, demand \d|\b01, [A-Z]|\b02, Q-\d|\b004, (?:tables? )?\d')
+RULE = re.compile(r'"[^"]+"|\b00, demand \d|\b01, [A-Z]|\b02, Q-\d|\b004, (?:tables? )?\d|\bdocs/STATE\.md')
 
 
 def definitions(path):
@@ -216,7 +226,7 @@ def definitions(path):
 
 
 def cited_definitions(page):
-    """Each quotes its rule, or has the rule's place in 00, 01, 02 or 004, or a number of docs/DECISIONS.md; how many there are."""
+    """Each quotes its rule, or has its place in 00, 01, 02, 004 or docs/STATE.md, or a number of docs/DECISIONS.md; how many there are."""
     files = {f"crates/{name}.antt" for name in FURTHER}
     for directory in WHOLE:
         files |= set(glob.glob(f"crates/{directory}/**/*.antt", recursive=True))
