@@ -14,7 +14,7 @@ pub fn lent(
 }
 
 fn send(
-    state: &mut [u8; 77],
+    state: &mut [u8; 174],
     write_store: &mut [u8; 256],
     read_store: &[u8; 4096],
     command: &[u8],
@@ -25,7 +25,7 @@ fn send(
 
 // Sends the first n bytes.
 pub fn send_part(
-    state: &mut [u8; 77],
+    state: &mut [u8; 174],
     write_store: &mut [u8; 256],
     read_store: &[u8; 4096],
     bytes: &[u8],
@@ -36,12 +36,12 @@ pub fn send_part(
     }
 }
 
-fn get_pc(state: &mut [u8; 77], write_store: &mut [u8; 256], read_store: &[u8; 4096]) {
+fn get_pc(state: &mut [u8; 174], write_store: &mut [u8; 256], read_store: &[u8; 4096]) {
     send(state, write_store, read_store, &[0x01, 0x07]);
 }
 
 // GET_PC, n times.
-pub fn pieces(state: &mut [u8; 77], write_store: &mut [u8; 256], read_store: &[u8; 4096], n: u32) {
+pub fn pieces(state: &mut [u8; 174], write_store: &mut [u8; 256], read_store: &[u8; 4096], n: u32) {
     let mut left = n;
     while left > 0 {
         get_pc(state, write_store, read_store);
@@ -49,19 +49,19 @@ pub fn pieces(state: &mut [u8; 77], write_store: &mut [u8; 256], read_store: &[u
     }
 }
 
-pub fn start(state: &mut [u8; 77]) {
+pub fn start(state: &mut [u8; 174]) {
     print::done(b"start", espi::espi_start(state));
 }
 
-pub fn reset(state: &mut [u8; 77]) {
+pub fn reset(state: &mut [u8; 174]) {
     print::done(b"reset", espi::espi_reset(state));
 }
 
-pub fn platform_reset(state: &mut [u8; 77]) {
+pub fn platform_reset(state: &mut [u8; 174]) {
     print::done(b"platform reset", espi::espi_platform_reset(state));
 }
 
-pub fn look(state: &[u8; 77]) {
+pub fn look(state: &[u8; 174]) {
     let mut report = [0; 19];
     let word = espi::espi_look(state, &mut report);
     print::reported(b"look", word, &report);
@@ -72,7 +72,7 @@ fn length(report: &[u8; 10]) -> usize {
 }
 
 // The report, and the data that the write store holds.
-pub fn take(state: &mut [u8; 77], write_store: &[u8; 256]) {
+pub fn take(state: &mut [u8; 174], write_store: &[u8; 256]) {
     let mut report = [0; 10];
     let word = espi::espi_take_write(state, write_store, &mut report);
     print::reported(b"take", word, &report);
@@ -82,7 +82,7 @@ pub fn take(state: &mut [u8; 77], write_store: &[u8; 256]) {
 }
 
 fn answer(
-    state: &mut [u8; 77],
+    state: &mut [u8; 174],
     read_store: &mut [u8; 4096],
     serial: u32,
     success: u32,
@@ -107,7 +107,7 @@ fn fill(bytes: &mut [u8; 4096]) {
 
 // Answers with the first n bytes.
 pub fn answer_part(
-    state: &mut [u8; 77],
+    state: &mut [u8; 174],
     read_store: &mut [u8; 4096],
     serial: u32,
     success: u32,
@@ -120,7 +120,7 @@ pub fn answer_part(
 }
 
 fn answer_first(
-    state: &mut [u8; 77],
+    state: &mut [u8; 174],
     read_store: &mut [u8; 4096],
     serial: u32,
     bytes: &[u8; 4096],
@@ -130,18 +130,42 @@ fn answer_first(
 }
 
 // Success with n bytes: byte i is i plus the number of its block of 64, modulo 256.
-pub fn answer_long(state: &mut [u8; 77], read_store: &mut [u8; 4096], serial: u32, n: usize) {
+pub fn answer_long(state: &mut [u8; 174], read_store: &mut [u8; 4096], serial: u32, n: usize) {
     let mut bytes = [0; 4096];
     fill(&mut bytes);
     answer_first(state, read_store, serial, &bytes, n);
 }
 
-pub fn set_wire(state: &mut [u8; 77], index: u32, bit: u32, value: u32) {
+pub fn set_wire(state: &mut [u8; 174], index: u32, bit: u32, value: u32) {
     let word = espi::espi_set_wire(state, index, bit, value);
     print::wire_set(word, index, bit, value);
 }
 
-pub fn read_wire(state: &[u8; 77], index: u32, bit: u32) {
+pub fn read_wire(state: &[u8; 174], index: u32, bit: u32) {
     let word = espi::espi_read_wire(state, index, bit);
     print::wire_read(word, index, bit);
+}
+
+pub fn set_line(state: &mut [u8; 174], line: u32, level: u32) {
+    let word = espi::espi_set_line(state, line, level);
+    print::line_set(word, line, level);
+}
+
+pub fn pulse_line(state: &mut [u8; 174], line: u32) {
+    let word = espi::espi_pulse_line(state, line);
+    print::line_pulsed(word, line);
+}
+
+// Every line below n, in one line of text: the number of the last that is refused, or 0.
+pub fn set_lines(state: &mut [u8; 174], n: u32, level: u32) {
+    let mut refused = 0;
+    let mut line = 0;
+    while line < n {
+        let word = espi::espi_set_line(state, line, level);
+        if word != 0 {
+            refused = word;
+        }
+        line += 1;
+    }
+    print::lines_set(refused, n, level);
 }

@@ -5,7 +5,7 @@ mod print;
 mod script;
 
 fn main() {
-    let mut state = [0; 77];
+    let mut state = [0; 174];
     let mut write_store = [0; 256];
     let mut read_store = [0; 4096];
     let mut text = io::large_buffer();

@@ -184,3 +184,29 @@ pub fn wire_read(word: u32, index: u32, bit: u32) {
     let d = decimal(&mut line, c, word / 256);
     finish(&mut line, d);
 }
+
+fn leveled(words: &[u8], word: u32, number: u32, level: u32) {
+    let mut line = [0; 1024];
+    let a = call(&mut line, b"set line", word);
+    let b = text(&mut line, a, words);
+    let c = decimal(&mut line, b, number);
+    let d = text(&mut line, c, b" = ");
+    let e = decimal(&mut line, d, level);
+    finish(&mut line, e);
+}
+
+pub fn line_set(word: u32, number: u32, level: u32) {
+    leveled(b"  line ", word, number, level);
+}
+
+pub fn lines_set(word: u32, n: u32, level: u32) {
+    leveled(b"  lines below ", word, n, level);
+}
+
+pub fn line_pulsed(word: u32, number: u32) {
+    let mut line = [0; 1024];
+    let a = call(&mut line, b"pulse line", word);
+    let b = text(&mut line, a, b"  line ");
+    let c = decimal(&mut line, b, number);
+    finish(&mut line, c);
+}

@@ -36,6 +36,14 @@ fn wide(x: u8) -> u32 {
     x as u32
 }
 
+// The number that two bytes in hex at column p say, the high one first.
+fn wide2(line: &[u8], p: usize) -> u32 {
+    if p < line.len() {
+        return base::from_high2(field(line, p), field(line, p + 3));
+    }
+    0
+}
+
 // The bytes from column p on, and how many there are.
 fn fields(line: &[u8], p: usize, bytes: &mut [u8; 1024]) -> usize {
     let mut k = 0;
@@ -52,7 +60,7 @@ fn fields(line: &[u8], p: usize, bytes: &mut [u8; 1024]) -> usize {
 }
 
 fn exchange(
-    state: &mut [u8; 77],
+    state: &mut [u8; 174],
     write_store: &mut [u8; 256],
     read_store: &[u8; 4096],
     line: &[u8],
@@ -62,7 +70,7 @@ fn exchange(
     calls::send_part(state, write_store, read_store, bytes, k);
 }
 
-fn answer(state: &mut [u8; 77], read_store: &mut [u8; 4096], line: &[u8], bytes: &mut [u8; 1024]) {
+fn answer(state: &mut [u8; 174], read_store: &mut [u8; 4096], line: &[u8], bytes: &mut [u8; 1024]) {
     let k = fields(line, 15, bytes);
     calls::answer_part(
         state,
@@ -76,7 +84,7 @@ fn answer(state: &mut [u8; 77], read_store: &mut [u8; 4096], line: &[u8], bytes:
 
 // The calls that move bytes.
 fn obey_bus(
-    state: &mut [u8; 77],
+    state: &mut [u8; 174],
     write_store: &mut [u8; 256],
     read_store: &mut [u8; 4096],
     line: &[u8],
@@ -96,7 +104,7 @@ fn obey_bus(
         return true;
     }
     if word == b'f' {
-        let count = base::from_high2(field(line, 12), field(line, 15)) as usize;
+        let count = wide2(line, 12) as usize;
         calls::answer_long(state, read_store, wide(field(line, 9)), count);
         return true;
     }
@@ -107,8 +115,26 @@ fn obey_bus(
     false
 }
 
-// The calls on the state alone, and the take.
-fn obey_board(state: &mut [u8; 77], write_store: &[u8; 256], line: &[u8]) -> bool {
+// The calls on lines.
+fn obey_line(state: &mut [u8; 174], line: &[u8]) -> bool {
+    let word = at(line, 0);
+    if word == b'h' {
+        calls::set_line(state, wide2(line, 9), wide(field(line, 15)));
+        return true;
+    }
+    if word == b'm' {
+        calls::set_lines(state, wide2(line, 9), wide(field(line, 15)));
+        return true;
+    }
+    if word == b'i' {
+        calls::pulse_line(state, wide2(line, 9));
+        return true;
+    }
+    false
+}
+
+// The calls on the state alone but for lines, and the take.
+fn obey_board(state: &mut [u8; 174], write_store: &[u8; 256], line: &[u8]) -> bool {
     let word = at(line, 0);
     if word == b's' {
         calls::start(state);
@@ -123,7 +149,7 @@ fn obey_board(state: &mut [u8; 77], write_store: &[u8; 256], line: &[u8]) -> boo
         return true;
     }
     if word == b'b' {
-        *state = [0xFF; 77];
+        *state = [0xFF; 174];
         return true;
     }
     if word == b'l' {
@@ -151,7 +177,7 @@ fn obey_board(state: &mut [u8; 77], write_store: &[u8; 256], line: &[u8]) -> boo
 }
 
 fn obey(
-    state: &mut [u8; 77],
+    state: &mut [u8; 174],
     write_store: &mut [u8; 256],
     read_store: &mut [u8; 4096],
     line: &[u8],
@@ -162,12 +188,15 @@ fn obey(
     if obey_board(state, write_store, line) {
         return;
     }
+    if obey_line(state, line) {
+        return;
+    }
     print::title(line);
 }
 
 // Obeys the line that began at `from`, if i ends it; where the line begins that the next character is in.
 fn step(
-    state: &mut [u8; 77],
+    state: &mut [u8; 174],
     write_store: &mut [u8; 256],
     read_store: &mut [u8; 4096],
     script: &[u8],
@@ -187,7 +216,7 @@ fn step(
 }
 
 pub fn play(
-    state: &mut [u8; 77],
+    state: &mut [u8; 174],
     write_store: &mut [u8; 256],
     read_store: &mut [u8; 4096],
     script: &[u8],

@@ -24,7 +24,7 @@ fn room(block: &[u8], at: usize) -> usize
 }
 
 fn play(file: &[u8]) {
-    let mut state = [0; 77];
+    let mut state = [0; 174];
     let mut reply = [0; 263];
     let mut write_store = [0; 256];
     let mut read_store = [0; 4096];

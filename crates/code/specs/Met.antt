@@ -9,6 +9,8 @@ use Rattle.espi.proofs.espi_answer.Statement as Answer
 use Rattle.espi.proofs.espi_take_write.Statement as TakeWrite
 use Rattle.espi.proofs.espi_set_wire.Statement as SetWire
 use Rattle.espi.proofs.espi_read_wire.Statement as ReadWire
+use Rattle.espi.proofs.espi_set_line.Statement as SetLine
+use Rattle.espi.proofs.espi_pulse_line.Statement as PulseLine
 
 -- "Any bytes on the bus, any board call, any state handed in: the engine ends and does nothing undefined" (00, demand 1); "None may lack a contract on its
 -- outcome" (01, What each contract must settle)
@@ -22,3 +24,5 @@ pub record CodeMeets (M : Type 1) : Type 2 where
   pub takeWrite : TakeWrite.statement M
   pub setWire : SetWire.statement M
   pub readWire : ReadWire.statement M
+  pub setLine : SetLine.statement M
+  pub pulseLine : PulseLine.statement M

@@ -8,6 +8,8 @@ use Rattle.espi.proofs.espi_answer.Met as Answer
 use Rattle.espi.proofs.espi_take_write.Met as TakeWrite
 use Rattle.espi.proofs.espi_set_wire.Met as SetWire
 use Rattle.espi.proofs.espi_read_wire.Met as ReadWire
+use Rattle.espi.proofs.espi_set_line.Met as SetLine
+use Rattle.espi.proofs.espi_pulse_line.Met as PulseLine
 use Rattle.code.specs.Met.{CodeMeets}
 
 pub code-meets : {M : Type 1} → CodeMeets M
@@ -22,4 +24,6 @@ code-meets =
       takeWrite = TakeWrite.met;
       setWire = SetWire.met;
       readWire = ReadWire.met;
+      setLine = SetLine.met;
+      pulseLine = PulseLine.met;
     }

@@ -45,6 +45,7 @@ fn non_fatally(word: u32) -> Outgoing
     Outgoing {
         number: rules::NON_FATAL,
         reply: Reply::Said(Response::NonFatal, Body::Nothing, word),
+        packet: false,
         kept: Kept::Nothing,
     }
 }
@@ -58,7 +59,11 @@ pub(crate) fn set(c: Config, address: u32, val: u32, state: &mut [u8]) -> Outgoi
     if registers::forbidden(address, val) {
         return non_fatally(word);
     }
-    reconfigure(c, c.write(address, val), state);
+    let next = c.write(address, val);
+    if (address == 0x020) & wires_channel::hinders(next, state) {
+        return non_fatally(word);
+    }
+    reconfigure(c, next, state);
     crate::shown(Body::Nothing, word)
 }
 

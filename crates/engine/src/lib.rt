@@ -12,13 +12,13 @@ use peripheral::Peripheral;
 use registers::Config;
 use registers::Reg010;
 use rules::Body;
+use rules::GroupsChange;
 use rules::Kept;
 use rules::PeripheralChange;
 use rules::Reply;
 use rules::Response;
 use rules::Say;
-use rules::WiresChange;
-use state::State;
+use state::Core;
 use wires::Wires;
 ghost use mathlib.Core.Path.{_≡_};
 ghost use Prim.Native.Nat.{_+_, _*_, _≤_};
@@ -27,17 +27,22 @@ ghost use Rattle.command.specs.Facts.{CommandFits, PeripheralFits, WiresFits};
 ghost use Rattle.state.specs.Layout.{stateLength, unpacked};
 ghost use Rattle.rules.specs.Rules.Reset.{espiReset, platformReset};
 ghost use Rattle.rules.specs.Rules.Peripheral.{succeeded, answerTo, taken};
-ghost use Rattle.rules.specs.Rules.Wires.{Act, setting};
+ghost use mathlib.Core.Bool.{true};
+ghost use Rattle.rules.specs.Rules.Fits.{plainSay};
+ghost use Rattle.rules.specs.declared.Say.the-variants.{Silent};
+ghost use Rattle.rules.specs.Rules.Wires.{Act, setting, settingLine, pulsingLine};
 ghost use Rattle.rules.specs.Rules.Channel.{peripheral, wires, actOf};
 ghost use Rattle.rules.specs.Rules.Lift.{withStatus, lift};
 ghost use Rattle.rules.specs.Rules.Exchange.{wasReset, acted, decide, exchange};
 ghost use Rattle.rules.specs.Rules.Calls.{kept};
-ghost use Rattle.engine.specs.Carried.{Loadable, Stays, carried, carriedBy, showing, quiet, refusedBy};
+ghost use Rattle.engine.specs.Carried.{Loadable, Stays, carried, carriedBy, beside, Resets, showing, failing, quiet, refusedBy};
 
-// A plan without its next state, which stands in the state's bytes.
+// A plan without its next state, which stands in the state's bytes; or a packet of wires in the place of a reply. It is made where it is written, from the
+// place and with the capacity that the state's bytes have, and the wires among them change then.
 pub struct Outgoing {
     pub number: u8,
     pub reply: Reply,
+    pub packet: bool,
     pub kept: Kept,
 }
 
@@ -53,36 +58,43 @@ fn reply_with(say: Say, word: u32) -> Reply
     }
 }
 
+// A call of the board says nothing, so no status is looked at.
 fn lift_peripheral(x: PeripheralChange, state: &mut [u8]) -> Outgoing
-    requires { ⌜ Loadable (now state) × Stays (unpacked (now state)) (lift peripheral (unpacked (now state)) x) ⌝ }
+    requires { ⌜ Loadable (now state) × Stays (unpacked (now state)) (lift peripheral (unpacked (now state)) x) × (x .out .say ≡ Silent) ⌝ }
     ensures { λ r. ⌜ carried r (now (state .exit)) ≡ carriedBy (lift peripheral (unpacked (now (state .entry))) x) (now (state .entry)) ⌝ }
 {
     let next = x.next;
     let out = x.out;
-    let say = out.say;
     let kept = out.kept;
-    let word = next.status() + Wires::status_in(state);
     peripheral_channel::store(out.number, next, state);
     Outgoing {
         number: out.number,
-        reply: reply_with(say, word),
+        reply: Reply::Silent,
+        packet: false,
         kept,
     }
 }
 
-fn lift_wires(x: WiresChange, state: &mut [u8]) -> Outgoing
-    requires { ⌜ Loadable (now state) × Stays (unpacked (now state)) (lift wires (unpacked (now state)) x) ⌝ }
-    ensures { λ r. ⌜ carried r (now (state .exit)) ≡ carriedBy (lift wires (unpacked (now (state .entry))) x) (now (state .entry)) ⌝ }
+// The lines stay where they stand.
+fn lift_wires(x: GroupsChange, state: &mut [u8]) -> Outgoing
+    requires { ⌜
+        Loadable (now state)
+        × Stays (unpacked (now state)) (lift wires (unpacked (now state)) (beside (unpacked (now state) .wires .lines) x))
+        × (plainSay (x .out .say) ≡ true) ⌝ }
+    ensures { λ r. ⌜
+        carried r (now (state .exit))
+        ≡ carriedBy (lift wires (unpacked (now (state .entry))) (beside (unpacked (now (state .entry)) .wires .lines) x)) (now (state .entry)) ⌝ }
 {
     let next = x.next;
     let out = x.out;
     let say = out.say;
     let kept = out.kept;
-    let word = Peripheral::status_in(state) + next.status();
+    let others = Peripheral::status_in(state);
     wires_channel::store(out.number, next, state);
     Outgoing {
         number: out.number,
-        reply: reply_with(say, word),
+        reply: reply_with(say, others + Wires::status_in(state)),
+        packet: false,
         kept,
     }
 }
@@ -105,16 +117,9 @@ fn act_peripheral(c: Config, o: PeripheralCommand, b: &[u8], state: &mut [u8]) -
     Outgoing {
         number: out.number,
         reply: reply_with(say, Peripheral::status_in(state) + others),
+        packet: false,
         kept,
     }
-}
-
-// The platform reset on the bytes.
-fn reset_in(state: &mut [u8])
-    requires { ⌜ stateLength ≤ length (now state) ⌝ }
-    ensures { λ _. ⌜ now (state .exit) ≡ kept (wasReset platformReset (unpacked (now (state .entry)))) (now (state .entry)) ⌝ }
-{
-    state::pack(platform_reset(state::unpack(state)), state);
 }
 
 // Where a PUT_VWIRE has lowered PLTRST# the platform reset follows its reply, which is made by then.
@@ -130,17 +135,25 @@ fn put_wires(c: Config, n: u32, b: &[u8], state: &mut [u8]) -> Outgoing
     let is = wires_channel::pltrst(x.next);
     let out = lift_wires(x, state);
     if was & !is {
-        reset_in(state);
+        platform_reset(state);
     }
     out
 }
 
-// A GET_VWIRE leaves every level.
-fn send_wires(c: Config, state: &mut [u8]) -> Outgoing
-    requires { ⌜ Loadable (now state) × (c ≡ unpacked (now state) .config) ⌝ }
-    ensures { λ r. ⌜ carried r (now (state .exit)) ≡ carriedBy (acted wires (unpacked (now (state .entry))) Act.gets) (now (state .entry)) ⌝ }
+// The packet that a GET_VWIRE sends is made where the reply is written: from the place on, as many entries as the operating count.
+fn send_wires(state: &[u8]) -> Outgoing
+    requires { ⌜ Loadable (now state) ⌝ }
+    ensures { λ r. ⌜ carried r (now (state .entry)) ≡ carriedBy (acted wires (unpacked (now (state .entry))) Act.gets) (now (state .entry)) ⌝ }
 {
-    lift_wires(wires_channel::get_vwire(c, Wires::unpack(state)), state)
+    if !Wires::any_pending(state) {
+        return fatally(state::status_in(state));
+    }
+    Outgoing {
+        number: 0,
+        reply: Reply::Silent,
+        packet: true,
+        kept: Kept::Nothing,
+    }
 }
 
 // The two are apart, so that a GET_VWIRE pays nothing for PLTRST#.
@@ -153,7 +166,7 @@ fn act_wires(c: Config, o: WiresCommand, b: &[u8], state: &mut [u8]) -> Outgoing
 {
     match o {
         WiresCommand::PutVwire(n) => put_wires(c, n, b, state),
-        WiresCommand::GetVwire => send_wires(c, state),
+        WiresCommand::GetVwire => send_wires(state),
     }
 }
 
@@ -165,6 +178,7 @@ fn silently(number: u8) -> Outgoing
     Outgoing {
         number,
         reply: Reply::Silent,
+        packet: false,
         kept: Kept::Nothing,
     }
 }
@@ -175,6 +189,18 @@ fn shown(body: Body, word: u32) -> Outgoing
     Outgoing {
         number: 0,
         reply: Reply::Said(Response::Accept, body, word),
+        packet: false,
+        kept: Kept::Nothing,
+    }
+}
+
+fn fatally(word: u32) -> Outgoing
+    ensures { λ r. ⌜ r ≡ failing word ⌝ }
+{
+    Outgoing {
+        number: rules::FATAL,
+        reply: Reply::Said(Response::Fatal, Body::Nothing, word),
+        packet: false,
         kept: Kept::Nothing,
     }
 }
@@ -224,26 +250,26 @@ pub fn exchange(b: &[u8], state: &mut [u8]) -> Outgoing
 
 // ---- the resets: each channel its own
 
-pub fn espi_reset(s: State) -> State
-    ensures { λ r. ⌜ r ≡ wasReset espiReset s ⌝ }
+fn espi_core(s: Core) -> Core
+    ensures { λ r. ⌜ Resets espiReset s r ⌝ }
 {
     let p = s.peripheral;
-    State {
+    Core {
         config: Config::fresh(),
         peripheral: Peripheral::idle(p.serial),
         wires: Wires::fresh(),
     }
 }
 
-pub fn platform_reset(s: State) -> State
-    ensures { λ r. ⌜ r ≡ wasReset platformReset s ⌝ }
+fn platform_core(s: Core) -> Core
+    ensures { λ r. ⌜ Resets platformReset s r ⌝ }
 {
     let c = s.config;
     let r008 = c.r008;
     let r020 = c.r020;
     let held = s.peripheral;
     let w = s.wires;
-    State {
+    Core {
         config: Config {
             r008,
             r010: Reg010::fresh(),
@@ -252,6 +278,22 @@ pub fn platform_reset(s: State) -> State
         peripheral: Peripheral::idle(held.serial),
         wires: w.platform(),
     }
+}
+
+// The eSPI reset on the bytes.
+pub fn espi_reset(state: &mut [u8])
+    requires { ⌜ stateLength ≤ length (now state) ⌝ }
+    ensures { λ _. ⌜ now (state .exit) ≡ kept (wasReset espiReset (unpacked (now (state .entry)))) (now (state .entry)) ⌝ }
+{
+    state::pack(espi_core(state::unpack(state)), state);
+}
+
+// The platform reset on the bytes.
+pub fn platform_reset(state: &mut [u8])
+    requires { ⌜ stateLength ≤ length (now state) ⌝ }
+    ensures { λ _. ⌜ now (state .exit) ≡ kept (wasReset platformReset (unpacked (now (state .entry)))) (now (state .entry)) ⌝ }
+{
+    state::pack(platform_core(state::unpack(state)), state);
 }
 
 // ---- the board's calls
@@ -293,8 +335,37 @@ pub fn set_wire(index: u32, bit: u32, value: u32, state: &mut [u8]) -> Outgoing
         ⌝ }
 {
     let c = Config::unpack(state);
-    lift_wires(
-        wires_channel::setting(c, Wires::unpack(state), index, bit, value),
-        state,
-    )
+    let x = wires_channel::setting(c, Wires::unpack(state), index, bit, value);
+    let w = x.next;
+    let out = x.out;
+    wires_channel::store(out.number, w, state);
+    silently(out.number)
+}
+
+// The board raises or lowers a line.
+pub fn set_line(line: u32, level: u32, state: &mut [u8]) -> Outgoing
+    requires { ⌜ Loadable (now state) ⌝ }
+    ensures { λ r. ⌜
+        carried r (now (state .exit))
+        ≡ carriedBy
+        (lift wires (unpacked (now (state .entry)))
+        (settingLine (unpacked (now (state .entry)) .config) (unpacked (now (state .entry)) .wires) line level)) (now (state .entry))
+        ⌝ }
+{
+    let c = Config::unpack(state);
+    silently(wires_channel::set_line(c, line, level, state))
+}
+
+// The board asks for an edge on a line.
+pub fn pulse_line(line: u32, state: &mut [u8]) -> Outgoing
+    requires { ⌜ Loadable (now state) ⌝ }
+    ensures { λ r. ⌜
+        carried r (now (state .exit))
+        ≡ carriedBy
+        (lift wires (unpacked (now (state .entry)))
+        (pulsingLine (unpacked (now (state .entry)) .config) (unpacked (now (state .entry)) .wires) line)) (now (state .entry))
+        ⌝ }
+{
+    let c = Config::unpack(state);
+    silently(wires_channel::pulse_line(c, line, state))
 }

@@ -1,22 +1,22 @@
-// The C boundary: the nine calls over lent bytes, and nothing else.
+// The C boundary: the eleven calls over lent bytes, and nothing else.
 use engine::Outgoing;
 use peripheral::Np;
 use peripheral::Peripheral;
-use state::State;
+use rules::Reply;
+use state::Core;
 use state::pack;
 use wires::Wires;
-use wires::Words;
 ghost use mathlib.Core.Path.{_≡_};
 ghost use Prim.Native.Nat.{_≤_};
 ghost use lib.ListN.{length};
-ghost use Rattle.wires.specs.Layout.{wiresOf};
-ghost use Rattle.rules.specs.Rules.Fits.{ReplyFits, KeptFits};
+ghost use Rattle.rules.specs.Rules.Fits.{KeptFits};
 ghost use Rattle.rules.specs.Rules.Step.{replyLength, writeLength, readLength};
-ghost use Rattle.rules.specs.Rules.Calls.{done, exchanged, stored, looked, startCall, espiResetCall, platformResetCall, exchangeCall, lookCall, answerCall, takeWriteCall, setWireCall, readWireCall};
-ghost use Rattle.espi.specs.Boundary.{sent, sentBy};
+ghost use Rattle.rules.specs.Rules.Calls.{done, exchanged, stored, looked, startCall, espiResetCall, platformResetCall, exchangeCall, lookCall, answerCall, takeWriteCall, setWireCall, readWireCall, setLineCall, pulseLineCall};
+ghost use Rattle.reply.specs.Packets.{packetPut};
+ghost use Rattle.espi.specs.Boundary.{SaysFits, spokenBy, committed};
 
 // The least lengths of the lent slices.
-const STATE: usize = 77;
+const STATE: usize = 174;
 
 const REPLY: usize = 263;
 
@@ -40,7 +40,7 @@ pub extern "C" fn espi_start(state: &mut [u8]) -> u32
     if state.len() < STATE {
         return rules::STORE_TOO_SHORT;
     }
-    pack(State::fresh(), state);
+    pack(Core::fresh(), state);
     0
 }
 
@@ -54,7 +54,7 @@ pub extern "C" fn espi_reset(state: &mut [u8]) -> u32
     if !state::holds(state) {
         return rules::STATE_NOT_SOUND;
     }
-    pack(engine::espi_reset(state::unpack(state)), state);
+    engine::espi_reset(state);
     0
 }
 
@@ -68,14 +68,27 @@ pub extern "C" fn espi_platform_reset(state: &mut [u8]) -> u32
     if !state::holds(state) {
         return rules::STATE_NOT_SOUND;
     }
-    pack(engine::platform_reset(state::unpack(state)), state);
+    engine::platform_reset(state);
     0
 }
 
-// What goes out of an exchange: its reply, over the wires as they were, and its data on the lent bytes.
+// The reply, or a packet with what it changes of the wires; its length.
+fn say(r: Reply, packet: bool, state: &mut [u8], reply: &mut [u8], read_store: &[u8]) -> u32
+    requires { ⌜ (replyLength ≤ length (now reply)) × (readLength ≤ length (now «read_store»)) × SaysFits r packet (now state) ⌝ }
+    ensures { λ n. ⌜
+        (packetPut n (now (state .exit)) (now (reply .exit)) ≡ spokenBy r packet (now (state .entry)) (now (reply .entry)) (now («read_store» .entry)))
+        × (n ≤ replyLength) ⌝ }
+{
+    if packet {
+        return reply::put_packet(reply, state);
+    }
+    reply::put_reply(reply, r, read_store)
+}
+
+// What goes out of an exchange: what it says, and its data on the lent bytes.
 fn commit(
     p: Outgoing,
-    was: Words,
+    state: &mut [u8],
     command: &[u8],
     reply: &mut [u8],
     write_store: &mut [u8],
@@ -83,14 +96,14 @@ fn commit(
 ) -> u32
     requires { ⌜
         (replyLength ≤ length (now reply)) × (writeLength ≤ length (now «write_store»)) × (readLength ≤ length (now «read_store»))
-        × ReplyFits (p .reply) (wiresOf was) × KeptFits (p .kept) (length (now command)) writeLength ⌝ }
+        × SaysFits (p .reply) (p .packet) (now state) × KeptFits (p .kept) (length (now command)) writeLength ⌝ }
     ensures { λ r. ⌜
-        sent r (now (reply .exit)) (now («write_store» .exit))
-        ≡ sentBy p (wiresOf was) (now (command .entry)) (now (reply .entry)) (now («write_store» .entry)) (now («read_store» .entry)) ⌝ }
+        exchanged r (now (state .exit)) (now (reply .exit)) (now («write_store» .exit))
+        ≡ committed p (now (state .entry)) (now (command .entry)) (now (reply .entry)) (now («write_store» .entry)) (now («read_store» .entry)) ⌝ }
 {
     let r = p.reply;
     let k = p.kept;
-    let n = reply::put_reply(reply, r, was, read_store);
+    let n = say(r, p.packet, state, reply, read_store);
     reply::keep(write_store, k, command);
     (p.number as u32) + 256 * n
 }
@@ -122,9 +135,8 @@ pub extern "C" fn espi_exchange(
     if !state::holds(state) {
         return rules::STATE_NOT_SOUND;
     }
-    let was = Words::of(state);
     let p = engine::exchange(command, state);
-    commit(p, was, command, reply, write_store, read_store)
+    commit(p, state, command, reply, write_store, read_store)
 }
 
 #[no_mangle]
@@ -233,4 +245,32 @@ pub extern "C" fn espi_read_wire(state: &[u8], index: u32, bit: u32) -> u32
     }
     let w = Wires::unpack(state);
     256 * w.read(index, bit)
+}
+
+#[no_mangle]
+pub extern "C" fn espi_set_line(state: &mut [u8], line: u32, level: u32) -> u32
+    ensures { λ r. ⌜ done r (now (state .exit)) ≡ setLineCall (now (state .entry)) line level ⌝ }
+{
+    if state.len() < STATE {
+        return rules::STORE_TOO_SHORT;
+    }
+    if !state::holds(state) {
+        return rules::STATE_NOT_SOUND;
+    }
+    let p = engine::set_line(line, level, state);
+    p.number as u32
+}
+
+#[no_mangle]
+pub extern "C" fn espi_pulse_line(state: &mut [u8], line: u32) -> u32
+    ensures { λ r. ⌜ done r (now (state .exit)) ≡ pulseLineCall (now (state .entry)) line ⌝ }
+{
+    if state.len() < STATE {
+        return rules::STORE_TOO_SHORT;
+    }
+    if !state::holds(state) {
+        return rules::STATE_NOT_SOUND;
+    }
+    let p = engine::pulse_line(line, state);
+    p.number as u32
 }

@@ -1,4 +1,4 @@
--- The nine calls on the bytes that a caller in C keeps, and runs of them: each call gets the state bytes and the stores that the last one left.
+-- The eleven calls on the bytes that a caller in C keeps, and runs of them: each call gets the state bytes and the stores that the last one left.
 use Prim.Native.Nat.{ℕ}
 use mathlib.Core.List.{List, [], _∷_}
 use Rattle.rules.specs.Rules.Reset as R
@@ -8,7 +8,7 @@ use Rattle.rules.specs.Rules.Wires as W
 use Rattle.rules.specs.Rules.Channel.{Channel, peripheral, wires, Board}
 use Rattle.rules.specs.Rules.Step.{Call, reset, exchange, board, short, lend}
 use Rattle.rules.specs.Rules.Calls.{Done, Exchanged, Stored, Looked, startCall, espiResetCall, platformResetCall, exchangeCall, lookCall, answerCall}
-use Rattle.rules.specs.Rules.Calls.{takeWriteCall, setWireCall, readWireCall}
+use Rattle.rules.specs.Rules.Calls.{takeWriteCall, setWireCall, setLineCall, pulseLineCall, readWireCall}
 
 -- the bytes that a caller in C keeps: "State bytes lent", write store, read store (01, What the engine covers)
 pub record ByteWorld : Type 0 where
@@ -54,10 +54,12 @@ peripheralBytes v (P.look report) = afterLook v (lookCall (v .state) report)
 peripheralBytes v (P.answer serial success bytes) = afterAnswer v (answerCall (v .state) (v .read) serial success bytes)
 peripheralBytes v (P.takeWrite report) = afterTake v (takeWriteCall (v .state) (v .write) report)
 
--- .. "set a wire, read a wire" (01, What the engine covers)
+-- .. "set a wire, read a wire" (01, What the engine covers), "raises and lowers a line, or asks for an edge" (02, Q-4)
 abbrev pub wiresBytes : ByteWorld → W.Board → ByteOutcome
 wiresBytes v (W.setWire index bit value) = afterState v (setWireCall (v .state) index bit value)
 wiresBytes v (W.readWire index bit) = afterWord v (readWireCall (v .state) index bit)
+wiresBytes v (W.setLine line level) = afterState v (setLineCall (v .state) line level)
+wiresBytes v (W.pulseLine line) = afterState v (pulseLineCall (v .state) line)
 
 -- .. by their channel (01, What the engine covers: "The board side has calls of its own")
 abbrev pub boardBytes : (k : Channel) → ByteWorld → Board k → ByteOutcome
@@ -78,7 +80,7 @@ lent v st = record { state = st; write = v .write; read = v .read }
 abbrev pub back : ByteWorld → ByteOutcome → ByteOutcome
 back v x = record { word = x .word; reply = x .reply; report = x .report; next = record { state = v .state; write = x .next .write; read = x .next .read } }
 
--- one of the nine calls: "The board firmware is in C and calls the exchange and these" (01, What the engine covers)
+-- one of the eleven calls: "The board firmware is in C and calls the exchange and these" (01, What the engine covers)
 unfoldable pub byteStep : ByteWorld → Call → ByteOutcome
 byteStep v (reset r) = afterState v (resetBytes r (v .state))
 byteStep v (exchange command reply) = afterExchange v (exchangeCall (v .state) command reply (v .write) (v .read))

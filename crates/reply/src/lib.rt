@@ -1,31 +1,29 @@
 // A plan's reply written into the lent bytes, and its kept data into a lent store.
 use peripheral::Completion;
+use peripheral::Peripheral;
 use peripheral::Posted;
 use peripheral::Request;
 use peripheral::Write;
+use registers::Config;
 use rules::Body;
 use rules::Kept;
 use rules::Reply;
 use rules::Response;
-use wires::Going;
 use wires::Packet;
-use wires::Words;
+use wires::Wires;
 ghost use mathlib.Core.Path.{_≡_};
 ghost use mathlib.Core.Bool.{true};
 ghost use mathlib.Core.List.{_∷_, _++_};
 ghost use Prim.Native.Nat.{_+_, _*_, _≤_, _<_};
 ghost use lib.ListN.{length, take, drop};
-ghost use Rattle.base.specs.Bytes.{put, over};
-ghost use Rattle.wires.specs.Table.{isUp};
-ghost use Rattle.wires.specs.Groups.{packetBytes};
-ghost use Rattle.wires.specs.Layout.{wiresOf};
-ghost use Rattle.wires.specs.Sending.{PacketFits};
+ghost use Rattle.base.specs.Bytes.{over};
+ghost use Rattle.wires.specs.Senders.{freshAll};
 ghost use Rattle.rules.specs.Rules.Out.{responseByte};
 ghost use Rattle.rules.specs.Rules.Peripheral.{requestReport, postedReport, takeReport};
 ghost use Rattle.rules.specs.Rules.Reply.{headerBytes, dataBytes, bodyBytes, closed, replyBytes, keptBytes};
-ghost use Rattle.reply.specs.Written.{pairNow};
+ghost use Rattle.reply.specs.Packets.{Fillable, PacketReady, packetPut, filledBy, packetPutBy};
 ghost use Rattle.rules.specs.Rules.Step.{replyLength, readLength, lookLength, takeLength};
-ghost use Rattle.rules.specs.Rules.Fits.{BodyFits, ReplyFits, KeptFits};
+ghost use Rattle.rules.specs.Rules.Fits.{BodyFits, ReplyFits, KeptFits, plainBody, plain};
 
 fn response_byte(r: Response) -> u8
     ensures { λ x. ⌜ x ≡ responseByte r ⌝ }
@@ -63,37 +61,6 @@ fn put_piece(reply: &mut [u8], code: u8, c: Completion, reads: &[u8]) -> usize
     4 + n
 }
 
-// The pair of the group that is asked now, if the packet takes it; where the next pair goes.
-fn put_pair(reply: &mut [u8], at: usize, g: Going, waits: bool, level: u8) -> usize
-    requires { ⌜ (at + 2 ≤ length (now reply)) × (isUp (g .group) ≡ true) × (level < 16) ⌝ }
-    ensures { λ r. ⌜ (now (reply .exit) ≡ put at (pairNow g waits level) (now (reply .entry))) × (r ≡ at + length (pairNow g waits level)) ⌝ }
-{
-    if !g.takes(waits) {
-        return at;
-    }
-    let pair = wires::pair(g.group, level);
-    base::put_at(reply, at, &pair);
-    at + 2
-}
-
-// The response byte and a wire packet, group by group over the wires as they were, until it is full.
-fn put_groups(reply: &mut [u8], code: u8, w: Words, p: Packet) -> usize
-    requires { ⌜ (replyLength ≤ length (now reply)) × PacketFits (wiresOf w) p ⌝ }
-    ensures { λ r. ⌜
-        (now (reply .exit) ≡ over (code ∷ packetBytes (wiresOf w) p) (now (reply .entry)))
-        × (r ≡ length (code ∷ packetBytes (wiresOf w) p)) × (r ≤ 260) ⌝ }
-{
-    base::put_at(reply, 0, &[code, p.count - 1]);
-    let mut at: usize = 2;
-    let mut g = wires::go_round(p.place, p.count as u32);
-    while (0 < g.left) & (0 < g.room) {
-        let waits = w.waits(g.group);
-        at = put_pair(reply, at, g, waits, w.level(g.group));
-        g = g.past(waits);
-    }
-    at
-}
-
 // The response byte and a register.
 fn put_word(reply: &mut [u8], code: u8, v: u32) -> usize
     requires { ⌜ replyLength ≤ length (now reply) ⌝ }
@@ -104,11 +71,12 @@ fn put_word(reply: &mut [u8], code: u8, v: u32) -> usize
     5
 }
 
-fn put_body(reply: &mut [u8], code: u8, body: Body, w: Words, reads: &[u8]) -> usize
-    requires { ⌜ (replyLength ≤ length (now reply)) × (readLength ≤ length (now reads)) × BodyFits body (wiresOf w) ⌝ }
+// A packet of wires is put by `put_packet`.
+fn put_body(reply: &mut [u8], code: u8, body: Body, reads: &[u8]) -> usize
+    requires { ⌜ (replyLength ≤ length (now reply)) × (readLength ≤ length (now reads)) × BodyFits body freshAll × (plainBody body ≡ true) ⌝ }
     ensures { λ r. ⌜
-        (now (reply .exit) ≡ over (code ∷ bodyBytes body (wiresOf w) (now (reads .entry))) (now (reply .entry)))
-        × (r ≡ length (code ∷ bodyBytes body (wiresOf w) (now (reads .entry)))) × (r ≤ 260) ⌝ }
+        (now (reply .exit) ≡ over (code ∷ bodyBytes body freshAll (now (reads .entry))) (now (reply .entry)))
+        × (r ≡ length (code ∷ bodyBytes body freshAll (now (reads .entry)))) × (r ≤ 260) ⌝ }
 {
     match body {
         Body::Nothing => {
@@ -117,7 +85,7 @@ fn put_body(reply: &mut [u8], code: u8, body: Body, w: Words, reads: &[u8]) -> u
         }
         Body::Word(v) => put_word(reply, code, v),
         Body::Piece(c) => put_piece(reply, code, c, reads),
-        Body::Groups(p) => put_groups(reply, code, w, p),
+        Body::Groups(_) => 0,
     }
 }
 
@@ -133,23 +101,23 @@ fn finish(reply: &mut [u8], n: usize, status: u32)
     base::put_at(reply, end, &one);
 }
 
-fn say(reply: &mut [u8], code: u8, body: Body, status: u32, w: Words, reads: &[u8]) -> u32
-    requires { ⌜ (replyLength ≤ length (now reply)) × (readLength ≤ length (now reads)) × BodyFits body (wiresOf w) ⌝ }
+fn say(reply: &mut [u8], code: u8, body: Body, status: u32, reads: &[u8]) -> u32
+    requires { ⌜ (replyLength ≤ length (now reply)) × (readLength ≤ length (now reads)) × BodyFits body freshAll × (plainBody body ≡ true) ⌝ }
     ensures { λ r. ⌜
-        (now (reply .exit) ≡ over (closed (code ∷ bodyBytes body (wiresOf w) (now (reads .entry))) status) (now (reply .entry)))
-        × (r ≡ length (closed (code ∷ bodyBytes body (wiresOf w) (now (reads .entry))) status)) × (r ≤ replyLength) ⌝ }
+        (now (reply .exit) ≡ over (closed (code ∷ bodyBytes body freshAll (now (reads .entry))) status) (now (reply .entry)))
+        × (r ≡ length (closed (code ∷ bodyBytes body freshAll (now (reads .entry))) status)) × (r ≤ replyLength) ⌝ }
 {
-    let n = put_body(reply, code, body, w, reads);
+    let n = put_body(reply, code, body, reads);
     finish(reply, n, status);
     (n + 3) as u32
 }
 
-// The reply's bytes, over the wires as they were before the command; their count.
-pub fn put_reply(reply: &mut [u8], r: Reply, w: Words, reads: &[u8]) -> u32
-    requires { ⌜ (replyLength ≤ length (now reply)) × (readLength ≤ length (now reads)) × ReplyFits r (wiresOf w) ⌝ }
+// The bytes of a reply that is no packet, the same over any wires; their count.
+pub fn put_reply(reply: &mut [u8], r: Reply, reads: &[u8]) -> u32
+    requires { ⌜ (replyLength ≤ length (now reply)) × (readLength ≤ length (now reads)) × ReplyFits r freshAll × (plain r ≡ true) ⌝ }
     ensures { λ n. ⌜
-        (now (reply .exit) ≡ over (replyBytes r (wiresOf w) (now (reads .entry))) (now (reply .entry)))
-        × (n ≡ length (replyBytes r (wiresOf w) (now (reads .entry)))) × (n ≤ replyLength) ⌝ }
+        (now (reply .exit) ≡ over (replyBytes r freshAll (now (reads .entry))) (now (reply .entry)))
+        × (n ≡ length (replyBytes r freshAll (now (reads .entry)))) × (n ≤ replyLength) ⌝ }
 {
     match r {
         Reply::Silent => 0,
@@ -158,10 +126,44 @@ pub fn put_reply(reply: &mut [u8], r: Reply, w: Words, reads: &[u8]) -> u32
             response_byte(response),
             body,
             status,
-            w,
             reads,
         ),
     }
+}
+
+// A packet's entries are written from the wires in the state's bytes, which change with it; the status, beside the other channels' word, is that after it.
+fn fill_packet(reply: &mut [u8], state: &mut [u8], p: Packet, others: u32) -> u32
+    requires { ⌜ (replyLength ≤ length (now reply)) × Fillable p (now state) × (others ≤ 19) ⌝ }
+    ensures { λ n. ⌜
+        (packetPut n (now (state .exit)) (now (reply .exit)) ≡ filledBy p others (now (state .entry)) (now (reply .entry))) × (n ≤ replyLength) ⌝ }
+{
+    base::put_at(reply, 0, &[0x08, 0]);
+    let n = wires::send(state, reply, p);
+    base::put_at(reply, 1, &[(n - 1) as u8]);
+    let end = 2 + n * 2;
+    finish(reply, end, others + Wires::status_in(state));
+    (end + 3) as u32
+}
+
+// The bytes of an accepted GET_VWIRE's reply: from the state's going-round place on, as many entries as its operating count; their count.
+pub fn put_packet(reply: &mut [u8], state: &mut [u8]) -> u32
+    requires { ⌜ (replyLength ≤ length (now reply)) × PacketReady (now state) ⌝ }
+    ensures { λ n. ⌜
+        (packetPut n (now (state .exit)) (now (reply .exit)) ≡ packetPutBy (now (state .entry)) (now (reply .entry))) × (n ≤ replyLength) ⌝ }
+{
+    let c = Config::unpack(state);
+    let w = Wires::unpack(state);
+    let others = Peripheral::status_in(state);
+    let r = c.r020;
+    fill_packet(
+        reply,
+        state,
+        Packet {
+            place: w.place,
+            capacity: r.operating_count(),
+        },
+        others,
+    )
 }
 
 fn keep_data(dst: &mut [u8], at: u32, n: u32, src: &[u8])

@@ -35,6 +35,7 @@ pub mod WireView
 pub mod Bound
 pub mod WireSteps
 pub mod WireReads
+pub mod Packets
 pub mod Vectors
 pub mod Becomes
 pub mod Effects

@@ -1,6 +1,7 @@
 pub mod Numbers
 pub mod Reset
 pub mod Out
+pub mod Plan
 pub mod Peripheral
 pub mod Wires
 pub mod Channel

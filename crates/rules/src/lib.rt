@@ -1,7 +1,6 @@
 // What an exchange or a board call does, as data: it names bytes by place and count only.
 use peripheral::Completion;
 use peripheral::Peripheral;
-use state::State;
 use wires::Packet;
 use wires::Wires;
 
@@ -21,6 +20,8 @@ pub const COUNT_WRONG: u8 = 21;
 pub const NO_SUCH_WIRE: u8 = 22;
 
 pub const NOTHING_THERE: u8 = 23;
+
+pub const LINE_BUSY: u8 = 24;
 
 // The response byte.
 pub enum Response {
@@ -62,7 +63,8 @@ pub struct PeripheralChange {
     pub out: Out,
 }
 
-pub struct WiresChange {
+// Of channel 1 the six groups alone: the lines stand in the state's bytes.
+pub struct GroupsChange {
     pub next: Wires,
     pub out: Out,
 }
@@ -71,11 +73,4 @@ pub struct WiresChange {
 pub enum Reply {
     Silent,
     Said(Response, Body, u32),
-}
-
-pub struct Plan {
-    pub number: u8,
-    pub reply: Reply,
-    pub next: State,
-    pub kept: Kept,
 }

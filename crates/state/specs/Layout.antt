@@ -4,22 +4,22 @@ use mathlib.Core.Bool.{Bool, _&&_}
 use mathlib.Core.List.{List, _++_}
 use Rattle.base.specs.Bytes.{agree}
 use Rattle.registers.specs.Layout.{configBytes, configIn}
-use Rattle.wires.specs.Layout.{wiresBytes, wiresIn, tidyWires}
+use Rattle.wires.specs.Layout.{allBytes, allIn, tidyWires}
 use Rattle.peripheral.specs.Layout.{peripheralBytes, peripheralIn, tidyPeripheral}
 use Rattle.state.specs.Sound.{sound}
-use Rattle.state.specs.declared.State.{State}
+use Rattle.state.specs.State.{State}
 
--- "a length fixed in docs/" (01, What the engine covers; docs/STATE.md): 77
+-- "a length fixed in docs/" (01, What the engine covers; docs/STATE.md): 174
 abbrev pub stateLength : ℕ
-stateLength = 77
+stateLength = 174
 
 -- the state's bytes: the registers', channel 0's, channel 1's (docs/STATE.md; docs/DECISIONS.md, 27)
 unfoldable pub packed : State → List ℕ
-packed s = configBytes (s .config) ++ (peripheralBytes (s .peripheral) ++ wiresBytes (s .wires))
+packed s = configBytes (s .config) ++ (peripheralBytes (s .peripheral) ++ allBytes (s .wires))
 
 -- the state in bytes; total; canonical bytes are those that it gives back (docs/DECISIONS.md, 23)
 unfoldable pub unpacked : List ℕ → State
-unpacked l = record { config = configIn l; peripheral = peripheralIn l; wires = wiresIn l }
+unpacked l = record { config = configIn l; peripheral = peripheralIn l; wires = allIn l }
 
 -- the bytes pack a sound state: number 11 where they do not ("bytes that pack no state are 11", 01, What the engine covers)
 unfoldable pub holds : List ℕ → Bool

@@ -1,3 +1,5 @@
+pub mod State
+pub mod Core
 pub mod Channel
 pub mod Fresh
 pub mod Status

@@ -1,4 +1,4 @@
--- P3, packing: sound states and their 77 bytes, there and back; nothing past them matters.
+-- P3, packing: sound states and their 174 bytes, there and back; nothing past them matters.
 use Prim.Native.Nat.{ℕ, zero, suc, _<_, _≤_}
 use mathlib.Core.Bool.{Bool, true}
 use mathlib.Core.List.{List, []}
@@ -11,20 +11,21 @@ use lib.Seq.{getD-take, take-all}
 use borrow.Author.Tests.{eq-eqb}
 use Rattle.base.specs.Pick.{and-left, and-right, and-true}
 use Rattle.base.specs.Bytes.{over, over-take, take-over, agree, agree-take}
+use Rattle.registers.specs.declared.Config.{Config}
 use Rattle.registers.specs.Layout.{configIn, config-back, config-in-fits, config-same}
-use Rattle.state.specs.Channel.{Channel, Part, part, on, soundPart, fitsPart, partIn}
+use Rattle.state.specs.Channel.{Channel, Part, part, soundPart, fitsPart, partIn}
 use Rattle.state.specs.Parts.{last, state-is, part-found, part-back, part-bytes, part-fits, part-same, front, behind, front-length, joined-length, partsBytes, packed-config, packed-is, packed-ends, packed-all}
 use Rattle.state.specs.Sound.{sound, fits, Sound}
 use Rattle.state.specs.Facts.{sound-parts, fit-parts, fit-made}
 use Rattle.state.specs.Layout.{stateLength, packed, unpacked, holds}
-use Rattle.state.specs.declared.State.{State}
+use Rattle.state.specs.State.{State}
 
 pub packed-length : (s : State) → length (packed s) ≡ stateLength
 packed-length s = ap length (packed-ends s) ∙ joined-length last (front last s) (part last s) (front-length last s)
 
 -- a sound state packs to bytes
 pub packed-bytes : (s : State) → sound s ≡ true → (k : ℕ) → getD (packed s) k 0 < 256
-packed-bytes s e = packed-all s (λ k. part-bytes k (on k (s .config)) (part k s) (sound-parts s e .each k)) .byte
+packed-bytes s e = packed-all s (λ k. part-bytes k (s .config) (part k s) (sound-parts s e .each k)) .byte
 
 -- what bytes make fits
 pub unpacked-fits : (l : List ℕ) → ((k : ℕ) → getD l k 0 < 256) → fits (unpacked l) ≡ true
@@ -73,12 +74,12 @@ holds-same a b e = rw (unpacked-same a b e, agree-each stateLength (packed (unpa
 
 -- ---- a sound state's bytes, unpacked, give it back: part by part
 
--- a sound part among a state's bytes, whatever the others are, and its channel on or off
-pub part-there : (k : Channel) (on : Bool) (s : State) (l : List ℕ) → soundPart k on (part k s) ≡ true → fitsPart k (part k s) ≡ true
+-- a sound part among a state's bytes, whatever the others are, under any configuration
+pub part-there : (k : Channel) (c : Config) (s : State) (l : List ℕ) → soundPart k c (part k s) ≡ true → fitsPart k (part k s) ≡ true
     → take stateLength l ≡ packed s → partIn k l ≡ part k s
-part-there k on s l g f e =
+part-there k c s l g f e =
     part-same k l (packed s) (each l (packed s) stateLength (e ∙ sym (take-all stateLength (packed s) (le-of-eq (packed-length s)))))
-    ∙ ap (partIn k) (packed-is k s) ∙ part-back k on (front k s) (behind k s []) (part k s) (front-length k s) g f
+    ∙ ap (partIn k) (packed-is k s) ∙ part-back k c (front k s) (behind k s []) (part k s) (front-length k s) g f
 
 round : (s : State) → Sound s → unpacked (packed s) ≡ s
 unfolding unpacked
@@ -88,7 +89,7 @@ round s w =
     state-is (unpacked (packed s)) s (ap configIn (packed-config s) ∙ config-back (s .config) (partsBytes s) (f .config))
     (λ k.
     part-found k (packed s)
-    ∙ part-there k (on k (s .config)) s (packed s) (g .each k) (f .each k) (take-all stateLength (packed s) (le-of-eq (packed-length s))))
+    ∙ part-there k (s .config) s (packed s) (g .each k) (f .each k) (take-all stateLength (packed s) (le-of-eq (packed-length s))))
 
 -- ---- a sound state's bytes give it back, whatever comes after them
 

@@ -10,16 +10,15 @@ use Rattle.base.specs.Pick.{and-left, and-right, and-true, same-test}
 use Rattle.base.specs.Numbers.{length-join, join, listed}
 use Rattle.base.specs.AllBytes.{AllBytes, all-append}
 use Rattle.registers.specs.Layout.{configBytes, all-config, config-again}
+use Rattle.registers.specs.Registers.{on0, on1, operatingCount}
 use Rattle.registers.specs.declared.Config.{Config}
-use Rattle.wires.specs.Kept.{whole-level, whole-marks}
-use Rattle.wires.specs.Layout.{wires-back, all-wires, wires-same}
-use Rattle.wires.specs.Tidy.{wires-again, wires-tidy}
+use Rattle.wires.specs.MapBytes.{all-length, all-back, all-all, all-fits, all-same, all-again, all-tidy}
 use Rattle.peripheral.specs.Facts.{sound-of}
 use Rattle.peripheral.specs.Packing.{peripheral-length, peripheral-back, all-peripheral, peripheral-in-fits, peripheral-same}
 use Rattle.peripheral.specs.Tidy.{peripheral-again, peripheral-tidy}
 use Rattle.state.specs.Channel.{Channel, peripheral, wires, Part, part, put, soundPart, fitsPart, place, size, partBytes, partIn, tidyPart}
 use Rattle.state.specs.Layout.{stateLength, packed, unpacked}
-use Rattle.state.specs.declared.State.{State}
+use Rattle.state.specs.State.{State}
 
 -- ---- all channels
 
@@ -79,37 +78,37 @@ part-found wires l = refl
 
 pub part-length : (k : Channel) (q : Part k) → length (partBytes k q) ≡ size k
 part-length peripheral q = peripheral-length q
-part-length wires q = refl
+part-length wires q = all-length q
 
 -- they give it back
-pub part-back : (k : Channel) (on : Bool) (p r : List ℕ) (q : Part k) → length p ≡ place k → soundPart k on q ≡ true → fitsPart k q ≡ true
+pub part-back : (k : Channel) (c : Config) (p r : List ℕ) (q : Part k) → length p ≡ place k → soundPart k c q ≡ true → fitsPart k q ≡ true
     → partIn k (p ++ (partBytes k q ++ r)) ≡ q
-part-back peripheral on p r q h e f = let g = sound-of on q e in peripheral-back p r q h (g .request) (g .write) f
-part-back wires on p r q h e f = wires-back p r q h (whole-level q f) (whole-marks q f)
+part-back peripheral c p r q h e f = let g = sound-of (on0 (c .r010)) q e in peripheral-back p r q h (g .request) (g .write) f
+part-back wires c p r q h e f = all-back p r q h (on1 (c .r020)) (operatingCount (c .r020)) e f
 
 -- those of a sound part are bytes
-pub part-bytes : (k : Channel) (on : Bool) (q : Part k) → soundPart k on q ≡ true → AllBytes (partBytes k q)
-part-bytes peripheral on q e = all-peripheral q (sound-of on q e .request)
-part-bytes wires on q e = all-wires on q e
+pub part-bytes : (k : Channel) (c : Config) (q : Part k) → soundPart k c q ≡ true → AllBytes (partBytes k q)
+part-bytes peripheral c q e = all-peripheral q (sound-of (on0 (c .r010)) q e .request)
+part-bytes wires c q e = all-all (on1 (c .r020)) (operatingCount (c .r020)) q e
 
 -- what bytes make fits
 pub part-fits : (k : Channel) (l : List ℕ) → ((n : ℕ) → getD l n 0 < 256) → fitsPart k (partIn k l) ≡ true
 part-fits peripheral l byte = peripheral-in-fits l byte
-part-fits wires l byte = refl
+part-fits wires l byte = all-fits l byte
 
 -- bytes past the length do not matter
 pub part-same : (k : Channel) (a b : List ℕ) → ((n : ℕ) → n < stateLength → getD a n 0 ≡ getD b n 0) → partIn k a ≡ partIn k b
 part-same peripheral a b e = peripheral-same a b (λ n h. e n (omega arith))
-part-same wires a b e = wires-same a b (λ n h. e n (omega arith))
+part-same wires a b e = all-same a b (λ n h. e n (omega arith))
 
 -- tidy bytes are those of the part that they make, and a part's are tidy
 pub part-again : (k : Channel) (l : List ℕ) → ((n : ℕ) → getD l n 0 < 256) → tidyPart k l ≡ true → partBytes k (partIn k l) ≡ listed (size k) (place k) l
 part-again peripheral l byte e = peripheral-again l byte e
-part-again wires l byte e = wires-again l e
+part-again wires l byte e = all-again l byte e
 
 pub part-tidy : (k : Channel) (p r : List ℕ) (q : Part k) → length p ≡ place k → tidyPart k (p ++ (partBytes k q ++ r)) ≡ true
 part-tidy peripheral p r q h = peripheral-tidy p r q h
-part-tidy wires p r q h = wires-tidy p r q h
+part-tidy wires p r q h = all-tidy p r q h
 
 -- ---- where they stand: all before them, all behind them
 

@@ -11,7 +11,7 @@ use Rattle.registers.specs.declared.Config.{Config}
 use Rattle.state.specs.Channel.{Channel, Part, part, put, each, place, partBytes}
 use Rattle.state.specs.Layout.{stateLength, packed}
 use Rattle.state.specs.Parts.{part-length, front, behind, front-length, partsBytes, packed-config, packed-is, packed-put}
-use Rattle.state.specs.declared.State.{State}
+use Rattle.state.specs.State.{State}
 
 -- x, y, z and r stand one behind the other; y goes, v of the same length comes
 put-part : (x y v z r : List ℕ) (at : ℕ) → length x ≡ at → length v ≡ length y → B.put at v (x ++ (y ++ (z ++ r))) ≡ over (x ++ (v ++ z)) (x ++ (y ++ (z ++ r)))

@@ -11,7 +11,7 @@ use Rattle.state.specs.Channel.{part, tidyPart}
 use Rattle.state.specs.Layout.{stateLength, packed, unpacked, tidy}
 use Rattle.state.specs.Packing.{agree-packed, packed-agree}
 use Rattle.state.specs.Parts.{all-true, true-all, part-again, part-tidy, front, behind, front-length, packed-at, packed-again}
-use Rattle.state.specs.declared.State.{State}
+use Rattle.state.specs.State.{State}
 
 tidy-again : (l : List ℕ) → ((k : ℕ) → getD l k 0 < 256) → stateLength ≤ length l → tidy l ≡ true → take stateLength l ≡ packed (unpacked l)
 unfolding tidy

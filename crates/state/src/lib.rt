@@ -6,21 +6,22 @@ ghost use mathlib.Core.Path.{_≡_};
 ghost use Prim.Native.Nat.{_≤_};
 ghost use lib.ListN.{length};
 ghost use Rattle.base.specs.Bytes.{over};
-ghost use Rattle.state.specs.Fresh.{freshState};
+ghost use Rattle.state.specs.Core.{coreOf, quietState, freshCore};
 ghost use Rattle.state.specs.Status.{status};
 ghost use Rattle.state.specs.Layout.{stateLength, packed, unpacked, holds};
 
-pub struct State {
+// All of the state but the lines, which stand in its bytes alone.
+pub struct Core {
     pub config: Config,
     pub peripheral: Peripheral,
     pub wires: Wires,
 }
 
-impl State {
-    pub fn fresh() -> State
-        ensures { λ r. ⌜ r ≡ freshState ⌝ }
+impl Core {
+    pub fn fresh() -> Core
+        ensures { λ r. ⌜ r ≡ freshCore ⌝ }
     {
-        State {
+        Core {
             config: Config::fresh(),
             peripheral: Peripheral::idle(0),
             wires: Wires::fresh(),
@@ -28,25 +29,26 @@ impl State {
     }
 }
 
-// The state's 77 bytes at the start of `dst`; what is past them stays.
-pub fn pack(s: State, dst: &mut [u8])
+// The bytes of a state in which no line is high or waits at the start of `dst`; what is past them stays. Start and both resets leave such a one.
+pub fn pack(s: Core, dst: &mut [u8])
     requires { ⌜ stateLength ≤ length (now dst) ⌝ }
-    ensures { λ _. ⌜ now (dst .exit) ≡ over (packed s) (now (dst .entry)) ⌝ }
+    ensures { λ _. ⌜ now (dst .exit) ≡ over (packed (quietState s)) (now (dst .entry)) ⌝ }
 {
     s.config.pack(dst);
     s.peripheral.pack(dst);
     s.wires.pack(dst);
+    wires::lines::clear_lines(dst);
 }
 
-// The state whose bytes stand at the start of `b`, sound or not.
-pub fn unpack(b: &[u8]) -> State
+// What stands at the start of `b`, sound or not, but for the lines.
+pub fn unpack(b: &[u8]) -> Core
     requires { ⌜ stateLength ≤ length (now b) ⌝ }
-    ensures { λ r. ⌜ r ≡ unpacked (now (b .entry)) ⌝ }
+    ensures { λ r. ⌜ r ≡ coreOf (unpacked (now (b .entry))) ⌝ }
 {
     let config = Config::unpack(b);
     let peripheral = Peripheral::unpack(b);
     let wires = Wires::unpack(b);
-    State {
+    Core {
         config,
         peripheral,
         wires,
@@ -60,7 +62,8 @@ pub fn holds(b: &[u8]) -> bool
 {
     let c = Config::unpack(b);
     let peripheral = Peripheral::holds(b, c.r010.on());
-    let wires = Wires::holds(b, c.r020.on());
+    let r020 = c.r020;
+    let wires = Wires::holds(b, r020.on(), r020.operating_count());
     c.reachable() & (peripheral & wires)
 }
 

@@ -1,7 +1,7 @@
 -- Tests over the numbers below n: at each, at some, at how many.
 use Prim.Native.Nat.{ℕ, zero, suc, _+_, _<_, _≤_}
 use mathlib.Core.Bool.{Bool, true, false, _&&_, _||_, true≢false}
-use mathlib.Core.Path.{_≡_, refl, ap, _∙_}
+use mathlib.Core.Path.{_≡_, refl, sym, ap, _∙_}
 use native.Mathlib.Omega.{arith}
 use lib.Dec.{eqb}
 use borrow.Author.Tests.{eqb-true, eqb-false}
@@ -22,6 +22,14 @@ some (suc n) f = some n f || f n
 abbrev pub count : ℕ → (ℕ → Bool) → ℕ
 count zero f = 0
 count (suc n) f = bit (f n) + count n f
+
+-- the same two, shut: for as many numbers as there are lines (02, Q-4)
+unfoldable pub all : ℕ → (ℕ → Bool) → Bool
+all n f = every n f
+
+-- .. at some (02, Q-4: "while an edge waits")
+unfoldable pub any : ℕ → (ℕ → Bool) → Bool
+any n f = some n f
 
 -- ---- laws
 
@@ -74,3 +82,32 @@ at-none (suc n) f e k h = let both = neither (some n f) (f n) e in go (eqb k n) 
     go : (t : Bool) → eqb k n ≡ t → f n ≡ false → (k < n → f k ≡ false) → f k ≡ false
     go true q last below = ap f (eqb-true k n q) ∙ last
     go false q last below = below (omega (arith, eqb-false k n q))
+
+-- ---- of the shut ones
+
+pub all-at : (n : ℕ) (f : ℕ → Bool) → all n f ≡ true → (k : ℕ) → k < n → f k ≡ true
+unfolding all
+all-at n f e k h = at-every n f e k h
+
+pub at-all : (n : ℕ) (f : ℕ → Bool) → ((k : ℕ) → k < n → f k ≡ true) → all n f ≡ true
+unfolding all
+at-all n f h = every-at n f h
+
+pub any-at : (n : ℕ) (f : ℕ → Bool) → any n f ≡ false → (k : ℕ) → k < n → f k ≡ false
+unfolding any
+any-at n f e k h = at-none n f e k h
+
+pub at-any : (n : ℕ) (f : ℕ → Bool) → ((k : ℕ) → k < n → f k ≡ false) → any n f ≡ false
+unfolding any
+at-any n f h = none-at n f h
+
+pub any-one : (n : ℕ) (f : ℕ → Bool) (k : ℕ) → k < n → f k ≡ true → any n f ≡ true
+any-one n f k h e = go (any n f) refl
+  where
+    go : (b : Bool) → any n f ≡ b → b ≡ true
+    go true q = refl
+    go false q = absurd (true≢false (sym e ∙ any-at n f q k h))
+
+pub any-suc : (n : ℕ) (f : ℕ → Bool) → any (suc n) f ≡ any n f || f n
+unfolding any
+any-suc n f = refl

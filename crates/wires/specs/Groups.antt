@@ -1,4 +1,4 @@
--- Virtual wires (01, Wires): levels, pending marks and the going-round place, and what each command and board call makes of them.
+-- The six groups of virtual wires (01, Wires): levels, pending marks and the going-round place, and what each command and board call makes of them.
 use Prim.Native.Nat.{ℕ, _+_, _-_, _*_, _/_, _%_, _^_}
 use mathlib.Core.Bool.{Bool, true, false, _&&_, _||_, not}
 use mathlib.Core.List.{List, [], _∷_, map}
@@ -6,13 +6,10 @@ use lib.ListN.{getD, set, length}
 use lib.Bits.{bitAnd, bitOr}
 use lib.Dec.{eqb, ltb, leb}
 use Rattle.base.specs.Pick.{pick}
-use Rattle.base.specs.Bytes.{bit}
-use Rattle.wires.specs.Below.{every, some}
-use Rattle.wires.specs.Table.{table, rowAt, isGroup, resets, senders, groupAt, senderOf}
-use Rattle.wires.specs.Turn.{after, turn, sizes}
+use Rattle.wires.specs.Below.{every}
+use Rattle.wires.specs.Table.{table, rowAt, isGroup, resets, senders, senderOf}
 use Rattle.wires.specs.declared.WireRow.{WireRow}
 use Rattle.wires.specs.declared.Wires.{Wires}
-use Rattle.wires.specs.declared.Packet.{Packet}
 
 -- ---- the state of the wires
 
@@ -20,9 +17,10 @@ use Rattle.wires.specs.declared.Packet.{Packet}
 abbrev pub noMarks : List Bool
 noMarks = map (λ (r : WireRow). false) table
 
--- "from 4 itself at first, after an eSPI or platform reset and after a disabling of channel 1" (01, Wires)
+-- "from 4 itself at first, after an eSPI or platform reset and after a disabling of channel 1" (01, Wires): "still begin at group 4" (02, Q-4); the
+-- place is a sender's number
 abbrev pub firstPlace : ℕ
-firstPlace = 4
+firstPlace = senderOf 4
 
 -- after a start and an eSPI reset: all groups at their "reset value", none pending, going round from 4 (01, Wires)
 abbrev pub freshWires : Wires
@@ -86,40 +84,7 @@ setWire on w i bit value =
 abbrev pub readWire : Wires → ℕ → ℕ → ℕ
 readWire w i bit = levelAt w i / 2 ^ bit % 2
 
--- ---- GET_VWIRE
-
--- a group is one entry of a packet: one of the "index and data pairs" (01, Commands)
-abbrev pub senderSize : ℕ → ℕ
-senderSize k = 1
-
--- the sender's group is pending (01, Wires: "sends min(pending, operating count) groups")
-abbrev pub waiting : Wires → ℕ → Bool
-waiting w k = markAt w (groupAt k)
-
--- the senders that a packet of this capacity takes, from group p on: "min(pending, operating count) groups" (01, Wires)
-unfoldable pub sentFrom : Wires → ℕ → ℕ → List ℕ
-sentFrom w p capacity = turn senderSize (waiting w) senders senders capacity (senderOf p)
-
--- .. from where "going round" stands (01, Wires)
-abbrev pub sent : Wires → ℕ → List ℕ
-sent w capacity = sentFrom w (w .place) capacity
-
--- the next group that goes up, going round: "the index after the last one sent" (01, Wires)
-abbrev pub groupAfter : ℕ → ℕ
-groupAfter i = groupAt (after senders (senderOf i))
-
--- "and their pending marks go"; the place follows the one just sent (01, Wires)
-abbrev pub leftBy : Wires → ℕ → Wires
-leftBy w k = withGroup w (groupAt k) (levelAt w (groupAt k)) false (groupAt (after senders k))
-
--- so for all that a packet takes, in their order (01, Wires: "and their pending marks go")
-unfoldable pub afterSent : Wires → List ℕ → Wires
-afterSent w [] = w
-afterSent w (k ∷ ks) = afterSent (leftBy w k) ks
-
--- a packet is where it begins and how many entries it has, over the wires as they were (docs/DECISIONS.md, 25)
-abbrev pub packetOf : Wires → List ℕ → Packet
-packetOf w ks = record { place = w .place; count = sizes senderSize ks }
+-- ---- GET_VWIRE: a group's entry
 
 -- "index and data" (01, Commands: PUT_VWIRE) of a group "with all defined bits valid" (01, Wires)
 abbrev pub pairAt : (i level : ℕ) → List ℕ
@@ -129,22 +94,13 @@ pairAt i level = i ∷ (rowAt (i - 2) .defined * 16 + level) ∷ []
 abbrev pub groupByte : Wires → ℕ → ℕ
 groupByte w i = rowAt (i - 2) .defined * 16 + levelAt w i
 
--- the packet's "index and data pairs", in the order sent (01, Commands: PUT_VWIRE)
-unfoldable pub pairBytes : Wires → List ℕ → List ℕ
-pairBytes w [] = []
-pairBytes w (k ∷ ks) = groupAt k ∷ groupByte w (groupAt k) ∷ pairBytes w ks
+-- its pending mark goes, and the next packet begins with this place (01, Wires: "and their pending marks go")
+abbrev pub unmarked : Wires → ℕ → ℕ → Wires
+unmarked w i p = withGroup w i (levelAt w i) false p
 
--- the packet's bytes: "the group count less one .., then index and data pairs" (01, Commands: PUT_VWIRE)
-abbrev pub packetBytes : Wires → Packet → List ℕ
-packetBytes w p = (p .count - 1) ∷ pairBytes w (sentFrom w (p .place) (p .count))
-
--- "a group is pending" (01, Registers and status)
-abbrev pub anyPending : Wires → Bool
-anyPending w = some senders (waiting w)
-
--- the channel's word of the status: "2 VWIRE_FREE (always 1)", "6 VWIRE_AVAIL (a group is pending)" (01, Registers and status; 004, table 4)
-abbrev pub wiresStatus : Wires → ℕ
-wiresStatus w = 4 + bit (anyPending w) * 64
+-- another going-round place alone (01, Wires: "going round from the index after the last one sent")
+abbrev pub withPlace : Wires → ℕ → Wires
+withPlace w p = record { level = w .level; pending = w .pending; place = p }
 
 -- ---- enabling, disabling and resets
 
@@ -194,9 +150,9 @@ groupRight on w i = onlyDefined w i && markRight on w i
 abbrev pub groupsRight : Bool → Wires → ℕ → Bool
 groupsRight on w n = every n (λ (k : ℕ). groupRight on w (k + 2))
 
--- "the going-round place is 4 to 6" (01, Sound state)
+-- the going-round place is a sender's: "sound state admits waiting lines and their turns" (02, Q-4; 01, Sound state: "4 to 6")
 abbrev pub placeRight : Wires → Bool
-placeRight w = leb 4 (w .place) && leb (w .place) 6
+placeRight w = ltb (w .place) senders
 
 -- channel 1's clauses of "Sound state" together, for all six groups (01, Wires, last paragraph)
 abbrev pub soundWires : Bool → Wires → Bool

@@ -10,15 +10,13 @@ use lib.Pow.{pow-lt}
 use lib.Dec.{eqb, leb}
 use lib.ListN.{getD, set, length, length-set, drop-of-length-le}
 use lib.Seq.{paste, paste-suc, set-getD}
-use borrow.Author.Tests.{leb-true, le-leb, eqb-true, ne-eqb}
+use borrow.Author.Tests.{ltb-true, lt-ltb, le-leb, eqb-true, ne-eqb}
 use Rattle.base.specs.Pick.{or-either, pick, pick-ind, and-left, and-right, and-true}
 use Rattle.wires.specs.Below.{at-every, every-at}
-use Rattle.wires.specs.Table.{table, noRow, rowAt, isGroup, senders, groupAt, senderOf, isUp}
-use Rattle.wires.specs.Rows.{row-right, in-table, DefinedBit, Settable, settable-bit, sender-group, place-up}
-use Rattle.wires.specs.Turn.{after}
-use Rattle.wires.specs.Round.{AllBelow, none, more, after-below, turn-below}
+use Rattle.wires.specs.Table.{table, noRow, rowAt, isGroup, senders, isUp}
+use Rattle.wires.specs.Rows.{row-right, in-table, DefinedBit, Settable, settable-bit}
 use Rattle.wires.specs.Nibbles.{bitOf, cleanTest, clean-view, clean-test, nibble-clean, mask-inside, one-bit, nibble-small}
-use Rattle.wires.specs.Groups.{senderSize, waiting, levelAt, markAt, withGroup, nibble, isDown, putPair, putPairs, settable, setWire, leftBy, afterSent, sentFrom, sent, differs, remarked, enabled, disabled, platformWires, freshWires, onlyDefined, markRight, groupRight, groupsRight, placeRight, soundWires, wholeWires}
+use Rattle.wires.specs.Groups.{firstPlace, levelAt, markAt, withGroup, nibble, isDown, putPair, putPairs, settable, setWire, unmarked, withPlace, differs, remarked, enabled, disabled, platformWires, freshWires, onlyDefined, markRight, groupRight, groupsRight, placeRight, soundWires, wholeWires}
 use Rattle.wires.specs.declared.WireRow.{WireRow}
 use Rattle.wires.specs.declared.Wires.{Wires}
 
@@ -30,8 +28,7 @@ clash e = absurd (true≢false (sym e))
 pub record Sound (on : Bool) (w : Wires) : Type 0 where
   pub clean : (i : ℕ) → 2 ≤ i → i ≤ 7 → onlyDefined w i ≡ true
   pub marks : (i : ℕ) → 2 ≤ i → i ≤ 7 → markAt w i ≡ true → (isUp i ≡ true) × (on ≡ true)
-  pub from : 4 ≤ w .place
-  pub upto : w .place ≤ 6
+  pub below : w .place < senders
 
 -- a group of the table is an up group or not by its row
 pub up-row : (i : ℕ) → 2 ≤ i → i ≤ 7 → isUp i ≡ not (rowAt (i - 2) .down)
@@ -45,8 +42,7 @@ sound-view on w e =
       marks = λ i h l t.
           let u = marked (markAt w i) (on && not (rowAt (i - 2) .down)) (and-right (onlyDefined w i) (markRight on w i) (group i h l)) t in
           (up-row i h l ∙ and-right on _ u, and-left on _ u);
-      from = leb-true 4 (w .place) (and-left (leb 4 (w .place)) (leb (w .place) 6) p);
-      upto = leb-true (w .place) 6 (and-right (leb 4 (w .place)) (leb (w .place) 6) p);
+      below = ltb-true (w .place) senders p;
     }
   where
     group : (i : ℕ) → 2 ≤ i → i ≤ 7 → groupRight on w i ≡ true
@@ -62,7 +58,7 @@ sound-view on w e =
 pub sound-test : (on : Bool) (w : Wires) → Sound on w → soundWires on w ≡ true
 sound-test on w s =
     and-true (every-at (length table) (λ (k : ℕ). groupRight on w (k + 2)) (λ k h. group (k + 2) (omega arith) (omega arith)))
-    (and-true (le-leb 4 (w .place) (s .from)) (le-leb (w .place) 6 (s .upto)))
+    (lt-ltb (w .place) senders (s .below))
   where
     right : (i : ℕ) → 2 ≤ i → i ≤ 7 → (m : Bool) → markAt w i ≡ m → not m || (on && not (rowAt (i - 2) .down)) ≡ true
     right i h l true e = let t = s .marks i h l e in and-true (t .1) (sym (up-row i h l) ∙ t .0)
@@ -82,8 +78,8 @@ set-cases Q (x ∷ l) (suc i) zero a d f q = q
 set-cases Q (x ∷ l) (suc i) (suc j) a d f q = set-cases Q l i j a d (λ e. f (ap suc e)) q
 
 sound-with : {on : Bool} {w : Wires} (i level : ℕ) (mark : Bool) (p : ℕ) → 2 ≤ i → i ≤ 7 → cleanTest (rowAt (i - 2) .defined) level ≡ true
-    → (mark ≡ true → (isUp i ≡ true) × (on ≡ true)) → 4 ≤ p → p ≤ 6 → Sound on w → Sound on (withGroup w i level mark p)
-sound-with {on} {w} i level mark p h l c m from upto s =
+    → (mark ≡ true → (isUp i ≡ true) × (on ≡ true)) → p < senders → Sound on w → Sound on (withGroup w i level mark p)
+sound-with {on} {w} i level mark p h l c m below s =
     record {
       clean = λ j hj lj.
           set-cases (λ (x : ℕ). cleanTest (rowAt (j - 2) .defined) x ≡ true) (w .level) (i - 2) (j - 2) level 0
@@ -93,8 +89,7 @@ sound-with {on} {w} i level mark p h l c m from upto s =
           set-cases (λ (b : Bool). b ≡ true → (isUp j ≡ true) × (on ≡ true)) (w .pending) (i - 2) (j - 2) mark false
           (λ e. let q : i ≡ j = omega arith in subst (λ (k : ℕ). mark ≡ true → (isUp k ≡ true) × (on ≡ true)) q m)
           (s .marks j hj lj);
-      from = from;
-      upto = upto;
+      below = below;
     }
 
 -- ---- each change
@@ -120,7 +115,7 @@ pair-kept {on} w i b s =
     (clean-nibble i (b % 16) (bitAnd (b / 16) d) (t .from) (t .upto)
     (omega (arith, and-le-r (b / 16) d, small-row i (t .from) (t .upto)))
     (λ k _ q. mask-inside (b / 16) d k q) s)
-    (s .marks i (t .from) (t .upto)) (s .from) (s .upto)
+    (s .marks i (t .from) (t .upto)) (s .below)
     s)
     (λ _. s)
 
@@ -136,7 +131,7 @@ wire-kept on w i bit value t s =
     sound-with i _ _ (w .place) (d .from) (d .upto)
     (clean-nibble i (value * 2 ^ bit) (2 ^ bit) (d .from) (d .upto) (pow-lt (d .small)) (alone d) s)
     (λ e. ⊎-elim (s .marks i (d .from) (d .upto)) (λ o. (up-row i (d .from) (d .upto) ∙ ap not (t .up), and-left on _ o)) (or-either (markAt w i) _ e))
-    (s .from) (s .upto) s
+    (s .below) s
   where
     alone : DefinedBit i bit → (k : ℕ) → k < 4 → bitOf (rowAt (i - 2) .defined) k ≡ 0 → bitOf (2 ^ bit) k ≡ 0
     alone d k hk z =
@@ -144,25 +139,12 @@ wire-kept on w i bit value t s =
         ∙ ap (λ (b : Bool). pick b 1 0)
         (ne-eqb k bit (λ e. let q : _≡_ {A = ℕ} 0 1 = sym z ∙ ap (bitOf (rowAt (i - 2) .defined)) e ∙ d .one in omega arith))
 
--- one sender sent
-left-kept : {on : Bool} (w : Wires) (k : ℕ) → k < senders → Sound on w → Sound on (leftBy w k)
-left-kept w k h s =
-    let g = sender-group k h in
-    let p = sender-group (after senders k) (after-below senders k h) in
-    sound-with (groupAt k) (levelAt w (groupAt k)) false (groupAt (after senders k)) (omega (arith, g .from)) (omega (arith, g .upto))
-    (s .clean (groupAt k) (omega (arith, g .from)) (omega (arith, g .upto))) clash (p .from) (p .upto) s
+-- a group sent, or another place alone
+unmarked-kept : {on : Bool} (w : Wires) (i p : ℕ) → 2 ≤ i → i ≤ 7 → p < senders → Sound on w → Sound on (unmarked w i p)
+unmarked-kept w i p from upto below s = sound-with i (levelAt w i) false p from upto (s .clean i from upto) clash below s
 
-after-kept : {on : Bool} {ks : List ℕ} (w : Wires) → AllBelow senders ks → Sound on w → Sound on (afterSent w ks)
-unfolding afterSent
-after-kept w none s = s
-after-kept w (more {i = k} h hs) s = after-kept (leftBy w k) hs (left-kept w k h s)
-
-pub sent-below : (w : Wires) (capacity : ℕ) → 4 ≤ w .place → w .place ≤ 6 → AllBelow senders (sent w capacity)
-unfolding sentFrom
-sent-below w capacity h l = turn-below senderSize (waiting w) senders senders capacity (senderOf (w .place)) (place-up (w .place) h l .below)
-
-sent-kept : {on : Bool} (w : Wires) (capacity : ℕ) → Sound on w → Sound on (afterSent w (sent w capacity))
-sent-kept w capacity s = after-kept w (sent-below w capacity (s .from) (s .upto)) s
+placed-kept : {on : Bool} (w : Wires) (p : ℕ) → p < senders → Sound on w → Sound on (withPlace w p)
+placed-kept w p below s = record { clean = s .clean; marks = s .marks; below = below }
 
 map-at : {A B : Type 0} (f : A → B) (l : List A) (k : ℕ) (d : A) (e : B) → k < length l → getD (map f l) k e ≡ f (getD l k d)
 map-at f [] k d e h = absurd (omega arith)
@@ -212,21 +194,20 @@ remarked-all on w next p l e f g =
     let q : next .pending ≡ marks = f ∙ ap (λ (t : List Bool). marks ++ t) (drop-of-length-le (w .pending) {i = 6} (omega arith)) in
     same-wires e q g
 
-remarked-kept : {was : Bool} (on : Bool) (w : Wires) (p : ℕ) → 4 ≤ p → p ≤ 6 → Sound was w → Sound on (remarked on w p)
-remarked-kept on w p from upto s =
+remarked-kept : {was : Bool} (on : Bool) (w : Wires) (p : ℕ) → p < senders → Sound was w → Sound on (remarked on w p)
+remarked-kept on w p below s =
     record {
       clean = s .clean;
       marks = λ i h l t.
           let e = sym (remarked-mark on w p i h l) ∙ t in
           (up-row i h l ∙ and-left (not (rowAt (i - 2) .down)) _ (and-right on _ e), and-left on _ e);
-      from = from;
-      upto = upto;
+      below = below;
     }
 
 platform-kept : {on : Bool} (w : Wires) → Sound on w → Sound on (platformWires w)
 platform-kept w s =
-    sound-with 7 _ false 4 (omega arith) (omega arith) refl clash (omega arith) (omega arith)
-    (sound-with 6 _ false 4 (omega arith) (omega arith) refl clash (omega arith) (omega arith) s)
+    sound-with 7 _ false firstPlace (omega arith) (omega arith) refl clash (omega arith)
+    (sound-with 6 _ false firstPlace (omega arith) (omega arith) refl clash (omega arith) s)
 
 -- ---- the laws: soundness is kept
 
@@ -241,14 +222,17 @@ pub sound-set : (on : Bool) (w : Wires) (i bit value : ℕ) → settable i bit v
     → soundWires on (setWire on w i bit value) ≡ true
 sound-set on w i bit value t e = sound-test on _ (wire-kept on w i bit value (settable-bit i bit value t) (sound-view on w e))
 
-pub sound-sent : (on : Bool) (w : Wires) (capacity : ℕ) → soundWires on w ≡ true → soundWires on (afterSent w (sent w capacity)) ≡ true
-sound-sent on w capacity e = sound-test on _ (sent-kept w capacity (sound-view on w e))
+pub sound-unmarked : (on : Bool) (w : Wires) (i p : ℕ) → 2 ≤ i → i ≤ 7 → p < senders → soundWires on w ≡ true → soundWires on (unmarked w i p) ≡ true
+sound-unmarked on w i p from upto below e = sound-test on _ (unmarked-kept w i p from upto below (sound-view on w e))
+
+pub sound-placed : (on : Bool) (w : Wires) (p : ℕ) → p < senders → soundWires on w ≡ true → soundWires on (withPlace w p) ≡ true
+sound-placed on w p below e = sound-test on _ (placed-kept w p below (sound-view on w e))
 
 pub sound-enabled : (w : Wires) → soundWires false w ≡ true → soundWires true (enabled w) ≡ true
-sound-enabled w e = let s = sound-view false w e in sound-test true _ (remarked-kept true w (w .place) (s .from) (s .upto) s)
+sound-enabled w e = let s = sound-view false w e in sound-test true _ (remarked-kept true w (w .place) (s .below) s)
 
 pub sound-disabled : (on : Bool) (w : Wires) → soundWires on w ≡ true → soundWires false (disabled w) ≡ true
-sound-disabled on w e = sound-test false _ (remarked-kept false w 4 (omega arith) (omega arith) (sound-view on w e))
+sound-disabled on w e = sound-test false _ (remarked-kept false w firstPlace (omega arith) (sound-view on w e))
 
 pub sound-platform : (on : Bool) (w : Wires) → soundWires on w ≡ true → soundWires on (platformWires w) ≡ true
 sound-platform on w e = sound-test on _ (platform-kept w (sound-view on w e))
@@ -294,11 +278,6 @@ whole-put w (i ∷ b ∷ ps) = whole-put (putPair w i b) ps ∙ whole-pair w i b
 
 pub whole-set : (on : Bool) (w : Wires) (i bit value : ℕ) → wholeWires (setWire on w i bit value) ≡ wholeWires w
 whole-set on w i bit value = whole-with w i _ _ (w .place)
-
-pub whole-sent : (w : Wires) (ks : List ℕ) → wholeWires (afterSent w ks) ≡ wholeWires w
-unfolding afterSent
-whole-sent w [] = refl
-whole-sent w (k ∷ ks) = whole-sent (leftBy w k) ks ∙ whole-with w (groupAt k) _ _ 0
 
 pub whole-remarked : (on : Bool) (w : Wires) (p : ℕ) → wholeWires w ≡ true → wholeWires (remarked on w p) ≡ true
 whole-remarked on w p e = and-true (and-left (eqb (length (w .level)) 6) _ e) refl

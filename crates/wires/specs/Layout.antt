@@ -1,5 +1,5 @@
 -- The wires' bytes in those of a state (docs/STATE.md), there and back.
-use Prim.Native.Nat.{ℕ, _-_, _<_, _≤_}
+use Prim.Native.Nat.{ℕ, _+_, _-_, _*_, _/_, _%_, _<_, _≤_}
 use mathlib.Core.Bool.{Bool, true, false, _&&_, _||_}
 use mathlib.Core.List.{List, [], _∷_, _++_}
 use mathlib.Core.Path.{_≡_, refl, ap, _∙_}
@@ -9,21 +9,22 @@ use lib.Dec.{eqb, leb}
 use lib.ListN.{getD, length}
 use borrow.Author.Tests.{ltb-true}
 use Rattle.base.specs.Pick.{and-right}
-use Rattle.base.specs.Bytes.{bit, bit-below, low4, low8, number4, number8}
-use Rattle.base.specs.Numbers.{past, low4-number4, low8-number8}
+use Rattle.base.specs.Bytes.{bit, bit-below}
+use Rattle.base.specs.Numbers.{past}
 use Rattle.base.specs.AllBytes.{AllBytes, all-none, all-cons}
-use Rattle.wires.specs.Table.{rowAt}
+use Rattle.wires.specs.Table.{rowAt, senders}
 use Rattle.wires.specs.Groups.{levelAt, markAt, inRow, onlyDefined, soundWires}
+use Rattle.wires.specs.Lines.{linesIn, linesBytes}
+use Rattle.wires.specs.Senders.{AllWires, soundAll}
 use Rattle.wires.specs.Kept.{sound-view}
 use Rattle.wires.specs.declared.Wires.{Wires}
-use Rattle.wires.specs.declared.Words.{Words}
 
--- 64 to 69: levels of groups 2 to 7; 70 to 75: their pending marks; 76: the going-round place (docs/STATE.md; docs/DECISIONS.md, 27)
+-- 64 to 69: levels of groups 2 to 7; 70 to 75: their pending marks; 76 and 77: the going-round place, low byte first (docs/STATE.md; docs/DECISIONS.md, 27)
 abbrev pub wiresBytes : Wires → List ℕ
 wiresBytes w =
     levelAt w 2 ∷ levelAt w 3 ∷ levelAt w 4 ∷ levelAt w 5 ∷ levelAt w 6 ∷ levelAt w 7
     ∷ bit (markAt w 2) ∷ bit (markAt w 3) ∷ bit (markAt w 4) ∷ bit (markAt w 5) ∷ bit (markAt w 6) ∷ bit (markAt w 7)
-    ∷ w .place ∷ []
+    ∷ w .place % 256 ∷ w .place / 256 % 256 ∷ []
 
 -- the wires in those bytes (docs/DECISIONS.md, 27)
 abbrev pub wiresIn : List ℕ → Wires
@@ -31,24 +32,8 @@ wiresIn l =
     record {
       level = getD l 64 0 ∷ getD l 65 0 ∷ getD l 66 0 ∷ getD l 67 0 ∷ getD l 68 0 ∷ getD l 69 0 ∷ [];
       pending = eqb (getD l 70 0) 1 ∷ eqb (getD l 71 0) 1 ∷ eqb (getD l 72 0) 1 ∷ eqb (getD l 73 0) 1 ∷ eqb (getD l 74 0) 1 ∷ eqb (getD l 75 0) 1 ∷ [];
-      place = getD l 76 0;
+      place = getD l 76 0 + getD l 77 0 * 256;
     }
-
--- the same bytes as three numbers: eight bytes, four, and the place (docs/DECISIONS.md, 37)
-abbrev pub wordsIn : List ℕ → Words
-wordsIn l = record { low = number8 64 l; high = number4 72 l; place = getD l 76 0 }
-
-abbrev fromBytes : List ℕ → List ℕ → ℕ → Wires
-fromBytes a b place =
-    record {
-      level = getD a 0 0 ∷ getD a 1 0 ∷ getD a 2 0 ∷ getD a 3 0 ∷ getD a 4 0 ∷ getD a 5 0 ∷ [];
-      pending = eqb (getD a 6 0) 1 ∷ eqb (getD a 7 0) 1 ∷ eqb (getD b 0 0) 1 ∷ eqb (getD b 1 0) 1 ∷ eqb (getD b 2 0) 1 ∷ eqb (getD b 3 0) 1 ∷ [];
-      place = place;
-    }
-
--- the wires of these three (docs/DECISIONS.md, 37)
-abbrev pub wiresOf : Words → Wires
-wiresOf w = fromBytes (low8 (w .low)) (low4 (w .high)) (w .place)
 
 -- the canonical form, by the bytes as they stand: a mark is 0 or 1 (docs/DECISIONS.md, 23)
 abbrev pub tidyWires : List ℕ → Bool
@@ -59,6 +44,18 @@ tidyWires l =
 -- the bytes pack sound wires, the channel being on or off: else 11, "state not sound" (01, Replies and refusals)
 abbrev pub holdsWires : Bool → List ℕ → Bool
 holdsWires on l = tidyWires l && soundWires on (wiresIn l)
+
+-- all of channel 1's bytes, 64 to 173: the groups', then the lines' (docs/STATE.md; docs/DECISIONS.md, 27)
+abbrev pub allBytes : AllWires → List ℕ
+allBytes w = wiresBytes (w .groups) ++ linesBytes (w .lines)
+
+-- all wires in those bytes (docs/STATE.md)
+abbrev pub allIn : List ℕ → AllWires
+allIn l = record { groups = wiresIn l; lines = linesIn l }
+
+-- the bytes pack sound wires, lines too; those of the lines are canonical whatever they are (docs/DECISIONS.md, 23)
+abbrev pub holdsAll : Bool → ℕ → List ℕ → Bool
+holdsAll on count l = tidyWires l && soundAll on count (allIn l)
 
 -- the same of the levels' six bytes: "undefined wire bits are 0" (01, Sound state)
 abbrev pub levelsFit : List ℕ → Bool
@@ -76,13 +73,7 @@ marksIn on l = marksFit on (getD l 6 0) (getD l 7 0) (getD l 8 0) (getD l 9 0) (
 
 -- ---- laws
 
-pub words-back : (l : List ℕ) → ((k : ℕ) → getD l k 0 < 256) → wiresOf (wordsIn l) ≡ wiresIn l
-words-back l byte =
-    ap (λ (a : List ℕ). fromBytes a (low4 (number4 72 l)) (getD l 76 0)) (low8-number8 l byte 64)
-    ∙ ap (λ (b : List ℕ). fromBytes (getD l 64 0 ∷ getD l 65 0 ∷ getD l 66 0 ∷ getD l 67 0 ∷ getD l 68 0 ∷ getD l 69 0 ∷ getD l 70 0 ∷ getD l 71 0 ∷ []) b
-    (getD l 76 0)) (low4-number4 l byte 72)
-
-mark-back : (b : Bool) → eqb (bit b) 1 ≡ b
+pub mark-back : (b : Bool) → eqb (bit b) 1 ≡ b
 mark-back true = refl
 mark-back false = refl
 
@@ -97,9 +88,11 @@ six d (a ∷ b ∷ c ∷ e ∷ []) h = absurd (omega arith)
 six d (a ∷ b ∷ c ∷ e ∷ f ∷ []) h = absurd (omega arith)
 six d (a ∷ b ∷ c ∷ e ∷ f ∷ g ∷ x ∷ l) h = absurd (omega arith)
 
-pub wires-back : (p r : List ℕ) (w : Wires) → length p ≡ 64 → length (w .level) ≡ 6 → length (w .pending) ≡ 6 → wiresIn (p ++ (wiresBytes w ++ r)) ≡ w
-wires-back p r w h a b =
+pub wires-back : (p r : List ℕ) (w : Wires) → length p ≡ 64 → length (w .level) ≡ 6 → length (w .pending) ≡ 6 → w .place < senders
+    → wiresIn (p ++ (wiresBytes w ++ r)) ≡ w
+wires-back p r w h a b below =
     let l = wiresBytes w ++ r in
+    let two : w .place % 256 + w .place / 256 % 256 * 256 ≡ w .place = omega arith in
     rw (
       past p l 64 0 (omega arith),
       past p l 65 1 (omega arith),
@@ -114,6 +107,8 @@ wires-back p r w h a b =
       past p l 74 10 (omega arith),
       past p l 75 11 (omega arith),
       past p l 76 12 (omega arith),
+      past p l 77 13 (omega arith),
+      two,
       mark-back (markAt w 2),
       mark-back (markAt w 3),
       mark-back (markAt w 4),
@@ -146,9 +141,9 @@ all-wires on w e =
     (all-cons (m (markAt w 4))
     (all-cons (m (markAt w 5))
     (all-cons (m (markAt w 6))
-    (all-cons (m (markAt w 7)) (all-cons (omega (arith, s .upto)) all-none))))))))))))
+    (all-cons (m (markAt w 7)) (all-cons (omega arith) (all-cons (omega arith) all-none)))))))))))))
 
-pub wires-same : (a b : List ℕ) → ((k : ℕ) → k < 77 → getD a k 0 ≡ getD b k 0) → wiresIn a ≡ wiresIn b
+pub wires-same : (a b : List ℕ) → ((k : ℕ) → k < 78 → getD a k 0 ≡ getD b k 0) → wiresIn a ≡ wiresIn b
 wires-same a b e =
     rw (
       e 64 (omega arith),
@@ -164,4 +159,5 @@ wires-same a b e =
       e 74 (omega arith),
       e 75 (omega arith),
       e 76 (omega arith),
+      e 77 (omega arith),
     )

@@ -8,14 +8,11 @@ use lib.Bits.{bitAnd}
 use lib.Pow.{shl-exact}
 use lib.Dec.{eqb, ltb, leb}
 use lib.ListN.{getD, length}
-use borrow.Author.Tests.{leb-true, ltb-true, eqb-true, eqb-false, lt-ltb, le-leb, not-true}
+use borrow.Author.Tests.{leb-true, ltb-true, ltb-false, eqb-true, eqb-false, lt-ltb, not-true}
 use Rattle.base.specs.Pick.{pick, and-left, and-right}
-use Rattle.base.specs.Bytes.{bit}
-use Rattle.wires.specs.Below.{every, some, at-every}
-use Rattle.wires.specs.Table.{table, rowAt, isGroup, upsBefore, senders, groupAt, senderOf, isUp}
-use Rattle.wires.specs.Turn.{after}
-use Rattle.wires.specs.Groups.{definedBit, settable, firstPlace, waiting, anyPending, groupAfter}
-use Rattle.wires.specs.declared.Wires.{Wires}
+use Rattle.wires.specs.Below.{every, at-every}
+use Rattle.wires.specs.Table.{table, rowAt, isGroup, upGroups, lineCount, isLine, senders, groupAt, senderOf, isUp}
+use Rattle.wires.specs.Groups.{definedBit, settable, firstPlace}
 
 -- ---- the rows
 
@@ -47,12 +44,13 @@ right-row k e =
 pub row-right : (k : ℕ) → k < 6 → RightRow k
 row-right k h = right-row k (at-every (length table) rightRow refl k h)
 
--- ---- the senders are the groups 4 to 6, in that order, and going round begins with the first of them
+-- ---- the senders behind the lines are the groups 4 to 6, in that order, and going round begins with the first of them
 
 abbrev pub rightGroup : ℕ → Bool
-rightGroup i = ltb (senderOf i) senders && (eqb (groupAt (senderOf i)) i && (leb 4 i && leb i 6))
+rightGroup i = (leb lineCount (senderOf i) && ltb (senderOf i) senders) && (eqb (groupAt (senderOf i)) i && (leb 4 i && leb i 6))
 
 pub record UpGroup (i : ℕ) : Type 0 where
+  pub above : lineCount ≤ senderOf i
   pub below : senderOf i < senders
   pub back : groupAt (senderOf i) ≡ i
   pub from : 4 ≤ i
@@ -66,10 +64,12 @@ pub up-group : (i : ℕ) → isUp i ≡ true → UpGroup i
 up-group i u =
     let l = leb-true i 7 (and-right (leb 2 i) _ (and-left (isGroup i) _ u)) in
     let e = where-holds 8 isUp rightGroup refl i (omega arith) u in
-    let e₁ = and-right (ltb (senderOf i) senders) _ e in
+    let e₀ = and-left (leb lineCount (senderOf i) && ltb (senderOf i) senders) _ e in
+    let e₁ = and-right (leb lineCount (senderOf i) && ltb (senderOf i) senders) _ e in
     let e₂ = and-right (eqb (groupAt (senderOf i)) i) _ e₁ in
     record {
-      below = ltb-true _ _ (and-left (ltb (senderOf i) senders) _ e);
+      above = leb-true lineCount (senderOf i) (and-left (leb lineCount (senderOf i)) _ e₀);
+      below = ltb-true _ _ (and-right (leb lineCount (senderOf i)) _ e₀);
       back = eqb-true _ _ (and-left (eqb (groupAt (senderOf i)) i) _ e₁);
       from = leb-true 4 i (and-left (leb 4 i) _ e₂);
       upto = leb-true i 6 (and-right (leb 4 i) _ e₂);
@@ -89,54 +89,35 @@ by-group P i u four five six = let g = up-group i u in go (i - 4) (omega (arith,
 pub last-group : (i : ℕ) → isUp i ≡ true → (i ≡ 4 → ⊥) → (i ≡ 5 → ⊥) → i ≡ 6
 last-group i u = by-group (λ (j : ℕ). (j ≡ 4 → ⊥) → (j ≡ 5 → ⊥) → j ≡ 6) i u (λ a b. absurd (a refl)) (λ a b. absurd (b refl)) (λ a b. refl)
 
--- the going-round place is an up group
-pub place-group : (p : ℕ) → 4 ≤ p → p ≤ 6 → isUp p ≡ true
-place-group p h l = where-holds 7 (leb 4) isUp refl p (omega arith) (le-leb 4 p h)
-
-pub place-up : (p : ℕ) → 4 ≤ p → p ≤ 6 → UpGroup p
-place-up p h l = up-group p (place-group p h l)
-
-pub first-sender : groupAt 0 ≡ firstPlace
+pub first-sender : groupAt lineCount ≡ 4
 first-sender = refl
 
+-- sender k, behind the lines, is a group
 pub record Sender (k : ℕ) : Type 0 where
   pub up : isUp (groupAt k) ≡ true
   pub own : senderOf (groupAt k) ≡ k
 
-pub sender : (k : ℕ) → k < senders → Sender k
-sender k h =
-    let e = at-every senders (λ (j : ℕ). isUp (groupAt j) && eqb (senderOf (groupAt j)) j) refl k h in
-    record { up = and-left (isUp (groupAt k)) _ e; own = eqb-true _ _ (and-right (isUp (groupAt k)) _ e) }
+pub sender : (k : ℕ) → lineCount ≤ k → k < senders → Sender k
+sender k l h =
+    let j = k - lineCount in
+    let q : lineCount + j ≡ k = omega arith in
+    subst Sender q
+    (go j (at-every upGroups (λ (j : ℕ). isUp (groupAt (lineCount + j)) && eqb (senderOf (groupAt (lineCount + j))) (lineCount + j)) refl j (omega arith)))
+  where
+    go : (j : ℕ) → isUp (groupAt (lineCount + j)) && eqb (senderOf (groupAt (lineCount + j))) (lineCount + j) ≡ true → Sender (lineCount + j)
+    go j e = record { up = and-left (isUp (groupAt (lineCount + j))) _ e; own = eqb-true _ _ (and-right (isUp (groupAt (lineCount + j))) _ e) }
 
--- a sender's group lies in the table
-pub sender-group : (k : ℕ) → k < senders → UpGroup (groupAt k)
-sender-group k h = up-group (groupAt k) (sender k h .up)
+-- its group lies in the table
+pub sender-group : (k : ℕ) → lineCount ≤ k → k < senders → UpGroup (groupAt k)
+sender-group k l h = up-group (groupAt k) (sender k l h .up)
 
--- ---- reading the senders off the table, row by row
-
-pub ups-next : (i : ℕ) → i < 6 → upsBefore (i + 1) ≡ upsBefore i + bit (not (rowAt i .down))
-ups-next i h = eqb-true _ _ (at-every (length table) (λ (k : ℕ). eqb (upsBefore (k + 1)) (upsBefore k + bit (not (rowAt k .down)))) refl i h)
-
-or-none : (b : Bool) → b ≡ (b || false)
-or-none true = refl
-or-none false = refl
-
--- those that wait, row by row
-pub some-next : (w : Wires) (i : ℕ) → i < 6
-    → some (upsBefore (i + 1)) (waiting w) ≡ (some (upsBefore i) (waiting w) || (not (rowAt i .down) && getD (w .pending) i false))
-some-next w zero h = refl
-some-next w (suc zero) h = refl
-some-next w (suc (suc zero)) h = refl
-some-next w (suc (suc (suc zero))) h = refl
-some-next w (suc (suc (suc (suc zero)))) h = refl
-some-next w (suc (suc (suc (suc (suc zero))))) h = or-none (anyPending w)
-some-next w (suc (suc (suc (suc (suc (suc i)))))) h = absurd (omega arith)
-
--- the group after each, going round
-pub group-next : (i : ℕ) → isUp i ≡ true → pick (eqb i 6) firstPlace (i + 1) ≡ groupAfter i
-unfolding after
-group-next i u =
-    eqb-true _ _ (where-holds 8 isUp (λ (k : ℕ). eqb (pick (eqb k 6) firstPlace (k + 1)) (groupAfter k)) refl i (omega (arith, up-group i u .upto)) u)
+-- a sender is a line or a group
+pub by-sender : {X : Type 0} (k : ℕ) → k < senders → (k < lineCount → isLine k ≡ true → X) → (lineCount ≤ k → isLine k ≡ false → X) → X
+by-sender {X} k h line group = go (isLine k) refl
+  where
+    go : (b : Bool) → isLine k ≡ b → X
+    go true e = line (ltb-true k lineCount e) e
+    go false e = group (ltb-false k lineCount e) e
 
 -- ---- the tests on an index, a bit and a value
 

@@ -1,232 +1,283 @@
--- P20: which groups a GET_VWIRE sends, as what bytes, and what it leaves.
-use Prim.Native.Nat.{ℕ, zero, suc, _+_, _-_, _*_, _<_, _≤_, min}
-use mathlib.Core.Bool.{Bool, true, false, _||_}
-use mathlib.Core.List.{List, [], _∷_, List·Memᴰ, List·Memᴰ·head, List·Memᴰ·tail, Memᴰ·cast}
+-- P20: which senders a GET_VWIRE takes, as what bytes, and what it leaves.
+use Prim.Native.Nat.{ℕ, zero, suc, _+_, _-_, _*_, _<_, _≤_}
+use mathlib.Core.Bool.{Bool, true, false, true≢false}
+use mathlib.Core.List.{List, [], _∷_, _++_, List·Memᴰ, List·Memᴰ·head, List·Memᴰ·tail, List·Memᴰ·not-nil, List·Memᴰ·cases-cons}
+use mathlib.Core.Logic.{⊎-elim}
 use mathlib.Core.Path.{_≡_, refl, sym, ap, _∙_}
 use native.Mathlib.Omega.{arith}
-use lib.Dec.{leb}
-use lib.ListN.{getD, set, length, take, length-take}
-use lib.Seq.{set-getD, take-nil}
-use borrow.Author.Tests.{le-leb, lt-ltb}
-use Rattle.base.specs.Pick.{pick}
-use Rattle.base.specs.Bytes.{bit}
-use Rattle.wires.specs.Below.{count, some-counted, none-counted}
-use Rattle.wires.specs.Table.{senders, groupAt, senderOf}
-use Rattle.wires.specs.Rows.{sender, sender-group, place-up}
+use lib.Dec.{eqb, leb}
+use lib.ListN.{getD, set, length, length-append}
+use lib.Seq.{set-getD}
+use borrow.Author.Tests.{eqb-true, eqb-false, ltb-true}
+use Rattle.base.specs.Pick.{pick, pick-ind}
+use Rattle.wires.specs.Below.{any-at, at-any}
+use Rattle.wires.specs.Table.{lineCount, isLine, senders, groupAt, senderOf}
 use Rattle.wires.specs.Turn.{turn, after, placeAfter, sizes}
-use Rattle.wires.specs.Round.{AllBelow, none, more, below-each, steps, steps-round, place-below, turn-again, turn-fits}
-use Rattle.wires.specs.Sending.{PacketFits}
-use Rattle.wires.specs.Kept.{set-cases, sound-view, sound-levels, sent-below}
+use Rattle.wires.specs.Lines.{lineBit, lineValue, lineEntry, lineEntries, sentLine, withBit}
+use Rattle.wires.specs.Groups.{levelAt, markAt, unmarked, withPlace, groupByte}
+use Rattle.wires.specs.Senders.{AllWires, senderSize, waiting, sentFrom, sent, leftBy, afterSent, entriesOf, pairBytes, entries, packetBytes, anyPending}
+use Rattle.wires.specs.Rows.{sender, sender-group, by-sender}
+use Rattle.wires.specs.Round.{AllBelow, none, more, turn-below, turn-fits, reached, some-taken, none-taken}
 use Rattle.wires.specs.Changes.{mark-other}
-use Rattle.wires.specs.Groups.{levelAt, markAt, senderSize, waiting, sentFrom, sent, leftBy, afterSent, packetOf, pairBytes, packetBytes, anyPending, soundWires}
-use Rattle.wires.specs.declared.Wires.{Wires}
+use Rattle.wires.specs.LineBits.{bit-other, bit-gone}
 use Rattle.wires.specs.declared.Packet.{Packet}
 
 -- ---- which
 
--- those that wait, of `left` senders from i on, in circular order
+-- those that wait, of `left` senders from i on, in circular order (01, Wires: "going round")
 unfoldable pub waiters : (waits : ℕ → Bool) (n left i : ℕ) → List ℕ
 waiters waits n zero i = []
 waiters waits n (suc left) i = pick (waits i) (i ∷ waiters waits n left (after n i)) (waiters waits n left (after n i))
 
-turn-waiters : (waits : ℕ → Bool) (n left capacity i : ℕ) → turn senderSize waits n left capacity i ≡ take capacity (waiters waits n left i)
-unfolding turn waiters
-turn-waiters waits n zero capacity i = sym (take-nil capacity)
-turn-waiters waits n (suc left) capacity i =
-    go (waits i) capacity (turn-waiters waits n left capacity (after n i)) (λ c. turn-waiters waits n left c (after n i))
+-- the first of them, as far as they fit: "A packet closes at the first sender that does not fit" (02, Q-4)
+unfoldable pub fitting : (size : ℕ → ℕ) → ℕ → List ℕ → List ℕ
+fitting size c [] = []
+fitting size c (k ∷ ks) = pick (leb (size k) c) (k ∷ fitting size (c - size k) ks) []
+
+turn-waiters : (size : ℕ → ℕ) (waits : ℕ → Bool) (n left c i : ℕ) → turn size waits n left c i ≡ fitting size c (waiters waits n left i)
+unfolding turn waiters fitting
+turn-waiters size waits n zero c i = refl
+turn-waiters size waits n (suc left) c i = go (waits i) (turn-waiters size waits n left c (after n i)) (turn-waiters size waits n left (c - size i) (after n i))
   where
-    go : (b : Bool) (c : ℕ) → turn senderSize waits n left c (after n i) ≡ take c (waiters waits n left (after n i))
-        → ((d : ℕ) → turn senderSize waits n left d (after n i) ≡ take d (waiters waits n left (after n i)))
-        → pick b (pick (leb 1 c) (i ∷ turn senderSize waits n left (c - 1) (after n i)) []) (turn senderSize waits n left c (after n i))
-        ≡ take c (pick b (i ∷ waiters waits n left (after n i)) (waiters waits n left (after n i)))
-    go false c h f = h
-    go true zero h f = refl
-    go true (suc c) h f =
-        let e : suc c - 1 ≡ c = omega arith in
-        ap (λ (b : Bool). pick b (i ∷ turn senderSize waits n left (suc c - 1) (after n i)) []) (le-leb 1 (suc c) (omega arith))
-        ∙ ap (λ (d : ℕ). i ∷ turn senderSize waits n left d (after n i)) e
-        ∙ ap (λ (xs : List ℕ). i ∷ xs) (f c)
+    ws : List ℕ
+    ws = waiters waits n left (after n i)
 
--- the pending groups' senders, in circular order from the place
-abbrev pub queue : Wires → List ℕ
-queue w = waiters (waiting w) senders senders (senderOf (w .place))
+    go : (b : Bool) → turn size waits n left c (after n i) ≡ fitting size c ws → turn size waits n left (c - size i) (after n i) ≡ fitting size (c - size i) ws
+        → pick b (pick (leb (size i) c) (i ∷ turn size waits n left (c - size i) (after n i)) []) (turn size waits n left c (after n i))
+        ≡ fitting size c (pick b (i ∷ ws) ws)
+    go true e f = ap (λ (xs : List ℕ). pick (leb (size i) c) (i ∷ xs) []) f
+    go false e f = e
 
--- as many as there is room for, from the place on
-pub sent-queue : (w : Wires) (capacity : ℕ) → sent w capacity ≡ take capacity (queue w)
+-- the senders that wait, in circular order from a place (01, Wires: "going round from the index after the last one sent")
+unfoldable pub queue : AllWires → ℕ → List ℕ
+queue w p = waiters (waiting w) senders senders p
+
+-- a packet takes the first of those that wait, as far as they fit
+pub sent-first : (w : AllWires) (p capacity : ℕ) → sentFrom w p capacity ≡ fitting (senderSize w) capacity (queue w p)
+unfolding sentFrom queue
+sent-first w p capacity = turn-waiters (senderSize w) (waiting w) senders senders capacity p
+
+pub from-below : (w : AllWires) (p capacity : ℕ) → p < senders → AllBelow senders (sentFrom w p capacity)
 unfolding sentFrom
-sent-queue w capacity = turn-waiters (waiting w) senders senders capacity (senderOf (w .place))
+from-below w p capacity h = turn-below (senderSize w) (waiting w) senders senders capacity p h
 
--- ---- how many: going round all of n senders each is met once
-
-module _ (waits : ℕ → Bool) (n : ℕ) where
-  abbrev met : ℕ → ℕ → ℕ
-  met left i = length (waiters waits n left i)
-
-  met-one : (left i : ℕ) → met (suc left) i ≡ bit (waits i) + met left (after n i)
-  unfolding waiters
-  met-one left i = go (waits i) (waiters waits n left (after n i))
-    where
-      go : (b : Bool) (xs : List ℕ) → length (pick b (i ∷ xs) xs) ≡ bit b + length xs
-      go true xs = omega arith
-      go false xs = omega arith
-
-  met-none : (i : ℕ) → met 0 i ≡ 0
-  unfolding waiters
-  met-none i = refl
-
-  -- up to the last one
-  met-up : (left i : ℕ) → i + left ≤ n → count i waits + met left i ≡ count (i + left) waits
-  unfolding after
-  met-up zero i h = let e : i + 0 ≡ i = omega arith in rw e (omega (arith, met-none i))
-  met-up (suc zero) i h = let e : i + 1 ≡ suc i = omega arith in rw e (omega (arith, met-one 0 i, met-none (after n i)))
-  met-up (suc (suc left)) i h =
-      let e : i + suc (suc left) ≡ suc i + suc left = omega arith in
-      let f : after n i ≡ suc i = ap (λ (b : Bool). pick b (suc i) 0) (lt-ltb (suc i) n (omega arith)) in
-      let g = ap (met (suc left)) f in
-      rw e (omega (arith, met-one (suc left) i, g, met-up (suc left) (suc i) (omega arith)))
-
-  met-both : (a b i : ℕ) → met (a + b) i ≡ met a i + met b (steps n a i)
-  unfolding steps
-  met-both zero b i = let e : 0 + b ≡ b = omega arith in rw e (omega (arith, met-none i))
-  met-both (suc a) b i =
-      let e : suc a + b ≡ suc (a + b) = omega arith in
-      rw e (omega (arith, met-one (a + b) i, met-one a i, met-both a b (after n i)))
-
-  met-all : (p : ℕ) → p < n → met n p ≡ count n waits
-  met-all p h =
-      let e : n ≡ n - p + p = omega arith in
-      let f : p + (n - p) ≡ n = omega arith in
-      let z : 0 + p ≡ p = omega arith in
-      let round = ap (λ (k : ℕ). met k p) e ∙ met-both (n - p) p p in
-      let first = ap (met p) (steps-round n p h) in
-      let up = met-up (n - p) p (omega arith) ∙ ap (λ (k : ℕ). count k waits) f in
-      let rest = met-up p 0 (omega arith) ∙ ap (λ (k : ℕ). count k waits) z in
-      omega (arith, round, first, up, rest)
-
-abbrev pub pendingCount : Wires → ℕ
-pendingCount w = count senders (waiting w)
-
--- min(pending, operating count)
-pub sent-count : (w : Wires) (capacity : ℕ) → 4 ≤ w .place → w .place ≤ 6 → length (sent w capacity) ≡ min (pendingCount w) capacity
-sent-count w capacity h l =
-    let q = met-all (waiting w) senders (senderOf (w .place)) (place-up (w .place) h l .below) in
-    let e = ap length (sent-queue w capacity) ∙ length-take capacity (queue w) in
-    omega (arith, e, q)
-
-empty : (xs : List ℕ) → length xs ≡ 0 → xs ≡ []
-empty [] e = refl
-empty (x ∷ xs) e = absurd (omega arith)
+pub sent-below : (w : AllWires) (capacity : ℕ) → w .groups .place < senders → AllBelow senders (sent w capacity)
+sent-below w capacity h = from-below w (w .groups .place) capacity h
 
 -- nothing is sent exactly where nothing is pending
-pub sent-none : (w : Wires) (capacity : ℕ) → 4 ≤ w .place → w .place ≤ 6 → anyPending w ≡ false → sent w capacity ≡ []
-sent-none w capacity h l e = empty (sent w capacity) (omega (arith, sent-count w capacity h l, none-counted senders (waiting w) e))
+pub sent-none : (w : AllWires) (capacity : ℕ) → w .groups .place < senders → anyPending w ≡ false → sent w capacity ≡ []
+unfolding sentFrom anyPending
+sent-none w capacity h e = none-taken (senderSize w) (waiting w) senders senders capacity (w .groups .place) h (any-at senders (waiting w) e)
 
-pub sent-some : (w : Wires) (capacity : ℕ) → 1 ≤ capacity → 4 ≤ w .place → w .place ≤ 6 → anyPending w ≡ true → 1 ≤ length (sent w capacity)
-sent-some w capacity c h l e = omega (arith, sent-count w capacity h l, ap bit e, some-counted senders (waiting w))
-
--- "a group is pending", of the up groups by name
-pub pending-any : (w : Wires) → anyPending w ≡ (markAt w 4 || (markAt w 5 || markAt w 6))
-pending-any w = go (markAt w 4)
+quiet : (w : AllWires) (capacity : ℕ) → w .groups .place < senders → ((k : ℕ) → k < senders → senderSize w k ≤ capacity) → sent w capacity ≡ []
+    → (g : ℕ) → g < senders → waiting w g ≡ false
+unfolding sentFrom
+quiet w capacity h f e g l = go (waiting w g) refl
   where
-    go : (b : Bool) → (b || markAt w 5 || markAt w 6) ≡ (b || (markAt w 5 || markAt w 6))
-    go true = refl
-    go false = refl
+    go : (b : Bool) → waiting w g ≡ b → b ≡ false
+    go true q =
+        let r = reached senders (w .groups .place) g h l in
+        absurd (some-taken (senderSize w) (waiting w) senders senders capacity (w .groups .place) (r .0) f h (r .1) (ap (waiting w) (r .2) ∙ q) e)
+    go false q = refl
 
--- ---- what it leaves
+pub sent-some : (w : AllWires) (capacity : ℕ) → w .groups .place < senders → ((k : ℕ) → k < senders → senderSize w k ≤ capacity) → anyPending w ≡ true
+    → 1 ≤ length (sent w capacity)
+unfolding anyPending
+sent-some w capacity h f e = go (sent w capacity) refl
+  where
+    go : (ks : List ℕ) → sent w capacity ≡ ks → 1 ≤ length ks
+    go [] q = absurd (true≢false (sym e ∙ at-any senders (waiting w) (quiet w capacity h f q)))
+    go (k ∷ ks) q = omega arith
+
+-- ---- what one leaves
+
+module _ (w : AllWires) (k : ℕ) where
+  abbrev lineLeft : AllWires
+  lineLeft = record { groups = withPlace (w .groups) (after senders k); lines = sentLine (w .lines) k }
+
+  abbrev groupLeft : AllWires
+  groupLeft = record { groups = unmarked (w .groups) (groupAt k) (after senders k); lines = w .lines }
+
+  pub left-line : isLine k ≡ true → leftBy w k ≡ lineLeft
+  left-line e = ap (λ (b : Bool). pick b lineLeft groupLeft) e
+
+  pub left-group : isLine k ≡ false → leftBy w k ≡ groupLeft
+  left-group e = ap (λ (b : Bool). pick b lineLeft groupLeft) e
+
+  left-levels : leftBy w k .groups .level ≡ w .groups .level
+  left-levels = pick-ind (λ (v : AllWires). v .groups .level ≡ w .groups .level) (isLine k) (λ _. refl) (λ _. set-getD (w .groups .level) (groupAt k - 2) 0)
+
+  left-lines : leftBy w k .lines .level ≡ w .lines .level
+  left-lines = pick-ind (λ (v : AllWires). v .lines .level ≡ w .lines .level) (isLine k) (λ _. refl) (λ _. refl)
+
+  left-place : leftBy w k .groups .place ≡ after senders k
+  left-place = pick-ind (λ (v : AllWires). v .groups .place ≡ after senders k) (isLine k) (λ _. refl) (λ _. refl)
+
+  -- what is said of a line or a group stays, of any sender but the one that is sent
+  module _ (g : ℕ) (hk : k < senders) (hg : g < senders) (other : g ≡ k → ⊥) where
+    apart : lineCount ≤ k → lineCount ≤ g → groupAt g ≡ groupAt k → ⊥
+    apart a b e = other (sym (sender g b hg .own) ∙ ap senderOf e ∙ sender k a hk .own)
+
+    mark-stays : lineCount ≤ k → lineCount ≤ g → markAt (groupLeft .groups) (groupAt g) ≡ markAt (w .groups) (groupAt g)
+    mark-stays a b =
+        let f = sender-group k a hk .from in
+        let h = sender-group g b hg .from in
+        mark-other (w .groups) (groupAt k) (levelAt (w .groups) (groupAt k)) false (after senders k) (groupAt g) (omega arith) (omega arith) (apart a b)
+
+    pub left-other : waiting (leftBy w k) g ≡ waiting w g
+    left-other =
+        by-sender k hk
+        (λ a e. ap (λ (v : AllWires). waiting v g) (left-line e)
+        ∙ ap (λ (b : Bool). pick (isLine g) b (markAt (w .groups) (groupAt g))) (bit-other (w .lines .waits) k g false other))
+        (λ a e. ap (λ (v : AllWires). waiting v g) (left-group e)
+        ∙ by-sender g hg (λ b f. ap (λ (t : Bool). pick t (lineBit (w .lines .waits) g) (markAt (groupLeft .groups) (groupAt g))) f
+        ∙ sym (ap (λ (t : Bool). pick t (lineBit (w .lines .waits) g) (markAt (w .groups) (groupAt g))) f))
+        (λ b f. ap (λ (t : Bool). pick (isLine g) (lineBit (w .lines .waits) g) t) (mark-stays a b)))
+
+    pub size-other : senderSize (leftBy w k) g ≡ senderSize w g
+    size-other =
+        by-sender k hk
+        (λ a e. ap (λ (v : AllWires). senderSize v g) (left-line e)
+        ∙ ap (λ (b : Bool). pick (isLine g) (pick b 2 1) 1) (bit-other (w .lines .edges) k g false other))
+        (λ a e. ap (λ (v : AllWires). senderSize v g) (left-group e))
+
+    byte-other : groupByte (leftBy w k .groups) (groupAt g) ≡ groupByte (w .groups) (groupAt g)
+    byte-other = ap (λ (l : List ℕ). groupByte (record { level = l; pending = w .groups .pending; place = w .groups .place }) (groupAt g)) left-levels
+
+    pub entries-other : entriesOf (leftBy w k) g ≡ entriesOf w g
+    entries-other =
+        ap (λ (x : ℕ). pick (isLine g) (lineEntries (leftBy w k .lines) g) (groupAt g ∷ x ∷ [])) byte-other
+        ∙ ap (λ (x : List ℕ). pick (isLine g) x (groupAt g ∷ groupByte (w .groups) (groupAt g) ∷ []))
+        (by-sender k hk
+        (λ a e. ap (λ (v : AllWires). lineEntries (v .lines) g) (left-line e)
+        ∙ ap (λ (b : Bool). pick b (lineEntry g (1 - v)) [] ++ lineEntry g v) (bit-other (w .lines .edges) k g false other))
+        (λ a e. ap (λ (v : AllWires). lineEntries (v .lines) g) (left-group e)))
+      where
+        v : ℕ
+        v = lineValue (w .lines .level) g
+
+  pub left-gone : k < senders → waiting (leftBy w k) k ≡ false
+  left-gone h =
+      by-sender k h
+      (λ a e. ap (λ (v : AllWires). waiting v k) (left-line e)
+      ∙ ap (λ (b : Bool). pick b (lineBit (withBit (w .lines .waits) k false) k) (markAt (w .groups) (groupAt k))) e
+      ∙ bit-gone (w .lines .waits) k)
+      (λ a e. ap (λ (v : AllWires). waiting v k) (left-group e)
+      ∙ ap (λ (b : Bool). pick b (lineBit (w .lines .waits) k) (markAt (groupLeft .groups) (groupAt k))) e
+      ∙ off-there (w .groups .pending) (groupAt k - 2))
+    where
+      off-there : (l : List Bool) (i : ℕ) → getD (set l i false) i false ≡ false
+      off-there [] i = refl
+      off-there (x ∷ l) zero = refl
+      off-there (x ∷ l) (suc i) = off-there l i
+
+  pub left-off : (g : ℕ) → k < senders → g < senders → waiting w g ≡ false → waiting (leftBy w k) g ≡ false
+  left-off g hk hg e = go (eqb g k) refl
+    where
+      go : (b : Bool) → eqb g k ≡ b → waiting (leftBy w k) g ≡ false
+      go true q = ap (waiting (leftBy w k)) (eqb-true g k q) ∙ left-gone hk
+      go false q = left-other g hk hg (eqb-false g k q) ∙ e
+
+-- ---- what a packet leaves
 
 -- levels stay
-pub sent-levels : (w : Wires) (ks : List ℕ) → afterSent w ks .level ≡ w .level
+pub sent-levels : (w : AllWires) (ks : List ℕ) → afterSent w ks .groups .level ≡ w .groups .level
 unfolding afterSent
 sent-levels w [] = refl
-sent-levels w (k ∷ ks) = sent-levels (leftBy w k) ks ∙ set-getD (w .level) (groupAt k - 2) 0
+sent-levels w (k ∷ ks) = sent-levels (leftBy w k) ks ∙ left-levels w k
 
--- a mark that stands for none of those sent stays
-pub sent-stays : {ks : List ℕ} (w : Wires) (j : ℕ) → 2 ≤ j → AllBelow senders ks → ((k : ℕ) → List·Memᴰ k ks → j ≡ groupAt k → ⊥)
-    → markAt (afterSent w ks) j ≡ markAt w j
+pub sent-lines : (w : AllWires) (ks : List ℕ) → afterSent w ks .lines .level ≡ w .lines .level
 unfolding afterSent
-sent-stays w j h none f = refl
-sent-stays w j h (more {i = k} b bs) f =
-    sent-stays (leftBy w k) j h bs (λ x m. f x (List·Memᴰ·tail m))
-    ∙ mark-other w (groupAt k) (levelAt w (groupAt k)) false (groupAt (after senders k)) j (omega (arith, sender-group k b .from)) h (f k (List·Memᴰ·head refl))
+sent-lines w [] = refl
+sent-lines w (k ∷ ks) = sent-lines (leftBy w k) ks ∙ left-lines w k
 
--- one that is not taken waits on
-pub sent-waits : {ks : List ℕ} (w : Wires) (g : ℕ) → g < senders → AllBelow senders ks → (List·Memᴰ g ks → ⊥) → waiting (afterSent w ks) g ≡ waiting w g
-sent-waits {ks} w g h b n =
-    sent-stays w (groupAt g) (omega (arith, sender-group g h .from)) b
-    (λ k m e. n (Memᴰ·cast (sym (sender g h .own) ∙ ap senderOf e ∙ sender k (below-each b k m) .own) m))
-
--- a mark is raised by no packet
-pub sent-off : (w : Wires) (ks : List ℕ) (j : ℕ) → markAt w j ≡ false → markAt (afterSent w ks) j ≡ false
+-- one that is not taken waits on, as it did
+pub sent-waits : {ks : List ℕ} (w : AllWires) (g : ℕ) → g < senders → AllBelow senders ks → (List·Memᴰ g ks → ⊥) → waiting (afterSent w ks) g ≡ waiting w g
 unfolding afterSent
-sent-off w [] j e = e
-sent-off w (k ∷ ks) j e = sent-off (leftBy w k) ks j (set-cases (λ (b : Bool). b ≡ false) (w .pending) (groupAt k - 2) (j - 2) false false (λ _. refl) e)
+sent-waits w g h none f = refl
+sent-waits w g h (more {i = k} b bs) f =
+    sent-waits (leftBy w k) g h bs (λ m. f (List·Memᴰ·tail m)) ∙ left-other w k g b h (λ e. f (List·Memᴰ·head e))
 
-off-there : (l : List Bool) (i : ℕ) → getD (set l i false) i false ≡ false
-off-there [] i = refl
-off-there (x ∷ l) zero = refl
-off-there (x ∷ l) (suc i) = off-there l i
-
--- the marks of those sent go
-pub sent-gone : (w : Wires) (ks : List ℕ) (g : ℕ) → List·Memᴰ g ks → markAt (afterSent w ks) (groupAt g) ≡ false
+-- .. with the same entries
+pub sent-sizes : {ks : List ℕ} (w : AllWires) (g : ℕ) → g < senders → AllBelow senders ks → (List·Memᴰ g ks → ⊥)
+    → senderSize (afterSent w ks) g ≡ senderSize w g
 unfolding afterSent
-sent-gone w ks g (List·Memᴰ·head {x = x} {xs = xs} q) =
-    sent-off (leftBy w x) xs (groupAt g)
-    (ap (λ (y : ℕ). getD (set (w .pending) (groupAt y - 2) false) (groupAt g - 2) false) (sym q) ∙ off-there (w .pending) (groupAt g - 2))
-sent-gone w ks g (List·Memᴰ·tail {x = x} {xs = xs} m) = sent-gone (leftBy w x) xs g m
+sent-sizes w g h none f = refl
+sent-sizes w g h (more {i = k} b bs) f =
+    sent-sizes (leftBy w k) g h bs (λ m. f (List·Memᴰ·tail m)) ∙ size-other w k g b h (λ e. f (List·Memᴰ·head e))
+
+-- no packet makes one wait
+pub sent-off : {ks : List ℕ} (w : AllWires) (g : ℕ) → g < senders → AllBelow senders ks → waiting w g ≡ false → waiting (afterSent w ks) g ≡ false
+unfolding afterSent
+sent-off w g h none e = e
+sent-off w g h (more {i = k} b bs) e = sent-off (leftBy w k) g h bs (left-off w k g b h e)
+
+-- those taken wait no more
+pub sent-gone : {ks : List ℕ} (w : AllWires) (g : ℕ) → AllBelow senders ks → List·Memᴰ g ks → waiting (afterSent w ks) g ≡ false
+unfolding afterSent
+sent-gone w g none m = absurd (List·Memᴰ·not-nil m)
+sent-gone w g (more {i = k} b bs) m =
+    ⊎-elim (λ e. sent-off (leftBy w k) g (rw e b) bs (ap (waiting (leftBy w k)) e ∙ left-gone w k b)) (sent-gone (leftBy w k) g bs) (List·Memᴰ·cases-cons m)
 
 -- the place follows the last one sent
-place-follows : (w : Wires) (ks : List ℕ) (p : ℕ) → w .place ≡ groupAt p → afterSent w ks .place ≡ groupAt (placeAfter senders p ks)
+place-follows : (w : AllWires) (ks : List ℕ) (p : ℕ) → w .groups .place ≡ p → afterSent w ks .groups .place ≡ placeAfter senders p ks
 unfolding afterSent placeAfter
 place-follows w [] p e = e
-place-follows w (k ∷ ks) p e = place-follows (leftBy w k) ks (after senders k) refl
+place-follows w (k ∷ ks) p e = place-follows (leftBy w k) ks (after senders k) (left-place w k)
 
-pub sent-place : (w : Wires) (capacity : ℕ) → 4 ≤ w .place → w .place ≤ 6
-    → senderOf (afterSent w (sent w capacity) .place) ≡ placeAfter senders (senderOf (w .place)) (sent w capacity)
-sent-place w capacity h l =
-    let u = place-up (w .place) h l in
-    ap senderOf (place-follows w (sent w capacity) (senderOf (w .place)) (sym (u .back)))
-    ∙ sender _ (place-below senders (senderOf (w .place)) (u .below) (sent-below w capacity h l)) .own
+pub sent-place : (w : AllWires) (ks : List ℕ) → afterSent w ks .groups .place ≡ placeAfter senders (w .groups .place) ks
+sent-place w ks = place-follows w ks (w .groups .place) refl
 
 -- ---- as what bytes
 
-sizes-length : (ks : List ℕ) → sizes senderSize ks ≡ length ks
-unfolding sizes
-sizes-length [] = refl
-sizes-length (k ∷ ks) = omega (arith, sizes-length ks)
+pub size-some : (w : AllWires) (k : ℕ) → 1 ≤ senderSize w k
+size-some w k =
+    let Q : ℕ → Type 0 = λ x. 1 ≤ x in
+    pick-ind Q (isLine k) (λ _. pick-ind Q (lineBit (w .lines .edges) k) (λ _. omega arith) (λ _. omega arith)) (λ _. omega arith)
 
--- the count less one, then each pair
-pub sent-bytes : (w : Wires) (capacity : ℕ) → packetBytes w (packetOf w (sent w capacity)) ≡ (length (sent w capacity) - 1) ∷ pairBytes w (sent w capacity)
-unfolding sentFrom
-sent-bytes w capacity =
-    let ks = sent w capacity in
-    ap (λ (xs : List ℕ). (sizes senderSize ks - 1) ∷ pairBytes w xs)
-    (turn-again senderSize (waiting w) senders senders capacity (senderOf (w .place)) (λ _. omega arith))
-    ∙ ap (λ (n : ℕ). (n - 1) ∷ pairBytes w ks) (sizes-length ks)
+pub size-two : (w : AllWires) (k : ℕ) → senderSize w k ≤ 2
+size-two w k =
+    let Q : ℕ → Type 0 = λ x. x ≤ 2 in
+    pick-ind Q (isLine k) (λ _. pick-ind Q (lineBit (w .lines .edges) k) (λ _. omega arith) (λ _. omega arith)) (λ _. omega arith)
 
-pub pairs-length : (w : Wires) (ks : List ℕ) → length (pairBytes w ks) ≡ length ks * 2
-unfolding pairBytes
+-- a packet of two entries fits any sender; one of one fits each where no edge waits
+pub size-fits : (w : AllWires) (capacity : ℕ) → 2 ≤ capacity → (k : ℕ) → senderSize w k ≤ capacity
+size-fits w capacity h k = omega (arith, size-two w k)
+
+pub size-one : (w : AllWires) → ((k : ℕ) → k < lineCount → lineBit (w .lines .edges) k ≡ false) → (k : ℕ) → senderSize w k ≡ 1
+size-one w f k = go (isLine k) refl
+  where
+    go : (b : Bool) → isLine k ≡ b → _≡_ {A = ℕ} (pick b (pick (lineBit (w .lines .edges) k) 2 1) 1) 1
+    go true e = ap (λ (t : Bool). pick t 2 1) (f k (ltb-true k lineCount e))
+    go false e = refl
+
+pub entry-length : (w : AllWires) (k : ℕ) → length (entriesOf w k) ≡ senderSize w k * 2
+entry-length w k = go (isLine k) (lineBit (w .lines .edges) k)
+  where
+    v : ℕ
+    v = lineValue (w .lines .level) k
+
+    go : (a b : Bool) → length (pick a (pick b (lineEntry k (1 - v)) [] ++ lineEntry k v) (groupAt k ∷ groupByte (w .groups) (groupAt k) ∷ []))
+        ≡ pick a (pick b 2 1) 1 * 2
+    go true true = refl
+    go true false = refl
+    go false b = refl
+
+pub pairs-length : (w : AllWires) (ks : List ℕ) → length (pairBytes w ks) ≡ entries w ks * 2
+unfolding pairBytes sizes
 pairs-length w [] = refl
-pairs-length w (k ∷ ks) = omega (arith, pairs-length w ks)
+pairs-length w (k ∷ ks) = omega (arith, length-append (entriesOf w k) (pairBytes w ks), entry-length w k, pairs-length w ks)
 
 -- no more than there is room for
-from-most : (w : Wires) (p capacity : ℕ) → length (sentFrom w p capacity) ≤ capacity
+pub entries-most : (w : AllWires) (p capacity : ℕ) → entries w (sentFrom w p capacity) ≤ capacity
 unfolding sentFrom
-from-most w p capacity = omega (arith, turn-fits senderSize (waiting w) senders senders capacity (senderOf p), sizes-length (sentFrom w p capacity))
+entries-most w p capacity = turn-fits (senderSize w) (waiting w) senders senders capacity p
 
-pub sent-most : (w : Wires) (capacity : ℕ) → length (sent w capacity) ≤ capacity
-sent-most w capacity = from-most w (w .place) capacity
+-- and one at least for each that is sent
+pub entries-some : (w : AllWires) (ks : List ℕ) → length ks ≤ entries w ks
+unfolding sizes
+entries-some w [] = omega arith
+entries-some w (k ∷ ks) = omega (arith, size-some w k, entries-some w ks)
 
-pub packet-length : (w : Wires) (p : Packet) → length (packetBytes w p) ≤ 1 + p .count * 2
-packet-length w p = omega (arith, pairs-length w (sentFrom w (p .place) (p .count)), from-most w (p .place) (p .count))
-
-pub sent-fits : (on : Bool) (w : Wires) (capacity : ℕ) → capacity ≤ 64 → soundWires on w ≡ true → 1 ≤ length (sent w capacity)
-    → PacketFits w (packetOf w (sent w capacity))
-sent-fits on w capacity c e h =
-    let s = sound-view on w e in
-    record {
-      from = s .from;
-      upto = s .upto;
-      some = omega (arith, sizes-length (sent w capacity));
-      most = omega (arith, sizes-length (sent w capacity), sent-most w capacity);
-      small = sound-levels on w e;
-    }
+pub packet-length : (w : AllWires) (p : Packet) → length (packetBytes w p) ≤ 1 + p .capacity * 2
+packet-length w p = omega (arith, pairs-length w (sentFrom w (p .place) (p .capacity)), entries-most w (p .place) (p .capacity))

@@ -1,9 +1,9 @@
 -- The wire table (01, Wires; reset values of 2 and 3: 004, tables 9 and 10): index, direction, defined bits, reset value.
-use Prim.Native.Nat.{ℕ, _-_}
+use Prim.Native.Nat.{ℕ, _+_, _-_}
 use mathlib.Core.Bool.{Bool, true, false, _&&_, not}
 use mathlib.Core.List.{List, [], _∷_, map}
 use lib.ListN.{getD, length, take}
-use lib.Dec.{leb}
+use lib.Dec.{ltb, leb}
 use Rattle.base.specs.Pick.{pick}
 use Rattle.wires.specs.declared.WireRow.{WireRow}
 
@@ -35,7 +35,7 @@ isGroup i = leb 2 i && leb i 7
 abbrev pub resets : List ℕ
 resets = map (λ (r : WireRow). r .reset) table
 
--- ---- the senders: the up rows, in the table's order, numbered from 0
+-- ---- the senders: the lines, then the up rows in the table's order, numbered from 0
 
 -- the rows that go up, those that GET_VWIRE can send: "up groups alone are pending" (01, Sound state)
 abbrev pub upRows : List WireRow → List WireRow
@@ -46,17 +46,29 @@ upRows (r ∷ rs) = pick (r .down) (upRows rs) (r ∷ upRows rs)
 abbrev pub upsBefore : ℕ → ℕ
 upsBefore k = length (upRows (take k table))
 
--- how many senders there are: the up groups 4, 5 and 6 (01, Wires: the table)
+-- how many groups go up: 4, 5 and 6 (01, Wires: the table)
+abbrev pub upGroups : ℕ
+upGroups = upsBefore (length table)
+
+-- "256 lines" (02, Q-4)
+abbrev pub lineCount : ℕ
+lineCount = 256
+
+-- a sender's number is a line's: "lines 0 to 255, then groups 4 to 6" (02, Q-4)
+abbrev pub isLine : ℕ → Bool
+isLine k = ltb k lineCount
+
+-- how many senders there are: "Turns go over lines 0 to 255, then groups 4 to 6" (02, Q-4)
 abbrev pub senders : ℕ
-senders = upsBefore (length table)
+senders = lineCount + upGroups
 
--- sender k's group (01, Wires: the table's "index")
+-- sender k's group, the lines being passed (01, Wires: the table's "index"; 02, Q-4)
 abbrev pub groupAt : ℕ → ℕ
-groupAt k = getD (upRows table) k noRow .index
+groupAt k = getD (upRows table) (k - lineCount) noRow .index
 
--- the sender of a group (01, Wires: the table)
+-- the sender of a group (01, Wires: the table; 02, Q-4: "then groups 4 to 6")
 abbrev pub senderOf : ℕ → ℕ
-senderOf i = upsBefore (i - 2)
+senderOf i = lineCount + upsBefore (i - 2)
 
 -- the group is the board's: "an up group" (01, Wires)
 abbrev pub isUp : ℕ → Bool

@@ -1,16 +1,16 @@
 -- The test of the bytes as they stand: what passes is packed again to the same bytes, and all packed wires pass; how the code decides it by words.
-use Prim.Native.Nat.{ℕ, zero, suc, _<_, _≤_}
+use Prim.Native.Nat.{ℕ, zero, suc, _+_, _*_, _/_, _%_, _<_, _≤_}
 use mathlib.Core.Bool.{Bool, true, false, _&&_, _||_, true≢false}
 use mathlib.Core.List.{List, _++_}
 use mathlib.Core.Path.{_≡_, refl, sym, ap, _∙_}
 use native.Mathlib.Omega.{arith}
 use lib.Dec.{eqb, leb}
 use lib.ListN.{length, getD}
-use borrow.Author.Tests.{eqb-true, le-leb, leb-true}
+use borrow.Author.Tests.{eqb-true, le-leb, leb-true, ltb-true, lt-ltb}
 use Rattle.base.specs.Pick.{and-left, and-right, and-true, same-test}
 use Rattle.base.specs.Bytes.{bit, bit-below, low4, low8, number4, number8}
 use Rattle.base.specs.Numbers.{join, past, listed, low4-number4, low8-number8}
-use Rattle.wires.specs.Table.{isUp}
+use Rattle.wires.specs.Table.{senders, isUp}
 use Rattle.wires.specs.Groups.{markAt, inRow, onlyDefined, placeRight}
 use Rattle.wires.specs.Kept.{sound-view, sound-test}
 use Rattle.wires.specs.Layout.{wiresBytes, wiresIn, tidyWires, holdsWires, levelsFit, marksFit, marksIn}
@@ -21,9 +21,15 @@ mark-again zero e = refl
 mark-again (suc zero) e = refl
 mark-again (suc (suc n)) e = absurd (omega (arith, leb-true (suc (suc n)) 1 e))
 
-pub wires-again : (l : List ℕ) → tidyWires l ≡ true → wiresBytes (wiresIn l) ≡ listed 13 64 l
-wires-again l e =
+pub wires-again : (l : List ℕ) → ((k : ℕ) → getD l k 0 < 256) → tidyWires l ≡ true → wiresBytes (wiresIn l) ≡ listed 14 64 l
+wires-again l byte e =
     let m : ℕ → ℕ = λ i. getD l i 0 in
+    let a = byte 76 in
+    let b = byte 77 in
+    let low : (m 76 + m 77 * 256) % 256 ≡ m 76 = omega arith in
+    let above : (m 76 + m 77 * 256) / 256 ≡ m 77 = omega arith in
+    let small : m 77 % 256 ≡ m 77 = omega arith in
+    let high : (m 76 + m 77 * 256) / 256 % 256 ≡ m 77 = ap (λ (x : ℕ). x % 256) above ∙ small in
     let e₁ = and-right (leb (m 70) 1) _ e in
     let e₂ = and-right (leb (m 71) 1) _ e₁ in
     let e₃ = and-right (leb (m 72) 1) _ e₂ in
@@ -35,6 +41,8 @@ wires-again l e =
       mark-again (m 73) (and-left (leb (m 73) 1) _ e₃),
       mark-again (m 74) (and-left (leb (m 74) 1) _ e₄),
       mark-again (m 75) (and-right (leb (m 74) 1) _ e₄),
+      low,
+      high,
     )
 
 pub wires-tidy : (p t : List ℕ) (w : Wires) → length p ≡ 64 → tidyWires (p ++ (wiresBytes w ++ t)) ≡ true
@@ -133,8 +141,7 @@ module _ (on : Bool) (l : List ℕ) where
             (λ e. (refl, some (λ n. zero-unmarked (m 73) (and-left (eqb (m 73) 0) _ (and-right (eqb (m 72) 0) _ n)) e)))
             (λ e. (refl, some (λ n. zero-unmarked (m 74) (and-right (eqb (m 73) 0) _ (and-right (eqb (m 72) 0) _ n)) e)))
             (zero-unmarked (m 75) f);
-        from = leb-true 4 (m 76) (and-left (leb 4 (m 76)) _ p);
-        upto = leb-true (m 76) 6 (and-right (leb 4 (m 76)) _ p);
+        below = ltb-true _ senders p;
       }))
 
   holds-fit : holdsWires on l ≡ true → levels && (marks && placeRight (wiresIn l)) ≡ true
@@ -162,7 +169,7 @@ module _ (on : Bool) (l : List ℕ) where
       (and-true c (and-true d (and-true e
       (on-or on (λ o. and-true (unmarked-zero (m 72) c (off o 4 (omega arith) (omega arith)))
       (and-true (unmarked-zero (m 73) d (off o 5 (omega arith) (omega arith))) (unmarked-zero (m 74) e (off o 6 (omega arith) (omega arith))))))))))))
-      (and-true (le-leb 4 (m 76) (s .from)) (le-leb (m 76) 6 (s .upto))))
+      (lt-ltb _ senders (s .below)))
 
 -- levels and marks by the bytes of the words that hold them
 pub holds-by : (on : Bool) (l : List ℕ) (x y : Bool) → ((k : ℕ) → getD l k 0 < 256)

@@ -1,16 +1,21 @@
-// Virtual wires: the table of six rows, and the six groups by value.
+// Virtual wires: the table of six rows, the six groups by value, and what waits to be sent. The interrupt lines are in lines.rt, a packet's going round is in
+// sending.rt.
+pub mod lines;
+mod sending;
+
 ghost use mathlib.Core.Path.{_≡_};
 ghost use mathlib.Core.Bool.{true, false};
 ghost use Prim.Native.Nat.{_+_, _-_, _*_, _≤_, _<_};
 ghost use lib.ListN.{length, take};
 ghost use mathlib.Core.List.{_++_};
 ghost use Rattle.base.specs.Bytes.{put, low4, low8};
-ghost use Rattle.wires.specs.Table.{senders, senderOf, isUp};
-ghost use Rattle.wires.specs.Sending.{begun, goTakes, goPast, sending};
-ghost use Rattle.wires.specs.Groups.{senderSize, groupAfter, pairAt, freshWires, withGroup, levelAt, markAt, nibble, definedBit, settable, setWire, readWire, anyPending, wiresStatus, remarked, enabled, disabled, resetGroup, platformWires, inRow};
+ghost use Rattle.wires.specs.Table.{senders, isUp};
+ghost use Rattle.wires.specs.Groups.{pairAt, freshWires, withGroup, nibble, definedBit, settable, setWire, readWire, remarked, enabled, disabled, resetGroup, platformWires, inRow};
 ghost use Rattle.wires.specs.Transitions.{putting};
 ghost use Rattle.wires.specs.Course.{courseOf, counted, pastPair, withLevel, withLevels, Small};
-ghost use Rattle.wires.specs.Layout.{wiresBytes, wiresIn, holdsWires, levelsFit, marksIn, wordsIn, wiresOf};
+ghost use Rattle.wires.specs.Going.{Sendable, PacketSent};
+ghost use Rattle.wires.specs.Layout.{wiresBytes, wiresIn, allIn, holdsWires, holdsAll, levelsFit, marksIn};
+ghost use Rattle.wires.specs.Senders.{anyPending, wiresStatus};
 
 pub struct WireRow {
     pub index: u8,
@@ -58,27 +63,17 @@ pub const TABLE: [WireRow; 6] = [
     },
 ];
 
-// Where going round begins: "from 4 itself".
-const FIRST_PLACE: u8 = 4;
-
-// The last group that goes up.
-const LAST_PLACE: u8 = 6;
+// Where going round begins: "from 4 itself", the first sender behind the lines.
+const FIRST_PLACE: u32 = 256;
 
 // The wires that the host drives, the defined bits of the down groups, in one word: bit k of group i is its bit i * 4 + k.
 const HOST_WIRES: u32 = 0x70007700;
 
-// Index i stands at place i - 2 of both arrays; `place` is the index that the next GET_VWIRE begins with.
+// Index i stands at place i - 2 of both arrays; `place` is the sender that the next GET_VWIRE begins with: a line, or 252 more than a group.
 pub struct Wires {
     pub level: [u8; 6],
     pub pending: [bool; 6],
-    pub place: u8,
-}
-
-// The wires' thirteen bytes as three numbers: so they are carried from before a command to its reply.
-pub struct Words {
-    pub low: u64,
-    pub high: u32,
-    pub place: u8,
+    pub place: u32,
 }
 
 // What a PUT_VWIRE's pairs come to: whether a wire has a third transition, and the wires after them all.
@@ -95,23 +90,20 @@ pub struct Course {
     pub third: u32,
 }
 
-// What a GET_VWIRE sends, over the wires as they were: so many entries, going round from a place.
+// What a GET_VWIRE sends, over the wires as they were: going round from a place, as many entries as fit.
 pub struct Packet {
-    pub place: u8,
-    pub count: u8,
+    pub place: u32,
+    pub capacity: u32,
 }
 
-// What a GET_VWIRE sends, and the wires after it.
-pub struct Sending {
-    pub packet: Packet,
-    pub next: Wires,
-}
-
-// Going round: the group to be asked now, how many are still to be asked, and the room left in the packet.
+// Going round once: the sender asked next, how many are still to be asked, the entries that still fit, where the next one is written, and the place behind
+// the last one sent.
 pub struct Going {
-    pub group: u8,
-    pub left: u8,
-    pub room: u32,
+    pub sender: usize,
+    pub left: usize,
+    pub room: usize,
+    pub at: usize,
+    pub place: usize,
 }
 
 // Four bits: those of `val` where the mask has ones, those of `old` elsewhere.
@@ -120,85 +112,6 @@ fn nibble_of(old: u8, val: u8, mask: u8) -> u8
     ensures { λ r. ⌜ r ≡ nibble old val mask ⌝ }
 {
     (old & (15 - mask)) | (val & mask)
-}
-
-// How many groups go up.
-fn senders() -> u8
-    ensures { λ r. ⌜ r ≡ senders ⌝ }
-{
-    let mut ups: u8 = 0;
-    let mut i: usize = 0;
-    while i < 6 {
-        ups += base::bit_of(!TABLE[i].down);
-        i += 1;
-    }
-    ups
-}
-
-// The next group that goes up, going round: after the last the first place.
-fn group_after(group: u8) -> u8
-    requires { ⌜ isUp group ≡ true ⌝ }
-    ensures { λ r. ⌜ r ≡ groupAfter group ⌝ }
-{
-    if group == LAST_PLACE {
-        return FIRST_PLACE;
-    }
-    group + 1
-}
-
-// A group is one entry of a packet.
-fn sender_size(group: u8) -> u32
-    ensures { λ r. ⌜ r ≡ senderSize (senderOf group) ⌝ }
-{
-    1
-}
-
-// Every sender is to be asked, from the group at the place on.
-pub fn go_round(place: u8, capacity: u32) -> Going
-    ensures { λ r. ⌜ r ≡ begun place capacity ⌝ }
-{
-    Going {
-        group: place,
-        left: senders(),
-        room: capacity,
-    }
-}
-
-impl Going {
-    // Whether the group asked now is taken: it waits, and it fits.
-    pub fn takes(self, waits: bool) -> bool
-        ensures { λ r. ⌜ r ≡ goTakes waits self ⌝ }
-    {
-        waits & (sender_size(self.group) <= self.room)
-    }
-
-    // The next group is asked; at the first that does not fit the packet closes.
-    pub fn past(self, waits: bool) -> Going
-        requires { ⌜ (isUp (self .group) ≡ true) × (0 < self .left) ⌝ }
-        ensures { λ r. ⌜ r ≡ goPast waits self ⌝ }
-    {
-        let next = group_after(self.group);
-        if !waits {
-            return Going {
-                group: next,
-                left: self.left - 1,
-                room: self.room,
-            };
-        }
-        let size = sender_size(self.group);
-        if self.room < size {
-            return Going {
-                group: self.group,
-                left: 0,
-                room: self.room,
-            };
-        }
-        Going {
-            group: next,
-            left: self.left - 1,
-            room: self.room - size,
-        }
-    }
 }
 
 impl Course {
@@ -268,6 +181,13 @@ pub fn settable(index: u32, bit: u32, value: u32) -> bool
     !TABLE[at].down & (value <= 1)
 }
 
+// The going-round place of its two bytes.
+fn place_of(low: u8, high: u8) -> u32
+    ensures { λ r. ⌜ r ≡ low + high * 256 ⌝ }
+{
+    (low as u32) + (high as u32) * 256
+}
+
 impl Wires {
     pub fn fresh() -> Wires
         ensures { λ r. ⌜ r ≡ freshWires ⌝ }
@@ -287,7 +207,7 @@ impl Wires {
     }
 
     // The one place where the wires change: a group's level and mark, and the place.
-    fn with(self, index: usize, level: u8, mark: bool, place: u8) -> Wires
+    fn with(self, index: usize, level: u8, mark: bool, place: u32) -> Wires
         requires { ⌜ (2 ≤ index) × (index ≤ 7) ⌝ }
         ensures { λ r. ⌜ r ≡ withGroup self index level mark place ⌝ }
     {
@@ -371,86 +291,8 @@ impl Wires {
         ((self.level[at] >> bit) % 2) as u32
     }
 
-    // The mark of a group that goes up. Where the compiler knows each index, the arrays stay in registers; so in `unmarked`.
-    fn waits(self, group: u8) -> bool
-        requires { ⌜ isUp group ≡ true ⌝ }
-        ensures { λ r. ⌜ r ≡ markAt self group ⌝ }
-    {
-        if group == 4 {
-            return self.pending[2];
-        }
-        if group == 5 {
-            return self.pending[3];
-        }
-        self.pending[4]
-    }
-
-    // Such a group's mark goes, and the next packet begins with this place.
-    fn unmarked(self, group: u8, place: u8) -> Wires
-        requires { ⌜ isUp group ≡ true ⌝ }
-        ensures { λ r. ⌜ r ≡ withGroup self group (levelAt self group) false place ⌝ }
-    {
-        if group == 4 {
-            return self.with(4, self.level[2], false, place);
-        }
-        if group == 5 {
-            return self.with(5, self.level[3], false, place);
-        }
-        self.with(6, self.level[4], false, place)
-    }
-
-    pub fn send(self, capacity: u32) -> Sending
-        requires { ⌜ (4 ≤ self .place) × (self .place ≤ 6) × (capacity ≤ 64) ⌝ }
-        ensures { λ r. ⌜ r ≡ sending self capacity ⌝ }
-    {
-        let place = self.place;
-        let mut next = self;
-        let mut g = go_round(place, capacity);
-        while 0 < g.left {
-            let waits = self.waits(g.group);
-            let on = g.past(waits);
-            if g.takes(waits) {
-                next = next.unmarked(g.group, on.group);
-            }
-            g = on;
-        }
-        let count = (capacity - g.room) as u8;
-        Sending {
-            packet: Packet { place, count },
-            next,
-        }
-    }
-
-    pub fn any_pending(self) -> bool
-        ensures { λ r. ⌜ r ≡ anyPending self ⌝ }
-    {
-        let mut any = false;
-        let mut i: usize = 0;
-        while i < 6 {
-            any = any | (!TABLE[i].down & self.pending[i]);
-            i += 1;
-        }
-        any
-    }
-
-    // Bit 2, VWIRE_FREE, is always 1.
-    pub fn status(self) -> u32
-        ensures { λ r. ⌜ (r ≡ wiresStatus self) × (r ≤ 68) ⌝ }
-    {
-        4 + (base::bit_of(self.any_pending()) as u32) * 64
-    }
-
-    // The channel's word of the status, of its bytes.
-    pub fn status_in(b: &[u8]) -> u32
-        requires { ⌜ 77 ≤ length (now b) ⌝ }
-        ensures { λ r. ⌜ (r ≡ wiresStatus (wiresIn (now (b .entry)))) × (r ≤ 68) ⌝ }
-    {
-        let w = Wires::unpack(b);
-        w.status()
-    }
-
     // Each mark anew: that of an up group that differs from its reset value, or none.
-    fn remarked(self, on: bool, place: u8) -> Wires
+    fn remarked(self, on: bool, place: u32) -> Wires
         ensures { λ r. ⌜ r ≡ remarked on self place ⌝ }
     {
         let mut next = self;
@@ -489,7 +331,7 @@ impl Wires {
         self.reset_group(6).reset_group(7)
     }
 
-    fn bytes(self) -> [u8; 13]
+    fn bytes(self) -> [u8; 14]
         ensures { λ r. ⌜ r ≡ wiresBytes self ⌝ }
     {
         [
@@ -505,13 +347,14 @@ impl Wires {
             base::bit_of(self.pending[3]),
             base::bit_of(self.pending[4]),
             base::bit_of(self.pending[5]),
-            self.place,
+            (self.place % 256) as u8,
+            (self.place / 256 % 256) as u8,
         ]
     }
 
     // Their bytes at their place in `dst`; what is beside them stays.
     pub fn pack(self, dst: &mut [u8])
-        requires { ⌜ 77 ≤ length (now dst) ⌝ }
+        requires { ⌜ 174 ≤ length (now dst) ⌝ }
         ensures { λ _. ⌜ now (dst .exit) ≡ put 64 (wiresBytes self) (now (dst .entry)) ⌝ }
     {
         let bytes = self.bytes();
@@ -520,7 +363,7 @@ impl Wires {
 
     // The wires whose bytes stand at their place in `b`, sound or not.
     pub fn unpack(b: &[u8]) -> Wires
-        requires { ⌜ 77 ≤ length (now b) ⌝ }
+        requires { ⌜ 174 ≤ length (now b) ⌝ }
         ensures { λ r. ⌜ r ≡ wiresIn (now (b .entry)) ⌝ }
     {
         Wires {
@@ -533,48 +376,43 @@ impl Wires {
                 b[74] == 1,
                 b[75] == 1,
             ],
-            place: b[76],
+            place: place_of(b[76], b[77]),
         }
     }
 
-    // Whether their bytes in `b` pack sound wires, the channel being on or off: eight bytes are tested at a time.
-    pub fn holds(b: &[u8], on: bool) -> bool
-        requires { ⌜ 77 ≤ length (now b) ⌝ }
+    // A group's mark, or a line that waits.
+    pub fn any_pending(b: &[u8]) -> bool
+        requires { ⌜ 174 ≤ length (now b) ⌝ }
+        ensures { λ r. ⌜ r ≡ anyPending (allIn (now (b .entry))) ⌝ }
+    {
+        lines::any_line(b) | ((b[72] == 1) | ((b[73] == 1) | (b[74] == 1)))
+    }
+
+    // The channel's word of the status, of its bytes. Bit 2, VWIRE_FREE, is always 1.
+    pub fn status_in(b: &[u8]) -> u32
+        requires { ⌜ 174 ≤ length (now b) ⌝ }
+        ensures { λ r. ⌜ (r ≡ wiresStatus (allIn (now (b .entry)))) × (r ≤ 68) ⌝ }
+    {
+        4 + (base::bit_of(Wires::any_pending(b)) as u32) * 64
+    }
+
+    // Whether the groups' bytes in `b` pack sound ones, the channel being on or off: eight bytes are tested at a time.
+    fn groups_hold(b: &[u8], on: bool) -> bool
+        requires { ⌜ 174 ≤ length (now b) ⌝ }
         ensures { λ r. ⌜ r ≡ holdsWires on (now (b .entry)) ⌝ }
     {
         let low = base::get8(b, 64);
         let high = base::get4(b, 72);
-        let place = b[76];
-        levels_fit(low) & (marks_fit(on, low, high) & ((4 <= place) & (place <= 6)))
-    }
-}
-
-impl Words {
-    pub fn of(b: &[u8]) -> Words
-        requires { ⌜ 77 ≤ length (now b) ⌝ }
-        ensures { λ r. ⌜ r ≡ wordsIn (now (b .entry)) ⌝ }
-    {
-        Words {
-            low: base::get8(b, 64),
-            high: base::get4(b, 72),
-            place: b[76],
-        }
+        let place = place_of(b[76], b[77]);
+        levels_fit(low) & (marks_fit(on, low, high) & (place < 259))
     }
 
-    // The mark of a group that goes up: the high word has group 4's first.
-    pub fn waits(self, group: u8) -> bool
-        requires { ⌜ isUp group ≡ true ⌝ }
-        ensures { λ r. ⌜ r ≡ markAt (wiresOf self) group ⌝ }
+    // Whether all of the channel's bytes in `b` pack sound wires, with this operating count.
+    pub fn holds(b: &[u8], on: bool, count: u32) -> bool
+        requires { ⌜ 174 ≤ length (now b) ⌝ }
+        ensures { λ r. ⌜ r ≡ holdsAll on count (now (b .entry)) ⌝ }
     {
-        (self.high >> (((group - 4) as u32) * 8)) % 256 == 1
-    }
-
-    // Its level: the low word has group 2's first.
-    pub fn level(self, group: u8) -> u8
-        requires { ⌜ isUp group ≡ true ⌝ }
-        ensures { λ r. ⌜ r ≡ levelAt (wiresOf self) group ⌝ }
-    {
-        ((self.low >> (((group - 2) as u32) * 8)) % 256) as u8
+        Wires::groups_hold(b, on) & lines::lines_hold(b, on, count)
     }
 }
 
@@ -611,4 +449,24 @@ fn marks_fit(on: bool, low: u64, high: u32) -> bool
         & ((b == 0)
             & ((f == 0)
                 & ((c <= 1) & ((d <= 1) & ((e <= 1) & (on | ((c == 0) & ((d == 0) & (e == 0)))))))))
+}
+
+// A packet's entries into the reply, behind its count; the senders' marks go, and the next packet begins behind the last of them. How many entries they are.
+pub fn send(state: &mut [u8], reply: &mut [u8], p: Packet) -> usize
+    requires { ⌜ Sendable (now state) (now reply) p ⌝ }
+    ensures { λ r. ⌜ PacketSent (now (state .entry)) (now (reply .entry)) p (now (state .exit)) (now (reply .exit)) r ⌝ }
+{
+    let mut g = Going {
+        sender: p.place as usize,
+        left: sending::left_for(p.capacity as usize, 259),
+        room: p.capacity as usize,
+        at: 2,
+        place: place_of(state[76], state[77]) as usize,
+    };
+    while 0 < g.left {
+        g = sending::step(state, reply, g);
+    }
+    state[76] = (g.place % 256) as u8;
+    state[77] = (g.place / 256 % 256) as u8;
+    (g.at - 2) / 2
 }

@@ -12,7 +12,7 @@ use Rattle.capture.proofs.play.Tie as tie
 
 abbrev Inv-loop : tie.InvT-loop
 Inv-loop file state₀ reply₀ write-store₀ read-store₀ block₀ place₀ at₀ state reply write-store read-store block place at =
-    (at ≤ 65536) × (0 < place .left → Stands file place) × (length state ≡ 77) × (length reply ≡ 263) × (length write-store ≡ 256)
+    (at ≤ 65536) × (0 < place .left → Stands file place) × (length state ≡ 174) × (length reply ≡ 263) × (length write-store ≡ 256)
     × (length read-store ≡ 4096) × (length block ≡ 65536)
 
 abbrev μ-loop : tie.MeasureT-loop

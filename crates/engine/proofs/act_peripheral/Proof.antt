@@ -5,7 +5,7 @@ use Rattle.state.specs.Coded.{status-by}
 use Rattle.rules.specs.Rules.Peripheral as P
 use Rattle.rules.specs.Rules.Channel.{peripheral, put}
 use Rattle.engine.specs.Laws.Stored.{acting-stays}
-use Rattle.engine.specs.Laws.Loaded.{peripheral-there, decided-there, acted-carried}
+use Rattle.engine.specs.Laws.Loaded.{peripheral-there, decided-there, acted-carried, peripheral-plain}
 use borrow.Author.Needs.{needs}
 use Rattle.engine.proofs.act_peripheral.Statement.{statement}
 use Rattle.engine.proofs.act_peripheral.Tie as tie
@@ -24,6 +24,7 @@ returns c =
     let e = decided-there l (a .c) (a .o) (now (a .b)) (p .1) in
     let x = P.acting (unpacked l .config) (unpacked l .peripheral) (P.actOf (unpacked l .config) (a .o) (now (a .b))) in
     acted-carried l x (p .0) (acting-stays peripheral (unpacked l) (P.actOf (unpacked l .config) (a .o) (now (a .b))) _ refl) _ _ _ _
+    (peripheral-plain (unpacked l) (P.actOf (unpacked l .config) (a .o) (now (a .b))))
     (c .before .before .before .before .before .decide .ensures ∙ e)
     (λ q. status-by (put peripheral (x .next) (unpacked l))
     (c .before .status-in2 .ensures .0 ∙ q, c .before .before .before .before .before .before .before .status-in .ensures .0)) (c .reply-with .ensures)

@@ -24,10 +24,10 @@ returns c = let a = c .before .before .before .before .before .before .before .b
     (c .before .before .before .before .before .o .given .1))
 
 returns-2 : tie.Need-returns-2
-returns-2 c = let a = c .before .before .before .before .before .before .before .before .args in
+returns-2 c = let a = c .before .before .before .before .before .before .args in
     let l = now (a .state) in
-    c .before .before .send-wires .ensures ∙ ap (λ (z : WiresCommand). carriedBy (acted wires (unpacked l) (actOf z (now (a .b)))) l) (sym
-    (c .before .before .before .before .enum-told .given .1))
+    c .send-wires .ensures ∙ ap (λ (z : WiresCommand). carriedBy (acted wires (unpacked l) (actOf z (now (a .b)))) l) (sym
+    (c .before .before .enum-told .given .1))
 
 pub act-wires-spec : {M : Type 1} → statement M
 act-wires-spec =

@@ -6,7 +6,7 @@ use Rattle.state.specs.Layout.{unpacked}
 use Rattle.rules.specs.Rules.Peripheral as P
 use Rattle.rules.specs.Rules.Channel.{peripheral}
 use Rattle.engine.specs.Laws.Stored.{settle-stays}
-use Rattle.engine.specs.Laws.Loaded.{peripheral-in, lifted-by}
+use Rattle.engine.specs.Laws.Loaded.{peripheral-in, lifted-by, settle-silent}
 use borrow.Author.Needs.{needs}
 use Rattle.engine.proofs.answer.Statement.{statement}
 use Rattle.engine.proofs.answer.Tie as tie
@@ -16,8 +16,11 @@ unfolding P.settle
 lift-peripheral-requires c κs =
     let a = c .before .before .before .before .before .before .args in let l = now (a .state) in
     let e = c .before .answer-to .ensures ∙ ap (λ (z : Peripheral). P.answerTo z (a .serial) (P.succeeded (a .success)) (length (now (a .bytes))))
-    (c .before .before .unpack .ensures ∙ peripheral-in l) in
-    (c .before .before .before .before .before .before .pre, settle-stays peripheral (unpacked l) (P.answer (a .serial) (a .success) (now (a .bytes))) _ e)
+    (c .before .before .unpack .ensures ∙ peripheral-in l) in (
+      c .before .before .before .before .before .before .pre,
+      settle-stays peripheral (unpacked l) (P.answer (a .serial) (a .success) (now (a .bytes))) _ e,
+      settle-silent (unpacked l) (P.answer (a .serial) (a .success) (now (a .bytes))) _ e,
+    )
 
 returns : tie.Need-returns
 returns c =

@@ -5,7 +5,7 @@ use Rattle.state.specs.Layout.{unpacked}
 use Rattle.rules.specs.Rules.Peripheral as P
 use Rattle.rules.specs.Rules.Channel.{peripheral}
 use Rattle.engine.specs.Laws.Stored.{settle-stays}
-use Rattle.engine.specs.Laws.Loaded.{peripheral-in, lifted-by}
+use Rattle.engine.specs.Laws.Loaded.{peripheral-in, lifted-by, settle-silent}
 use borrow.Author.Needs.{needs}
 use Rattle.engine.proofs.take_write.Statement.{statement}
 use Rattle.engine.proofs.take_write.Tie as tie
@@ -13,10 +13,11 @@ use Rattle.engine.proofs.take_write.Tie as tie
 lift-peripheral-requires : tie.Need-lift-peripheral-requires
 unfolding P.settle
 lift-peripheral-requires c κs =
-    let l = now (c .before .before .before .before .before .args .state) in (
+    let l = now (c .before .before .before .before .before .args .state) in
+    let e = c .before .taken .ensures ∙ ap P.taken (c .before .before .unpack .ensures ∙ peripheral-in l) in (
       c .before .before .before .before .before .pre,
-      settle-stays peripheral (unpacked l) (P.takeWrite []) _
-          (c .before .taken .ensures ∙ ap P.taken (c .before .before .unpack .ensures ∙ peripheral-in l)),
+      settle-stays peripheral (unpacked l) (P.takeWrite []) _ e,
+      settle-silent (unpacked l) (P.takeWrite []) _ e,
     )
 
 returns : tie.Need-returns

@@ -13,19 +13,19 @@ use Rattle.command.specs.declared.Command.{Command}
 use Rattle.command.specs.declared.Command.the-variants as C
 use Rattle.command.specs.declared.Decoded.{Decoded}
 use Rattle.command.specs.declared.Decoded.the-variants.{Known, Refused}
-use Rattle.state.specs.declared.State.{State}
+use Rattle.state.specs.State.{State}
 use Rattle.rules.specs.Rules.Calls.{kept}
-use Rattle.rules.specs.Rules.Lift.{silent, show, nonFatal, acceptThen}
+use Rattle.rules.specs.Rules.Lift.{silent, show, nonFatal, acceptThen, quietly}
 use Rattle.rules.specs.Rules.Channel as K
 use Rattle.rules.specs.Rules.Channel.{Channel, peripheral, wires, actOf}
-use Rattle.rules.specs.Rules.Exchange.{reconfigured, setConfiguration, reset008h, channelsOf, byDecoded, acted, decide, exchange}
+use Rattle.rules.specs.Rules.Exchange.{reconfigured, hindered, setConfiguration, reset008h, channelsOf, byDecoded, acted, decide, exchange}
 use Rattle.rules.specs.Statements.Plans.{commandOf}
 use Rattle.rules.specs.declared.Body.the-variants as B
-use Rattle.rules.specs.declared.Plan.{Plan}
+use Rattle.rules.specs.Rules.Plan.{Plan}
 use Rattle.engine.specs.Carried.{Packs, Carried, carried, carriedBy, outgoing, quiet, refusedBy}
 use Rattle.engine.specs.declared.Outgoing.{Outgoing}
 use Rattle.engine.specs.Laws.Tests.{tested}
-use Rattle.engine.specs.Laws.Stored.{stays-carried}
+use Rattle.engine.specs.Laws.Stored.{outgoing-carried, stays-carried}
 
 -- ---- configuration
 
@@ -34,20 +34,29 @@ module _ (s : State) (a v : ℕ) (l : List ℕ) where
       → carried r l ≡ carriedBy (setConfiguration s a v) l
   unfolding setConfiguration
   set-forbidden bad r h e t k =
-      stays-carried s l (nonFatal s) r h refl k ∙ ap (λ (p : Plan). carriedBy p l) (taken (nonFatal s) _ (tested e t) refl)
+      stays-carried s l (nonFatal s) r h refl refl k ∙ ap (λ (p : Plan). carriedBy p l) (taken (nonFatal s) _ (tested e t) refl)
 
-  pub set-done : (bad : Bool) (c : Config) (l′ : List ℕ) (r : Outgoing)
+  pub set-hindered : (bad stops : Bool) (r : Outgoing) → Packs s l → bad ≡ forbiddenAt a v → bad ≡ false → stops ≡ hindered s a v → stops ≡ true
+      → r ≡ outgoing (nonFatal s) → carried r l ≡ carriedBy (setConfiguration s a v) l
+  unfolding setConfiguration
+  set-hindered bad stops r h e t f u k =
+      stays-carried s l (nonFatal s) r h refl refl k
+      ∙ ap (λ (p : Plan). carriedBy p l) (passed (nonFatal s) _ (tested e t) (taken (nonFatal s) _ (tested f u) refl))
+
+  pub set-done : (bad stops : Bool) (c : Config) (l′ : List ℕ) (r : Outgoing)
       → bad ≡ forbiddenAt a v
       → bad ≡ false
+      → stops ≡ hindered s a v
+      → stops ≡ false
       → c ≡ writeAt (s .config) a v
       → l′ ≡ kept (reconfigured s c) l
       → r ≡ outgoing (show B.Nothing s)
       → carried r l′ ≡ carriedBy (setConfiguration s a v) l
   unfolding setConfiguration
-  set-done bad c l′ r e t ec el k =
-      rw (k, el)
-      (ap (λ (z : Config). carriedBy (acceptThen s (reconfigured s z)) l) ec ∙ ap (λ (p : Plan). carriedBy p l)
-      (passed _ (acceptThen s (reconfigured s (writeAt (s .config) a v))) (tested e t) refl))
+  set-done bad stops c l′ r e t f u ec el k =
+      outgoing-carried (acceptThen s (reconfigured s (writeAt (s .config) a v))) l l′ r refl k (el ∙ ap (λ (z : Config). kept (reconfigured s z) l) ec)
+      ∙ ap (λ (p : Plan). carriedBy p l)
+      (passed (nonFatal s) _ (tested e t) (passed (nonFatal s) (acceptThen s (reconfigured s (writeAt (s .config) a v))) (tested f u) refl))
 
 -- ---- a decision
 
@@ -69,7 +78,7 @@ module _ (s : State) (b l : List ℕ) (z : Command) where
       → carried r l ≡ carriedBy (decide s z b) l
   unfolding decide
   read-decided a v r h e ev k =
-      stays-carried s l (show (B.Word v) s) r h refl k ∙ decided-as (C.GetConfiguration a) _ e (ap (λ (n : ℕ). carriedBy (show (B.Word n) s) l) ev)
+      stays-carried s l (show (B.Word v) s) r h refl refl k ∙ decided-as (C.GetConfiguration a) _ e (ap (λ (n : ℕ). carriedBy (show (B.Word n) s) l) ev)
 
   pub set-decided : (a v : ℕ) (x : Carried) → z ≡ C.SetConfiguration a v → x ≡ carriedBy (setConfiguration s a v) l → x ≡ carriedBy (decide s z b) l
   unfolding decide
@@ -77,11 +86,11 @@ module _ (s : State) (b l : List ℕ) (z : Command) where
 
   pub status-decided : (r : Outgoing) → Packs s l → z ≡ C.GetStatus → r ≡ outgoing (show B.Nothing s) → carried r l ≡ carriedBy (decide s z b) l
   unfolding decide
-  status-decided r h e k = stays-carried s l (show B.Nothing s) r h refl k ∙ decided-as C.GetStatus _ e refl
+  status-decided r h e k = stays-carried s l (show B.Nothing s) r h refl refl k ∙ decided-as C.GetStatus _ e refl
 
   pub reset-decided : (l′ : List ℕ) (r : Outgoing) → z ≡ C.Reset → l′ ≡ kept (reset008h s) l → r ≡ quiet 0 → carried r l′ ≡ carriedBy (decide s z b) l
   unfolding decide
-  reset-decided l′ r e el k = decided-as C.Reset _ e (rw (k, el))
+  reset-decided l′ r e el k = decided-as C.Reset _ e (outgoing-carried (quietly (reset008h s)) l l′ r refl k el)
 
 -- ---- the exchange
 
@@ -100,7 +109,7 @@ module _ (s : State) (b l : List ℕ) where
       → carried r l ≡ carriedBy (exchange s b) l
   unfolding exchange
   exchange-silent on checked d n r h eo ec ed er k =
-      stays-carried s l (silent n s) r h refl (k ∙ ap refusedBy er) ∙ ap (λ (z : Decoded). carriedBy (byDecoded s b z) l)
+      stays-carried s l (silent n s) r h refl refl (k ∙ ap refusedBy er) ∙ ap (λ (z : Decoded). carriedBy (byDecoded s b z) l)
       (sym er ∙ admitted on checked d eo ec ed)
 
   pub exchange-decided : (on : Channels) (checked : Bool) (d : Decoded) (o : Command) (x : Carried)

@@ -1,8 +1,8 @@
 -- One part stored in the bytes of a state is the whole next state stored.
 use Prim.Native.Nat.{ℕ}
 use mathlib.Core.Bool.{Bool, true, false, true≢false, not, _&&_}
-use mathlib.Core.List.{List}
-use mathlib.Core.Path.{_≡_, refl, sym, ap, subst, _∙_}
+use mathlib.Core.List.{List, []}
+use mathlib.Core.Path.{_≡_, refl, sym, ap, ap₂, subst, _∙_}
 use native.Mathlib.Nat.{le-of-eq}
 use lib.Dec.{eqb}
 use lib.ListN.{take}
@@ -11,7 +11,7 @@ use Rattle.base.specs.Bytes as B
 use Rattle.base.specs.Bytes.{over, over-take, take-over, over-over}
 use Rattle.registers.specs.Layout.{configBytes}
 use Rattle.registers.specs.declared.Config.{Config}
-use Rattle.wires.specs.Groups.{enabled, disabled}
+use Rattle.wires.specs.Senders.{allEnabled, allDisabled}
 use Rattle.command.specs.declared.Channels.{Channels}
 use Rattle.peripheral.specs.Queues.{dropped}
 use Rattle.state.specs.Status.{status}
@@ -21,9 +21,10 @@ use Rattle.state.specs.Facts.{sound-parts, fit-parts}
 use Rattle.state.specs.Channel.{soundPart, fitsPart, partIn}
 use Rattle.state.specs.Packing.{packed-length, part-there}
 use Rattle.state.specs.Stored.{stored-config, stored-part}
-use Rattle.state.specs.declared.State.{State}
+use Rattle.state.specs.State.{State}
 use Rattle.rules.specs.Rules.Out.{fatal, number}
 use Rattle.rules.specs.Rules.Channel.{Channel, peripheral, wires, Part, Act, Board, Change, nextOf, outOf, part, put, each, on, acting, settle, enableEdge}
+use Rattle.rules.specs.Rules.Fits.{plainSay, plain}
 use Rattle.rules.specs.Rules.Lift.{lift, withStatus}
 use Rattle.rules.specs.Rules.Calls.{kept}
 use Rattle.rules.specs.Rules.Exchange.{channelsOf, reconfigured, reset008h}
@@ -32,8 +33,10 @@ use Rattle.rules.specs.Statements.Channels.{Acts, Settles}
 use Rattle.rules.specs.Proofs.Lift.{lift-change, lift-stays, put-same, each-as}
 use Rattle.rules.specs.Proofs.Plans.{did}
 use Rattle.rules.specs.Proofs.Channels as H
+use Rattle.rules.specs.declared.Say.{Say}
+use Rattle.rules.specs.declared.Say.the-variants as S
 use Rattle.rules.specs.declared.Reply.{Reply}
-use Rattle.rules.specs.declared.Plan.{Plan}
+use Rattle.rules.specs.Rules.Plan.{Plan}
 use Rattle.engine.specs.Carried.{Packs, carried, carriedBy, outgoing, putPart, storedBy, edgeStored, Stays}
 use Rattle.engine.specs.declared.Outgoing.{Outgoing}
 
@@ -57,11 +60,20 @@ module _ (k : Channel) (s : State) where
 
 -- ---- bytes that stay
 
-unchanged : (s : State) (l : List ℕ) → Packs s l → l ≡ kept s l
+pub unchanged : (s : State) (l : List ℕ) → Packs s l → l ≡ kept s l
 unchanged s l h = sym (over-take l stateLength (h .long)) ∙ ap (λ (z : List ℕ). over z l) (h .bytes)
 
-pub stays-carried : (s : State) (l : List ℕ) (p : Plan) (r : Outgoing) → Packs s l → p .next ≡ s → r ≡ outgoing p → carried r l ≡ carriedBy p l
-stays-carried s l p r h e k = ap (λ (z : Outgoing). carried z l) k ∙ ap (carried (outgoing p)) (unchanged s l h ∙ ap (λ (z : State). kept z l) (sym e))
+-- what goes out of a plan whose reply is no packet, over the bytes of its next state
+pub outgoing-carried : (p : Plan) (l l′ : List ℕ) (r : Outgoing) → plain (p .reply) ≡ true → r ≡ outgoing p → l′ ≡ kept (p .next) l
+    → carried r l′ ≡ carriedBy p l
+unfolding carried
+outgoing-carried p l l′ r t k e =
+    ap (λ (z : Outgoing). carried z l′) k
+    ∙ ap₂ (λ (z f : List ℕ). record { number = p .number; reply = p .reply; kept = p .kept; state = z; from = f }) e (sym (ap (λ (b : Bool). pick b [] l) t))
+
+pub stays-carried : (s : State) (l : List ℕ) (p : Plan) (r : Outgoing) → Packs s l → p .next ≡ s → plain (p .reply) ≡ true → r ≡ outgoing p
+    → carried r l ≡ carriedBy p l
+stays-carried s l p r h e t k = outgoing-carried p l l r t k (unchanged s l h ∙ ap (λ (z : State). kept z l) (sym e))
 
 -- ---- a part put where the state's bytes stand
 
@@ -76,7 +88,7 @@ module _ (s : State) (l₀ l : List ℕ) (e : l ≡ kept s l₀) where
   config-stored : (c : Config) → B.put 0 (configBytes c) l ≡ kept (each (λ k q. q) c s) l₀
   config-stored c = stored-config s l found c ∙ again _
 
-  part-stored : (k : Channel) (q : Part k) → putPart k q l ≡ kept (put k q s) l₀
+  pub part-stored : (k : Channel) (q : Part k) → putPart k q l ≡ kept (put k q s) l₀
   part-stored k q = stored-part s l found k q ∙ again _
 
   -- the part that a test picks: the one that stands there is not stored
@@ -86,8 +98,16 @@ module _ (s : State) (l₀ l : List ℕ) (e : l ≡ kept s l₀) where
 
 -- ---- a channel's change
 
+pub plain-status : (y : Say) (word : ℕ) → plain (withStatus y word) ≡ plainSay y
+plain-status S.Silent word = refl
+plain-status (S.Said response body) word = refl
+
+pub lift-plain : (k : Channel) (s : State) (x : Change k) → plainSay (outOf k x .say) ≡ true → plain (lift k s x .reply) ≡ true
+unfolding lift
+lift-plain k s x e = plain-status (outOf k x .say) (status (put k (nextOf k x) s)) ∙ e
+
 module _ (k : Channel) (s : State) (x : Change k) (l : List ℕ) (h : Packs s l) (f : Stays s (lift k s x)) where
-  change-stored : storedBy k (outOf k x .number) (nextOf k x) l ≡ kept (put k (nextOf k x) s) l
+  pub change-stored : storedBy k (outOf k x .number) (nextOf k x) l ≡ kept (put k (nextOf k x) s) l
   unfolding lift
   change-stored = go (eqb (outOf k x .number) 0) refl
     where
@@ -95,11 +115,13 @@ module _ (k : Channel) (s : State) (x : Change k) (l : List ℕ) (h : Packs s l)
       go true e = part-stored s l l (unchanged s l h) k (nextOf k x)
       go false e = unchanged s l h ∙ ap (λ (z : State). kept z l) (sym (f e))
 
-  pub lift-carried : (l′ : List ℕ) (r : Reply) → l′ ≡ storedBy k (outOf k x .number) (nextOf k x) l
+  pub lift-carried : (l′ : List ℕ) (r : Reply) → plainSay (outOf k x .say) ≡ true → l′ ≡ storedBy k (outOf k x .number) (nextOf k x) l
       → r ≡ withStatus (outOf k x .say) (status (put k (nextOf k x) s))
-      → carried (record { number = outOf k x .number; reply = r; kept = outOf k x .kept }) l′ ≡ carriedBy (lift k s x) l
+      → carried (record { number = outOf k x .number; reply = r; packet = false; kept = outOf k x .kept }) l′ ≡ carriedBy (lift k s x) l
   unfolding lift
-  lift-carried l′ r es er = rw (es ∙ change-stored, er)
+  lift-carried l′ r t es er =
+      outgoing-carried (lift k s x) l l′ _ (plain-status (outOf k x .say) (status (put k (nextOf k x) s)) ∙ t)
+      (ap (λ (z : Reply). record { number = outOf k x .number; reply = z; packet = false; kept = outOf k x .kept }) er) (es ∙ change-stored)
 
 -- ---- configuration: its bytes, then those of each channel that has an enableEdge
 
@@ -109,10 +131,10 @@ edge-stored peripheral s l₀ l was is e = picked-stored s l₀ l e peripheral (
 edge-stored wires s l₀ l was is e = go (was && not is)
   where
     go : (t : Bool)
-        → pick t (putPart wires (disabled (s .wires)) l) (pick (not was && is) (putPart wires (enabled (s .wires)) l) l)
-        ≡ kept (put wires (pick t (disabled (s .wires)) (pick (not was && is) (enabled (s .wires)) (s .wires))) s) l₀
-    go true = part-stored s l₀ l e wires (disabled (s .wires))
-    go false = picked-stored s l₀ l e wires (not was && is) (enabled (s .wires))
+        → pick t (putPart wires (allDisabled (s .wires)) l) (pick (not was && is) (putPart wires (allEnabled (s .wires)) l) l)
+        ≡ kept (put wires (pick t (allDisabled (s .wires)) (pick (not was && is) (allEnabled (s .wires)) (s .wires))) s) l₀
+    go true = part-stored s l₀ l e wires (allDisabled (s .wires))
+    go false = picked-stored s l₀ l e wires (not was && is) (allEnabled (s .wires))
 
 -- RESET
 pub cleared-by : (s : State) (l l′ : List ℕ) → Packs s l → l′ ≡ B.put 0 (configBytes (reset008h s .config)) l → l′ ≡ kept (reset008h s) l
@@ -148,7 +170,7 @@ module _ {s : State} {c : Config} {l : List ℕ} {was is : Channels} {m : List �
   -- a channel's part is still the one before the write, and is found among the bytes
   still : {t : State} (k : Channel) → part k t ≡ part k s → Configured s c l was is t m → partIn k m ≡ part k t
   still {t} k e h =
-      part-there k (on k (s .config)) t m (subst (λ (q : Part k). soundPart k (on k (s .config)) q ≡ true) (sym e) (sound-parts s (h .whole .isSound) .each k))
+      part-there k (s .config) t m (subst (λ (q : Part k). soundPart k (s .config) q ≡ true) (sym e) (sound-parts s (h .whole .isSound) .each k))
       (subst (λ (q : Part k). fitsPart k q ≡ true) (sym e) (fit-parts s (h .whole .isFit) .each k)) (found t l m (h .bytes))
 
   pub configured-then : {t : State} {n : List ℕ} (k : Channel) → part k t ≡ part k s → n ≡ edgeStored k (isOn k was) (isOn k is) (partIn k m) m

@@ -1,33 +1,66 @@
-use denote.Ref.{now}
+use native.Mathlib.Omega.{arith}
 use lib.ListN.{length}
-use Rattle.wires.specs.Layout.{wiresOf}
-use Rattle.espi.specs.Boundary.{sent-by, kept-wider}
+use denote.Ref.{now}
+use Rattle.espi.specs.Boundary.{kept-wider, committed-by}
 use borrow.Author.Needs.{needs}
 use Rattle.espi.proofs.commit.Statement.{statement}
 use Rattle.espi.proofs.commit.Tie as tie
+use Rattle.espi.proofs.commit.Reads as reads
+use Rattle.espi.proofs.commit.Lts as lts
+use Rattle.espi.proofs.say.Reads as say-reads
+use Rattle.reply.proofs.keep.Reads as keep-reads
 
+-- src/lib.rt:105:9
+say-requires : tie.Need-say-requires
+say-requires c κs = search needs
+
+-- src/lib.rt:106:5
 keep-requires : tie.Need-keep-requires
 keep-requires c κs =
-    let a = c .before .before .before .before .before .before .before .before .before .args in
-    let p = c .before .before .before .before .before .before .before .before .before .pre in
-    kept-wider (a .p .kept) (length (now (a .command))) 256 (length (now (a .write-store))) (p .1) (p .4)
+    let s = c .before .before .before .before .before .before .before .before .before .before .before .before .before in
+    kept-wider (s .args .p .kept) (length (now (s .args .command))) 256 (length (now (s .args .write-store))) (omega arith) (s .pre .4)
 
+-- src/lib.rt:107:6
+cast-result : tie.Need-cast-result
+cast-result c = search needs
+
+-- src/lib.rt:107:25
+mul-result : tie.Need-mul-result
+mul-result c = search needs
+
+-- src/lib.rt:107:5
+add-result : tie.Need-add-result
+add-result c = search needs
+
+-- src/lib.rt:88:1
+same-length : tie.Need-same-length
+same-length c = search needs
+
+-- src/lib.rt:88:1
+same-length-2 : tie.Need-same-length-2
+same-length-2 c = search needs
+
+-- src/lib.rt:88:1
+same-length-3 : tie.Need-same-length-3
+same-length-3 c = search needs
+
+-- src/lib.rt:88:1
 returns : tie.Need-returns
 returns c =
-    let a = c .before .before .before .before .before .before .before .before .before .before .before .before .before .args in
-    sent-by (a .p) (wiresOf (a .was)) (now (a .command)) (now (a .reply)) _ (now (a .write-store)) _ (now (a .read-store)) _
-    (c .before .before .before .before .before .before .before .put-reply .ensures .0)
-    (c .before .before .before .before .before .before .before .put-reply .ensures .1) (c .before .before .before .keep .ensures)
+    let s = c .before .before .before .before .before .before .before .before .before .before .before .before .before .before .before .before .before in
+    committed-by (s .args .p) (now (s .args .state)) _ (now (s .args .command)) _ _ _ _ _ _
+    (c .before .before .before .before .before .before .before .before .before .say .ensures .0) (c .before .before .before .keep .ensures)
 
 pub commit-spec : {M : Type 1} → statement M
 commit-spec =
     tie.close
     (tie.spec
-    (λ c κs. search needs)
+    say-requires
     keep-requires
-    (λ c. search needs)
-    (λ c. search needs)
-    (λ c. search needs)
-    (λ c. search needs)
-    (λ c. search needs)
+    cast-result
+    mul-result
+    add-result
+    same-length
+    same-length-2
+    same-length-3
     returns)

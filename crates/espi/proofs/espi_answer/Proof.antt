@@ -4,7 +4,7 @@ use mathlib.Core.Path.{refl}
 use denote.Ref.{now}
 use lib.ListN.{length}
 use native.Mathlib.Omega.{arith}
-use Rattle.espi.specs.Boundary.{ok-is, loadable, kept-by, answer-fits, kept-wider}
+use Rattle.espi.specs.Boundary.{ok-is, loadable, kept-by, answer-fits, kept-wider, answer-plain}
 use Rattle.state.specs.Layout.{unpacked}
 use Rattle.rules.specs.Rules.Peripheral as P
 use Rattle.rules.specs.Rules.Calls.{answerCall}
@@ -33,25 +33,27 @@ answer-requires c κs =
 
 keep-requires : tie.Need-keep-requires
 keep-requires c κs =
-    let a = c .before .before .before .before .before .before .before .before .before .before .before .before .before .args in let l = now (a .state) in
+    let a = c .before .before .before .before .before .before .before .before .before .before .before .before .before .args in
+    let l = now (a .state) in
     let h = loadable l _ (c .before .before .before .before .before .before .holds .ensures) (omega arith)
     (c .before .before .before .before .before .if3 .left) in
     kept-wider (c .before .before .before .answer .result .kept) (length (now (a .bytes))) 4096 (length (now (a .read-store))) (omega arith)
-    (answer-fits (unpacked l) (a .serial) (a .success) l _ (now (a .bytes)) (c .before .before .before .answer .result) (h .good)
+    (answer-fits (unpacked l) (a .serial) (a .success) l _ (now (a .bytes)) (c .before .before .before .answer .result) (h .good) (h .long)
     (c .before .before .before .answer .ensures))
 
 returns-4 : tie.Need-returns-4
 unfolding answerCall P.settle
 returns-4 c =
+    let a = c .before .before .before .before .before .before .before .before .before .before .before .before .before .before .before .before .before .args in
+    let l = now (a .state) in
     passed _ _ (le-ltb _ _ (c .before .before .before .before .before .before .before .before .before .before .before .before .before .if1 .left))
     (passed _ _ (le-ltb _ _ (c .before .before .before .before .before .before .before .before .before .before .before .before .if2 .left))
     (passed _ _ (ok-is _ _ (c .before .before .before .before .before .before .before .before .before .before .holds .ensures)
     (c .before .before .before .before .before .before .before .before .before .if3 .left))
-    (kept-by (now
-    (c .before .before .before .before .before .before .before .before .before .before .before .before .before .before .before .before .before .args .state))
-    _ (c .before .before .before .before .before .before .before .answer .result) _
-    (now (c .before .before .before .before .before .before .before .before .before .before .before .before .before .before .before .before .before .args
-    .bytes)) _ _ (c .before .before .before .before .before .before .before .answer .ensures) (c .before .before .before .keep .ensures))))
+    (kept-by l _ (c .before .before .before .before .before .before .before .answer .result) _
+    (answer-plain (unpacked l) (a .serial) (a .success) (now (a .bytes))) (omega arith)
+    (c .before .before .before .before .before .before .before .answer .ensures)
+    (now (a .bytes)) _ _ (c .before .before .before .keep .ensures))))
 
 pub espi-answer-spec : {M : Type 1} → statement M
 espi-answer-spec =

@@ -1,9 +1,10 @@
+use Rattle.state.specs.Layout.{unpacked}
 use Rattle.base.specs.Pick.{taken, passed}
 use borrow.Author.Tests.{lt-ltb, le-ltb}
 use mathlib.Core.Path.{refl}
 use denote.Ref.{now}
 use native.Mathlib.Omega.{arith}
-use Rattle.espi.specs.Boundary.{ok-is, loadable, settled-by}
+use Rattle.espi.specs.Boundary.{ok-is, loadable, settled-by, board-plain}
 use Rattle.rules.specs.Rules.Wires as W
 use Rattle.rules.specs.Rules.Calls.{setWireCall}
 use borrow.Author.Needs.{needs}
@@ -25,10 +26,12 @@ set-wire-requires c κs =
 returns-3 : tie.Need-returns-3
 unfolding setWireCall W.settle
 returns-3 c =
+    let a = c .before .before .before .before .before .before .before .before .before .before .args in
+    let l = now (a .state) in
     passed _ _ (le-ltb _ _ (c .before .before .before .before .before .before .before .before .if1 .left))
     (passed _ _ (ok-is _ _ (c .before .before .before .before .before .before .holds .ensures) (c .before .before .before .before .before .if2 .left))
-    (settled-by (now (c .before .before .before .before .before .before .before .before .before .before .args .state)) _
-    (c .before .before .before .set-wire .result) _ (c .before .before .before .set-wire .ensures)))
+    (settled-by l _ (c .before .before .before .set-wire .result) _ (board-plain (unpacked l) (W.setWire (a .index) (a .bit) (a .value))) (omega arith)
+    (c .before .before .before .set-wire .ensures)))
 
 pub espi-set-wire-spec : {M : Type 1} → statement M
 espi-set-wire-spec =

@@ -1,9 +1,10 @@
+use Rattle.state.specs.Layout.{unpacked}
 use Rattle.base.specs.Pick.{taken, passed}
 use borrow.Author.Tests.{lt-ltb, le-ltb}
 use mathlib.Core.Path.{refl}
 use denote.Ref.{now}
 use native.Mathlib.Omega.{arith}
-use Rattle.espi.specs.Boundary.{ok-is, loadable, taken-by}
+use Rattle.espi.specs.Boundary.{ok-is, loadable, taken-by, take-plain}
 use Rattle.rules.specs.Rules.Peripheral as P
 use Rattle.rules.specs.Rules.Calls.{takeWriteCall}
 use borrow.Author.Needs.{needs}
@@ -38,18 +39,18 @@ take-write-requires c κs =
 returns-5 : tie.Need-returns-5
 unfolding takeWriteCall P.settle
 returns-5 c =
-    passed _ _ (le-ltb _ _
-    (c .before .before .before .before .before .before .before .before .before .before .before .before .before .before .before .before .if1 .left))
-    (passed _ _ (le-ltb _ _
-    (c .before .before .before .before .before .before .before .before .before .before .before .before .before .before .before .if2 .left))
-    (passed _ _ (le-ltb _ _ (c .before .before .before .before .before .before .before .before .before .before .before .before .before .before .if3 .left))
-    (passed _ _ (ok-is _ _ (c .before .before .before .before .before .before .before .before .before .before .before .before .holds .ensures)
-    (c .before .before .before .before .before .before .before .before .before .before .before .if4 .left))
-    (taken-by (now
-    (c .before .before .before .before .before .before .before .before .before .before .before .before .before .before .before .before .before .before .before
-    .before .args .state)) _ (c .before .before .before .before .before .before .before .take-write .result) _ _ _ _
-    (c .before .before .before .before .before .before .before .before .before .unpack .ensures)
-    (c .before .before .before .before .before .before .before .take-write .ensures) (c .before .before .before .put-write .ensures)))))
+    let back = c .before .before .before .before .before .before .before .before in
+    let far = back .before .before .before .before .before .before .before .before in
+    let l = now (far .before .before .before .before .args .state) in
+    passed _ _ (le-ltb _ _ (far .if1 .left))
+    (passed _ _ (le-ltb _ _ (back .before .before .before .before .before .before .before .if2 .left))
+    (passed _ _ (le-ltb _ _ (back .before .before .before .before .before .before .if3 .left))
+    (passed _ _ (ok-is _ _ (back .before .before .before .before .holds .ensures)
+    (back .before .before .before .if4 .left))
+    (taken-by l _ (c .before .before .before .before .before .before .before .take-write .result) _ (take-plain (unpacked l)) (omega arith)
+    (c .before .before .before .before .before .before .before .take-write .ensures) _ _ _
+    (back .before .unpack .ensures)
+    (c .before .before .before .put-write .ensures)))))
 
 pub espi-take-write-spec : {M : Type 1} → statement M
 espi-take-write-spec =

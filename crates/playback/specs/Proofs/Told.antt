@@ -16,8 +16,10 @@ use Rattle.base.specs.AllBytes.{AllBytes, all-none, all-cons}
 use Rattle.crc.specs.Crc.{crc, crcFrom, crcByte, shifts, crcBit}
 use Rattle.command.specs.Decode.{admit}
 use Rattle.peripheral.specs.Upward.{upward}
+use Rattle.wires.specs.Below.{any}
+use Rattle.wires.specs.Senders.{anyPending}
 use Rattle.state.specs.Fresh.{freshState}
-use Rattle.state.specs.declared.State.{State}
+use Rattle.state.specs.State.{State}
 use Rattle.state.specs.Layout.{stateLength}
 use Rattle.state.specs.Status.{status}
 use Rattle.rules.specs.Rules.Exchange as E
@@ -165,7 +167,7 @@ module _ (file state reply line : List ℕ) (a : AllBytes file) (state-long : st
 example : textOf (read (0x01 ∷ 0x00 ∷ 0x00 ∷ 0x02 ∷ 0x00 ∷ 0x25 ∷ 0xFB ∷ []))
     ≡ 0x31 ∷ 0x20 ∷ 0x30 ∷ 0x20 ∷ 0x30 ∷ 0x38 ∷ 0x30 ∷ 0x37 ∷ 0x30 ∷ 0x30 ∷ 0x33 ∷ 0x41 ∷ 0x0A ∷ []
 unfolding read total allFit entries outcomes linesOf lineOf decimalOf digitsOf hexOf step performed crc crcFrom crcByte shifts crcBit admit status
-    upward E.decide E.exchange closed replyBytes
+    upward anyPending any E.decide E.exchange closed replyBytes
 example = refl
 
 -- "one line per entry", for every file (02, Q-2)

@@ -1,4 +1,5 @@
 -- Byte runs and runs of `step` side by side: each word of Words is that of the state's run.
+use Prim.Native.Nat.{ℕ}
 use mathlib.Core.Bool.{Bool, true}
 use mathlib.Core.List.{List, [], _∷_}
 use mathlib.Core.Path.{_≡_, refl, ap, _∙_, subst}
@@ -10,12 +11,14 @@ use Rattle.rules.specs.Statements.Requests.{Event, eventOf, event, without, got
 use Rattle.rules.specs.Statements.Answers.{askedTimes}
 use Rattle.rules.specs.Statements.Words.{pltrstRead}
 use Rattle.rules.specs.Statements.WireView.{readsWire}
+use Rattle.rules.specs.Statements.Bound.{shareIn, sharesIn, getsBelow, lineWaits}
+use Rattle.rules.specs.Statements.Apart.{edgeRefuses}
 use Rattle.rules.specs.Statements.WireEvents.{wireEventOf, wireEvent, getsIn}
 use Rattle.promises.specs.ByteRuns.{ByteWorld, byteStep, byteRun}
 use Rattle.promises.specs.Statements.Lifted.{Holding, worldOf, lentReply, lentReport, Meets}
 use Rattle.promises.specs.Proofs.Lifted.{call-lifts, run-lifts}
 use Rattle.promises.specs.Statements.Words.{stateIn, byteEnds, byteFalls, bytePltrst, byteUnended, byteEvent, byteWireEvent, byteWithout, byteGotBy, byteGot}
-use Rattle.promises.specs.Statements.Words.{byteAskedTimes, byteHandedOn, byteGetsIn}
+use Rattle.promises.specs.Statements.Words.{byteAskedTimes, byteHandedOn, byteGetsIn, byteShareIn, byteSharesIn, byteGetsBelow, byteLineWaits, byteEdgeRefuses}
 
 -- the bytes v hold the world w
 pub record Stands (v : ByteWorld) (w : World) : Type 0 where
@@ -53,6 +56,9 @@ module _ {v : ByteWorld} {w : World} (s : Stands v w) where
   pub falls-at : (c : Call) → handedOver c ≡ true → byteFalls v c ≡ pltrstFalls w c
   falls-at c b = rw (call-at c b .number, state-at)
 
+  pub refuses-at : (c : Call) → handedOver c ≡ true → byteEdgeRefuses v c ≡ edgeRefuses w c
+  refuses-at c b = rw (call-at c b .number, state-at)
+
   pub pltrst-at : bytePltrst v ≡ pltrstRead w
   pltrst-at = call-at (readsWire 3 1) refl .value
 
@@ -85,6 +91,10 @@ module _ {v : ByteWorld} {w : World} (s : Stands v w) (cs : List Call) (b : allH
   unfolding byteWithout without
   without-at p = along (byteWithout (λ v c. p (byteEvent v c))) (without (λ w c. p (event w c))) (λ v w. refl) (λ v w s c cs h e. rw (event-at s c h, e)) s cs b
 
+  pub unhindered-at : byteWithout byteEdgeRefuses v cs ≡ without edgeRefuses w cs
+  unfolding byteWithout without
+  unhindered-at = along (byteWithout byteEdgeRefuses) (without edgeRefuses) (λ v w. refl) (λ v w s c cs h e. rw (refuses-at s c h, e)) s cs b
+
   pub unended-at : (k : Channel) → byteUnended k v cs ≡ unended k w cs
   unfolding byteWithout unended
   unended-at k = along (byteUnended k) (unended k) (λ v w. refl) (λ v w s c cs h e. rw (ends-at s k c h, e)) s cs b
@@ -100,6 +110,29 @@ module _ {v : ByteWorld} {w : World} (s : Stands v w) (cs : List Call) (b : allH
   pub gets-at : byteGetsIn v cs ≡ getsIn w cs
   unfolding byteGetsIn getsIn
   gets-at = along byteGetsIn getsIn (λ v w. refl) (λ v w s c cs h e. rw (wire-at s c h, e)) s cs b
+
+module _ {v : ByteWorld} {w : World} (s : Stands v w) where
+  share-at : (c : Call) → handedOver c ≡ true → byteShareIn v c ≡ shareIn w c
+  share-at c b = rw (wire-at s c b, state-at s)
+
+  low-at : (n : ℕ) (c : Call) → handedOver c ≡ true → byteGetsBelow n v c ≡ getsBelow n w c
+  low-at n c b = rw (wire-at s c b, state-at s)
+
+  line-at : (c : Call) → byteLineWaits v c ≡ lineWaits w c
+  line-at c = rw (state-at s)
+
+module _ {v : ByteWorld} {w : World} (s : Stands v w) (cs : List Call) (b : allHanded cs ≡ true) where
+  pub shares-at : byteSharesIn v cs ≡ sharesIn w cs
+  unfolding byteSharesIn sharesIn
+  shares-at = along byteSharesIn sharesIn (λ v w. refl) (λ v w s c cs h e. rw (share-at s c h, e)) s cs b
+
+  pub below-at : (n : ℕ) → byteWithout (byteGetsBelow n) v cs ≡ without (getsBelow n) w cs
+  unfolding byteWithout without
+  below-at n = along (byteWithout (byteGetsBelow n)) (without (getsBelow n)) (λ v w. refl) (λ v w s c cs h e. rw (low-at s n c h, e)) s cs b
+
+  pub lines-at : byteWithout byteLineWaits v cs ≡ without lineWaits w cs
+  unfolding byteWithout without
+  lines-at = along (byteWithout byteLineWaits) (without lineWaits) (λ v w. refl) (λ v w s c cs h e. rw (line-at s c, e)) s cs b
 
 pub handed-on : {v : ByteWorld} {w : World} → Stands v w → (cs : List Call) → allHanded cs ≡ true → byteHandedOn v cs → readHandedOn w cs
 unfolding byteHandedOn storeHandedOn

@@ -48,6 +48,8 @@ one-outcome =
       takeWrite = λ κs a r r′ s s′. one-stored;
       setWire = λ κs a r r′ s s′. one-done;
       readWire = λ κs a r r′ s s′. coincide;
+      setLine = λ κs a r r′ s s′. one-done;
+      pulseLine = λ κs a r r′ s s′. one-done;
     }
 
 pub are-byte-steps : AreByteSteps
@@ -63,4 +65,6 @@ are-byte-steps =
       takeWrite = λ κs a r s read. ap (afterTake (lending (now (a .0)) (now (a .1 .0)) read));
       setWire = λ κs a r s write read. ap (afterState (lending (now (a .0)) write read));
       readWire = λ κs a r s write read. ap (afterWord (lending (now (a .0)) write read));
+      setLine = λ κs a r s write read. ap (afterState (lending (now (a .0)) write read));
+      pulseLine = λ κs a r s write read. ap (afterState (lending (now (a .0)) write read));
     }

@@ -9,7 +9,7 @@ use lib.ListN.{length, take, drop}
 use borrow.Author.Tests.{le-ltb, ltb-true}
 use Rattle.base.specs.Pick.{pick}
 use Rattle.base.specs.Bytes.{over, over-none, length-over}
-use Rattle.state.specs.declared.State.{State}
+use Rattle.state.specs.State.{State}
 use Rattle.state.specs.Sound.{Sound}
 use Rattle.state.specs.Layout.{stateLength, packed, unpacked, holds}
 use Rattle.state.specs.Packing.{packed-length, unpacked-over, holds-packed, holds-sound}
@@ -23,7 +23,7 @@ use Rattle.rules.specs.Proofs.Refusals.{SettledAs, board-settled}
 use Rattle.rules.specs.Proofs.WholeCalls.{number-word}
 use Rattle.rules.specs.declared.Kept.{Kept}
 use Rattle.rules.specs.declared.Kept.the-variants as K
-use Rattle.rules.specs.declared.Plan.{Plan}
+use Rattle.rules.specs.Rules.Plan.{Plan}
 use Rattle.promises.specs.ByteRuns.{ByteWorld, ByteOutcome}
 use Rattle.promises.specs.Statements.Lifted.{Holding, worldOf, valueOf, lentReply, lentReport, Meets}
 

@@ -9,7 +9,7 @@ use borrow.Author.Tests.{le-ltb, lt-ltb, not-true}
 use Rattle.base.specs.Pick.{pick, pick-ind, and-left, and-right, and-true}
 use Rattle.base.specs.Bytes.{over}
 use Rattle.state.specs.Status.{status}
-use Rattle.state.specs.declared.State.{State}
+use Rattle.state.specs.State.{State}
 use Rattle.state.specs.Packing.{holds-sound}
 use Rattle.rules.specs.Rules.Peripheral as B
 use Rattle.rules.specs.Rules.Channel.{Channel, peripheral, wires}
@@ -29,7 +29,8 @@ use Rattle.rules.specs.Statements.Apart.{Seen, seen, seeing, remains, isCallOf,
 use Rattle.rules.specs.Proofs.Words.{byte-words}
 use Rattle.rules.specs.Proofs.Demand3.{demand3}
 use Rattle.rules.specs.Proofs.Answers.{serials-told}
-use Rattle.rules.specs.Proofs.Bound.{sent-by-the-third}
+use Rattle.rules.specs.Statements.Bound as Bd
+use Rattle.rules.specs.Proofs.Bound.{bound}
 use Rattle.rules.specs.Proofs.Apart as A′
 use Rattle.rules.specs.Proofs.Refusals.{past-over}
 use Rattle.promises.specs.ByteRuns.{ByteWorld, ByteOutcome, byteStep, byteRun}
@@ -39,7 +40,7 @@ use Rattle.promises.specs.Statements.Words.{stateIn, serialIn, byteSince
 use Rattle.promises.specs.Statements.Promises as P
 use Rattle.promises.specs.Statements.Promises.{Accepts, InBytes, Over, Delivers, Asked, Waits, Answered, ToldIn, AskedIn, RunsAlike, answeredAt}
 use Rattle.promises.specs.Proofs.Bridge.{Stands, stands, head-handed, tail-handed, state-at, call-at, next-at, run-at, falls-at, pltrst-at, ends-at, event-at}
-use Rattle.promises.specs.Proofs.Bridge.{wire-at, got-by, without-at, unended-at, got-at, asked-at, gets-at, handed-on}
+use Rattle.promises.specs.Proofs.Bridge.{wire-at, got-by, without-at, unhindered-at, unended-at, got-at, asked-at, gets-at, shares-at, below-at, lines-at, handed-on}
 
 pub bridged : P.Bridged
 bridged v h cs b =
@@ -384,11 +385,11 @@ dropped v h q xs e cs b k ke ns hi success d l =
 
 -- ---- wires
 
-pub third : P.SentByTheThird
-third v h g is m cs b go n =
-    let s = stands h in
-    let good = holds-sound (v .state) (h .long) (h .passes) in
-    let t = sent-by-the-third (worldOf v) good g is m cs b (sym (unended-at s cs b wires) ∙ go) (subst (λ (k : ℕ). 3 ≤ k) (gets-at s cs b) n) in
+-- what carries a sender over states does so over bytes, a measure being the same of both
+sent-at : {v : ByteWorld} {w : World} (s : Stands v w) (f : ByteWorld → List Call → ℕ) (g : World → List Call → ℕ)
+    → ((ds : List Call) → allHanded ds ≡ true → f v ds ≡ g w ds) → (k limit : ℕ) (cs : List Call) → allHanded cs ≡ true → Bd.SentBy g k limit w cs
+    → P.SentBy f k limit v cs
+sent-at s f g e k limit cs b t =
     let x = split-handed (t .before) (t .call ∷ t .after) (t .split) b in
     let p = run-at s (t .before) (x .0) in
     let hc = head-handed (t .call) (t .after) (x .1) in
@@ -398,9 +399,37 @@ third v h g is m cs b go n =
       after = t .after;
       split = t .split;
       isGet = wire-at p (t .call) hc ∙ t .isGet;
-      soon = subst (λ (k : ℕ). k < 3) (sym (gets-at s (t .before) (x .0))) (t .soon);
+      soon = subst (λ (n : ℕ). n < limit) (sym (e (t .before) (x .0))) (t .soon);
       carries = rw (call-at p (t .call) hc .said, state-at p) (t .carries);
     }
+
+pub in-turn : P.SentInTurn
+in-turn v h k d l t m cs b go n =
+    let s = stands h in
+    sent-at s _ _ (λ ds c. shares-at s ds c) k _ cs b
+    (bound .inTurn (worldOf v) (holds-sound (v .state) (h .long) (h .passes)) k d l t m cs b (sym (unended-at s cs b wires) ∙ go)
+    (subst (λ (j : ℕ). d < j) (shares-at s cs b) n))
+
+pub by-the-last : P.SentByTheLast
+by-the-last v h k l m c B e cs b go low n =
+    let s = stands h in
+    sent-at s _ _ (λ ds d. gets-at s ds d) k _ cs b
+    (bound .byTheLast (worldOf v) (holds-sound (v .state) (h .long) (h .passes)) k l m c B e cs b (sym (unended-at s cs b wires) ∙ go)
+    (sym (below-at s cs b c) ∙ low) (subst (λ (j : ℕ). B ≤ j) (gets-at s cs b) n))
+
+pub group-sent : P.GroupSent
+group-sent v h g is m c B e cs b go low quiet n =
+    let s = stands h in
+    sent-at s _ _ (λ ds d. gets-at s ds d) _ _ cs b
+    (bound .group (worldOf v) (holds-sound (v .state) (h .long) (h .passes)) g is m c B e cs b (sym (unended-at s cs b wires) ∙ go)
+    (sym (below-at s cs b c) ∙ low) (sym (lines-at s cs b) ∙ quiet) (subst (λ (j : ℕ). B ≤ j) (gets-at s cs b) n))
+
+pub third : P.SentByTheThird
+third v h g is m cs b go quiet n =
+    let s = stands h in
+    sent-at s _ _ (λ ds d. gets-at s ds d) _ _ cs b
+    (bound .byTheThird (worldOf v) (holds-sound (v .state) (h .long) (h .passes)) g is m cs b (sym (unended-at s cs b wires) ∙ go)
+    (sym (lines-at s cs b) ∙ quiet) (subst (λ (k : ℕ). 3 ≤ k) (gets-at s cs b) n))
 
 -- ---- no channel tells on another
 
@@ -472,13 +501,17 @@ left-at x v u hv hu cs ds b d e = sym (remains-at x (stands hv) cs b) ∙ e ∙ 
 
 pub none-tells : P.NoneTells
 none-tells x v u hv hu same cs ds b d e =
-    let r = left-at x v u hv hu cs ds b d e in
-    alike-at x (Alike x) v u hv hu cs ds b d r (A′.none-tells x (worldOf v) (worldOf u) cs ds same r)
+    let r = left-at x v u hv hu cs ds b d (e .left) in
+    alike-at x (Alike x) v u hv hu cs ds b d r
+    (A′.none-tells x (worldOf v) (worldOf u) cs ds same (λ i. sym (unhindered-at (stands hv) cs b) ∙ e .first i)
+    (λ i. sym (unhindered-at (stands hu) ds d) ∙ e .second i) r)
 
 pub wires-apart : P.WiresApart
 wires-apart v u hv hu same cs ds b d e =
-    let r = left-at wires v u hv hu cs ds b d e in
-    alike-at wires SameButWires v u hv hu cs ds b d r (A′.wires-apart (worldOf v) (worldOf u) cs ds same r)
+    let r = left-at wires v u hv hu cs ds b d (e .left) in
+    alike-at wires SameButWires v u hv hu cs ds b d r
+    (A′.wires-apart (worldOf v) (worldOf u) cs ds same (sym (unhindered-at (stands hv) cs b) ∙ e .first refl)
+    (sym (unhindered-at (stands hu) ds d) ∙ e .second refl) r)
 
 pub peripheral-apart : P.PeripheralApart
 peripheral-apart v u hv hu same cs ds b d e =
@@ -503,6 +536,9 @@ promises =
       late = late;
       dropped = dropped;
       first = first;
+      inTurn = in-turn;
+      last = by-the-last;
+      group = group-sent;
       third = third;
       noneTells = none-tells;
       wiresApart = wires-apart;

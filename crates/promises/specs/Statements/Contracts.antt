@@ -1,4 +1,4 @@
--- P2, and the link to the code: the contracts of the nine exported functions, named as the crate espi has them. `Post` of a function is its `ensures`
+-- P2, and the link to the code: the contracts of the eleven exported functions, named as the crate espi has them. `Post` of a function is its `ensures`
 -- at the arguments a, the result r and what stands behind the arguments at exit, s. Two outcomes that it allows for the same arguments are the same
 -- (01, What each contract must settle), and each is the outcome of the call over bytes, `byteStep`, of which Lifted and Promises speak.
 use Prim.Native.Nat.{ℕ}
@@ -32,6 +32,10 @@ use Rattle.espi.proofs.espi_set_wire
 use Rattle.espi.proofs.espi_set_wire.Reads as SetWire
 use Rattle.espi.proofs.espi_read_wire
 use Rattle.espi.proofs.espi_read_wire.Reads as ReadWire
+use Rattle.espi.proofs.espi_set_line
+use Rattle.espi.proofs.espi_set_line.Reads as SetLine
+use Rattle.espi.proofs.espi_pulse_line
+use Rattle.espi.proofs.espi_pulse_line.Reads as PulseLine
 use Rattle.promises.specs.ByteRuns.{ByteWorld, byteStep, afterState, afterExchange, afterLook, afterAnswer, afterTake, afterWord}
 
 -- the state bytes and the stores that a call is lent ("Stores lent to a call", "State bytes lent", 01, What the engine covers)
@@ -62,6 +66,10 @@ pub record OneOutcome : Type 0 where
       → SetWire.Post κs a r s → SetWire.Post κs a r′ s′ → (r ≡ r′) × (now (s .0) ≡ now (s′ .0))
   pub readWire : (κs : Lfts 1) (a : ArgsD espi_read_wire.signature κs) (r r′ : ResD espi_read_wire.signature κs) (s s′ : AtExit espi_read_wire.ended κs)
       → ReadWire.Post κs a r s → ReadWire.Post κs a r′ s′ → r ≡ r′
+  pub setLine : (κs : Lfts 1) (a : ArgsD espi_set_line.signature κs) (r r′ : ResD espi_set_line.signature κs) (s s′ : AtExit espi_set_line.ended κs)
+      → SetLine.Post κs a r s → SetLine.Post κs a r′ s′ → (r ≡ r′) × (now (s .0) ≡ now (s′ .0))
+  pub pulseLine : (κs : Lfts 1) (a : ArgsD espi_pulse_line.signature κs) (r r′ : ResD espi_pulse_line.signature κs) (s s′ : AtExit espi_pulse_line.ended κs)
+      → PulseLine.Post κs a r s → PulseLine.Post κs a r′ s′ → (r ≡ r′) × (now (s .0) ≡ now (s′ .0))
 
 -- ---- what a contract allows is the outcome of the call over bytes; stores that a call is not lent are any
 
@@ -99,3 +107,9 @@ pub record AreByteSteps : Type 0 where
   pub readWire : (κs : Lfts 1) (a : ArgsD espi_read_wire.signature κs) (r : ResD espi_read_wire.signature κs) (s : AtExit espi_read_wire.ended κs)
       (write read : List ℕ) → ReadWire.Post κs a r s
       → let v = lending (now (a .0)) write read in afterWord v r ≡ byteStep v (S.board wires (W.readWire (a .1 .0) (a .1 .1 .0)))
+  pub setLine : (κs : Lfts 1) (a : ArgsD espi_set_line.signature κs) (r : ResD espi_set_line.signature κs) (s : AtExit espi_set_line.ended κs)
+      (write read : List ℕ) → SetLine.Post κs a r s
+      → let v = lending (now (a .0)) write read in afterState v (done r (now (s .0))) ≡ byteStep v (S.board wires (W.setLine (a .1 .0) (a .1 .1 .0)))
+  pub pulseLine : (κs : Lfts 1) (a : ArgsD espi_pulse_line.signature κs) (r : ResD espi_pulse_line.signature κs) (s : AtExit espi_pulse_line.ended κs)
+      (write read : List ℕ) → PulseLine.Post κs a r s
+      → let v = lending (now (a .0)) write read in afterState v (done r (now (s .0))) ≡ byteStep v (S.board wires (W.pulseLine (a .1 .0)))

@@ -1,4 +1,4 @@
--- The lifting: what a run of the nine calls over bytes has to do with a run of `step` over states. Statements only, proved in Proofs/Lifted.
+-- The lifting: what a run of the eleven calls over bytes has to do with a run of `step` over states. Statements only, proved in Proofs/Lifted.
 use Prim.Native.Nat.{ℕ, _/_, _≤_}
 use mathlib.Core.Bool.{true}
 use mathlib.Core.List.{List, []}

@@ -1,6 +1,6 @@
--- The promises over runs of the nine calls on bytes: P4, the words of events, P14 to P17, P21, and P22 for every channel. Proved in Proofs/Promises.
+-- The promises over runs of the eleven calls on bytes: P4, the words of events, P14 to P17, P21, and P22 for every channel. Proved in Proofs/Promises.
 -- A run begins with bytes that hold a sound state (`Starts` of Lifted: any start gives such); commands are bytes below 256 (`handedOver`).
-use Prim.Native.Nat.{ℕ, _+_, _^_, _≤_, _<_}
+use Prim.Native.Nat.{ℕ, suc, _+_, _*_, _^_, _<_, _≤_}
 use mathlib.Core.Bool.{Bool, true, false}
 use mathlib.Core.List.{List, [], _∷_, _++_}
 use mathlib.Core.Logic.{_≢_}
@@ -15,7 +15,7 @@ use Rattle.peripheral.specs.declared.Np.the-variants.{Free, Waiting}
 use Rattle.peripheral.specs.declared.Request.{Request}
 use Rattle.state.specs.Status.{status}
 use Rattle.rules.specs.Rules.Peripheral.{look, succeeded}
-use Rattle.rules.specs.Rules.Channel.{Channel, peripheral, wires}
+use Rattle.rules.specs.Rules.Channel.{Channel, peripheral, wires, same}
 use Rattle.rules.specs.Rules.Reply.{closed}
 use Rattle.rules.specs.Rules.Step.{World, Call, exchange, board, step, run, areBytes, handedOver, allHanded, readLength, replyLength, writeLength, lookLength}
 use Rattle.rules.specs.Statements.Fields.{byte, isRead, isIoWrite, accessAddress, accessLength, accessTag}
@@ -27,13 +27,14 @@ use Rattle.rules.specs.Statements.Words.{GetPc, NonPosted, Answer, Ending, Exac
 use Rattle.rules.specs.Statements.Demand3.{header, pieceBody, joinedData, crcFine, lookBytes}
 use Rattle.rules.specs.Statements.Answers.{noStart, ForHeld}
 use Rattle.rules.specs.Statements.WireEvents as W
-use Rattle.rules.specs.Statements.Bound.{Carries}
+use Rattle.rules.specs.Statements.WireSteps.{waitsAt, entriesAt}
+use Rattle.rules.specs.Statements.Bound.{Carries, shareOf, turnsOn}
 use Rattle.rules.specs.Statements.Apart.{others, Alike, SameButWires, SameButPeripheral}
 use Rattle.promises.specs.ByteRuns.{ByteWorld, ByteOutcome, byteStep, byteRun}
 use Rattle.promises.specs.Statements.Lifted.{Holding, worldOf, replyIn, lentReply, lentReport, Meets}
 use Rattle.promises.specs.Statements.Words.{numberAt, stateIn, serialIn, byteSince, bytePltrst, byteEnds, byteUnended, byteEvent, byteWireEvent}
 use Rattle.promises.specs.Statements.Words.{byteWithout, byteAnswers, byteRequests, byteGotBy, byteGot, byteAskedTimes, byteHandedOn}
-use Rattle.promises.specs.Statements.Words.{byteGetsIn, byteRemains, byteSeeing}
+use Rattle.promises.specs.Statements.Words.{byteGetsIn, byteSharesIn, byteGetsBelow, byteLineWaits, byteRemains, byteEdgeRefuses, byteSeeing}
 
 -- ---- the bridge: at every place of a run, what a statement over `step` and `run` says is said of the bytes
 
@@ -264,20 +265,39 @@ FirstAnswer = (v : ByteWorld) → Holding v → (q : Call) (xs : List Call) → 
 
 -- ---- P21
 
--- one of the first n accepted GET_VWIREs carries the group, "with its value when sent" (01, Wires)
-pub record SentBy (g n : ℕ) (v : ByteWorld) (cs : List Call) : Type 0 where
+-- an accepted GET_VWIRE of the run carries the sender, "with its value when sent" (01, Wires), and what comes before it measures less than this
+pub record SentBy (measure : ByteWorld → List Call → ℕ) (k limit : ℕ) (v : ByteWorld) (cs : List Call) : Type 0 where
   pub before : List Call
   pub call : Call
   pub after : List Call
   pub split : cs ≡ before ++ (call ∷ after)
   pub isGet : byteWireEvent (byteRun v before) call ≡ W.gets
-  pub soon : byteGetsIn v before < n
-  pub carries : Carries (replyIn (byteStep (byteRun v before) call)) g (groupByte (stateIn (byteRun v before) .wires) g)
+  pub soon : measure v before < limit
+  pub carries : Carries (replyIn (byteStep (byteRun v before) call)) (entriesAt (stateIn (byteRun v before) .wires) k)
 
--- "A pending group, .. is sent by the third accepted GET_VWIRE unless a start, such a reset or a disabling comes first" (01, Wires)
+-- a sender waits, with d turns from the place to it; once the shares of the accepted GET_VWIREs come to more than d, it has been sent
+-- (02, Q-4: "a bound from the number of senders and the operating count, proved once for every count")
+abbrev pub SentInTurn : Type 0
+SentInTurn = (v : ByteWorld) → Holding v → (k d : ℕ) → d < 259 → turnsOn d (stateIn v .wires .groups .place) ≡ k → waitsAt (stateIn v .wires) k ≡ true
+    → (cs : List Call) → allHanded cs ≡ true → byteUnended wires v cs ≡ true → d < byteSharesIn v cs → SentBy byteSharesIn k (suc d) v cs
+
+-- so by the B-th accepted one, where B * max(1, c / 2) is 259 or more and each had an operating count of c or more (02, Q-4)
+abbrev pub SentByTheLast : Type 0
+SentByTheLast = (v : ByteWorld) → Holding v → (k : ℕ) → k < 259 → waitsAt (stateIn v .wires) k ≡ true → (c B : ℕ) → 259 ≤ B * shareOf c
+    → (cs : List Call) → allHanded cs ≡ true → byteUnended wires v cs ≡ true → byteWithout (byteGetsBelow c) v cs ≡ true → B ≤ byteGetsIn v cs
+    → SentBy byteGetsIn k B v cs
+
+-- with no line waiting in the run the senders are three (01, Wires: the three up groups; 02, Q-4)
+abbrev pub GroupSent : Type 0
+GroupSent = (v : ByteWorld) → Holding v → (g : ℕ) → isGroup g ≡ true → markAt (stateIn v .wires .groups) g ≡ true → (c B : ℕ) → 3 ≤ B * shareOf c
+    → (cs : List Call) → allHanded cs ≡ true → byteUnended wires v cs ≡ true → byteWithout (byteGetsBelow c) v cs ≡ true
+    → byteWithout byteLineWaits v cs ≡ true → B ≤ byteGetsIn v cs → SentBy byteGetsIn (g + 252) B v cs
+
+-- "A pending group, .. is sent by the third accepted GET_VWIRE unless a start, such a reset or a disabling comes first" (01, Wires), no line waiting
 abbrev pub SentByTheThird : Type 0
-SentByTheThird = (v : ByteWorld) → Holding v → (g : ℕ) → isGroup g ≡ true → markAt (stateIn v .wires) g ≡ true
-    → (cs : List Call) → allHanded cs ≡ true → byteUnended wires v cs ≡ true → 3 ≤ byteGetsIn v cs → SentBy g 3 v cs
+SentByTheThird = (v : ByteWorld) → Holding v → (g : ℕ) → isGroup g ≡ true → markAt (stateIn v .wires .groups) g ≡ true
+    → (cs : List Call) → allHanded cs ≡ true → byteUnended wires v cs ≡ true → byteWithout byteLineWaits v cs ≡ true → 3 ≤ byteGetsIn v cs
+    → SentBy byteGetsIn (g + 252) 3 v cs
 
 -- ---- no channel tells on another
 
@@ -287,25 +307,31 @@ pub record RunsAlike (x : Channel) (Same : World → World → Type 0) (v u : By
   pub calls : byteSeeing x v cs ≡ byteSeeing x u ds
   pub after : Same (worldOf (byteRun v cs)) (worldOf (byteRun u ds))
 
--- "equal resets, equal calls and commands on channel 0, status and configuration" (01, Wires), and so for any channel x (02, Q-14): equal in what is left
--- of the runs
-abbrev pub Apart : (x : Channel) → (World → World → Type 0) → (ByteWorld → List Call → List Call) → Type 0
-Apart x Same left = (v u : ByteWorld) → Holding v → Holding u → Same (worldOf v) (worldOf u)
-    → (cs ds : List Call) → allHanded cs ≡ true → allHanded ds ≡ true → left v cs ≡ left u ds → RunsAlike x Same v u cs ds
+-- runs that differ in x's own calls: "equal resets, equal calls and commands on channel 0, status and configuration" (01, Wires), and so for any channel x
+-- (02, Q-14), equal in what is left of the runs; where x is the wires, "runs without such a refused write" (02, Q-4), a write of 020h refused for an edge
+pub record DifferIn (x : Channel) (v u : ByteWorld) (cs ds : List Call) : Type 0 where
+  pub left : byteRemains x v cs ≡ byteRemains x u ds
+  pub first : same x wires ≡ true → byteWithout byteEdgeRefuses v cs ≡ true
+  pub second : same x wires ≡ true → byteWithout byteEdgeRefuses u ds ≡ true
+
+-- .. show the same of all other calls (02, Q-14: "the other channels' replies are equal, .. and their stores and refusals are equal")
+abbrev pub Apart : (x : Channel) → (World → World → Type 0) → (ByteWorld → ByteWorld → List Call → List Call → Type 0) → Type 0
+Apart x Same Differ = (v u : ByteWorld) → Holding v → Holding u → Same (worldOf v) (worldOf u)
+    → (cs ds : List Call) → allHanded cs ≡ true → allHanded ds ≡ true → Differ v u cs ds → RunsAlike x Same v u cs ds
 
 -- "State the wire-independence rule for every pair of the four channels" (02, Q-14), of the two that there are
 abbrev pub NoneTells : Type 0
-NoneTells = (x : Channel) → Apart x (Alike x) (byteRemains x)
+NoneTells = (x : Channel) → Apart x (Alike x) (DifferIn x)
 
 -- P22: the same registers, queues and stores; its mirror: the same registers and wires, stores that are long enough in both or in neither
 -- ("Wire traffic and channel 0: two runs .. give each peripheral command the same reply but for status bit 6 and the CRC byte", 01, Wires; "for runs with
--- the same such packets", 02, Q-1)
+-- the same such packets", 02, Q-1; "without such a refused write", 02, Q-4)
 abbrev pub WiresApart : Type 0
-WiresApart = Apart wires SameButWires (byteRemains wires)
+WiresApart = Apart wires SameButWires (DifferIn wires)
 
--- .. and the rule the other way round: "One argument should serve all pairs" (02, Q-14)
+-- .. and the rule the other way round: "One argument should serve all pairs" (02, Q-14); of edges nothing is asked, the wires are the same
 abbrev pub PeripheralApart : Type 0
-PeripheralApart = Apart peripheral SameButPeripheral (λ v. others peripheral)
+PeripheralApart = Apart peripheral SameButPeripheral (λ v u cs ds. others peripheral cs ≡ others peripheral ds)
 
 -- ---- all of it
 
@@ -326,6 +352,9 @@ pub record Promises : Type 0 where
   pub late : LateAnswer
   pub dropped : DroppedAnswer
   pub first : FirstAnswer
+  pub inTurn : SentInTurn
+  pub last : SentByTheLast
+  pub group : GroupSent
   pub third : SentByTheThird
   pub noneTells : NoneTells
   pub wiresApart : WiresApart

@@ -2,11 +2,12 @@
 use Prim.Native.Nat.{ℕ, _+_}
 use mathlib.Core.Bool.{Bool, true, _&&_, not}
 use mathlib.Core.List.{List, [], _∷_, _++_, map}
-use lib.Dec.{eqb}
+use lib.Dec.{eqb, ltb}
 use lib.ListN.{drop}
 use Rattle.base.specs.Pick.{pick}
+use Rattle.registers.specs.Registers.{operatingCount}
 use Rattle.state.specs.Layout.{unpacked}
-use Rattle.state.specs.declared.State.{State}
+use Rattle.state.specs.State.{State}
 use Rattle.rules.specs.Rules.Channel.{Channel, peripheral, wires}
 use Rattle.rules.specs.Rules.Reset.{platformReset}
 use Rattle.rules.specs.Rules.Step.{World, Call, reset}
@@ -17,7 +18,9 @@ use Rattle.rules.specs.Statements.Requests.{Event, acceptedEvent, isTell, isAsk
 use Rattle.rules.specs.Statements.WireEvents as W
 use Rattle.rules.specs.Statements.WireEvents.{WireEvent, acceptedWire, oneIfGets}
 use Rattle.rules.specs.Statements.WireView.{readsWire}
-use Rattle.rules.specs.Statements.Apart.{isCallOf, replyBut}
+use Rattle.rules.specs.Statements.Wires.Rows.{someLine}
+use Rattle.rules.specs.Statements.Bound.{shareOf}
+use Rattle.rules.specs.Statements.Apart.{isCallOf, againstEdge, replyBut}
 use Rattle.promises.specs.ByteRuns.{ByteWorld, ByteOutcome, byteStep, byteRun}
 use Rattle.promises.specs.Statements.Lifted.{worldOf, valueOf, replyIn}
 
@@ -36,6 +39,10 @@ stateIn v = unpacked (v .state)
 -- the last serial given, as the state bytes have it ("the request's serial the last given", 01, Sound state)
 abbrev pub serialIn : ByteWorld → ℕ
 serialIn v = stateIn v .peripheral .serial
+
+-- the operating count, as the state bytes have it ("The operating wire count is bits 21:16 plus one", 01, Registers and status)
+abbrev pub countIn : ByteWorld → ℕ
+countIn v = operatingCount (stateIn v .config .r020)
 
 -- the bytes after a call and the calls since ("From the acceptance on, each call gets the state that the last one left", 00, demand 3)
 abbrev pub byteSince : ByteWorld → Call → List Call → ByteWorld
@@ -108,6 +115,24 @@ unfoldable pub byteGetsIn : ByteWorld → List Call → ℕ
 byteGetsIn v [] = 0
 byteGetsIn v (c ∷ cs) = oneIfGets (byteWireEvent v c) + byteGetsIn (byteStep v c .next) cs
 
+-- a call's share: an accepted GET_VWIRE's is max(1, c / 2), c the operating count in force (02, Q-4: "a bound from the number of senders and the
+-- operating count")
+abbrev pub byteShareIn : ByteWorld → Call → ℕ
+byteShareIn v c = pick (eqb (oneIfGets (byteWireEvent v c)) 1) (shareOf (countIn v)) 0
+
+-- .. of all accepted GET_VWIREs of a run (02, Q-4)
+unfoldable pub byteSharesIn : ByteWorld → List Call → ℕ
+byteSharesIn v [] = 0
+byteSharesIn v (c ∷ cs) = byteShareIn v c + byteSharesIn (byteStep v c .next) cs
+
+-- an accepted GET_VWIRE while the operating count is less than c (02, Q-4: "the operating count")
+abbrev pub byteGetsBelow : ℕ → ByteWorld → Call → Bool
+byteGetsBelow c v x = eqb (oneIfGets (byteWireEvent v x)) 1 && ltb (countIn v) c
+
+-- a line waits, as the state bytes have it (02, Q-4: "a line that already waits to be sent")
+abbrev pub byteLineWaits : ByteWorld → Call → Bool
+byteLineWaits v c = someLine (stateIn v .wires .lines .waits)
+
 -- ---- what a call shows its caller but for x's status bits and the CRC byte: word, reply, the reply store past it, the report
 
 -- "the other channels' replies", "their stores and refusals" (02, Q-14)
@@ -129,6 +154,10 @@ byteRemaining x v c = pick (isCallOf x c) (pick (byteFalls v c) (reset platformR
 unfoldable pub byteRemains : Channel → ByteWorld → List Call → List Call
 byteRemains x v [] = []
 byteRemains x v (c ∷ cs) = byteRemaining x v c ++ byteRemains x (byteStep v c .next) cs
+
+-- a write of 020h refused (number 2) for an edge; of the state only whether an edge waits is read ("such a refused write", 02, Q-4)
+abbrev pub byteEdgeRefuses : ByteWorld → Call → Bool
+byteEdgeRefuses v c = eqb (numberAt v c) 2 && againstEdge (stateIn v) c
 
 -- what the calls of a run show, x's own apart ("give each peripheral command the same reply", 01, Wires: here every call that is not x's); a packet that
 -- counts "as a platform reset" (02, Q-1) shows what such a reset shows there

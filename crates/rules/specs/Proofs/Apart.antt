@@ -1,40 +1,53 @@
 -- No channel tells on another: one argument for every channel. A call of x's own leaves all that is not x's, or is a platform reset of it; any other call goes
 -- the same way in two worlds that are alike but for x, for its channel sees its own part and stores alone. So a run shows what it shows without x's calls.
+-- A configuration write alone looks at the wires, whether an edge waits: both runs are held against what remains of them from one world in which none does,
+-- and without wire calls none comes to wait.
 use Prim.Native.Nat.{ℕ, _+_, _-_, _*_, _/_, _%_}
 use mathlib.Core.Bool.{Bool, true, false, _&&_, _||_, true≢false, and-false}
 use mathlib.Core.List.{List, [], _∷_, _++_, map}
-use mathlib.Core.Path.{_≡_, refl, sym, ap, subst, _∙_}
+use mathlib.Core.Path.{_≡_, refl, sym, ap, ap₂, subst, _∙_}
 use native.Mathlib.Omega.{arith}
 use lib.Dec.{eqb, ltb}
 use lib.ListN.{getD, length, take, length-append}
 use lib.Seq.{take-at, getD-at, getD-append-add}
-use borrow.Author.Tests.{ne-eqb}
-use Rattle.base.specs.Pick.{pick}
+use borrow.Author.Tests.{eq-eqb, ne-eqb, eqb-true, eqb-false}
+use Rattle.base.specs.Pick.{pick, and-true}
 use Rattle.base.specs.Bytes.{low2, over}
 use Rattle.crc.specs.Crc.{crc}
-use Rattle.registers.specs.Registers.{fresh008, readAt, writeAt}
+use Rattle.registers.specs.Registers.{fresh008, on1, operatingCount, bits as bitsOf, readAt, writeAt}
+use Rattle.registers.specs.Laws.{bit-zero, by-address, on1-written, count-written}
+use Rattle.wires.specs.Senders.{AllWires, withLines}
+use Rattle.wires.specs.Lines.{anyBit, anyEdge, dropped}
+use Rattle.wires.specs.LineBits.{no-bits}
 use Rattle.registers.specs.declared.Config.{Config}
 use Rattle.command.specs.declared.Command as C₀
+use Rattle.command.specs.declared.Command.the-variants as C
 use Rattle.state.specs.Parts.{sum, sum-as}
 use Rattle.state.specs.Status.{status}
-use Rattle.state.specs.declared.State.{State}
+use Rattle.state.specs.State.{State}
 use Rattle.rules.specs.Rules.Out.{responseByte}
-use Rattle.rules.specs.Rules.Reset.{Reset, platformReset}
+use Rattle.rules.specs.Rules.Reset.{Reset, start, espiReset, platformReset}
 use Rattle.rules.specs.Rules.Channel.{Channel, peripheral, wires, Part, Command, Act, Board, Change, change, nextOf, outOf, actOf, acting, resetFollows, settle, reportOf, valueOf, given, bits, ownKept, part, put, each, on, enableEdge, same}
 use Rattle.rules.specs.Rules.Channel as N
 use Rattle.rules.specs.Rules.Lift.{lift, withStatus, show}
-use Rattle.rules.specs.Rules.Exchange.{reconfigured, configReset, wasReset, thenReset}
+use Rattle.rules.specs.Rules.Wires.{edgeHinders}
+use Rattle.rules.specs.Rules.Exchange.{reconfigured, hindered, configReset, wasReset, thenReset}
 use Rattle.rules.specs.Rules.Reply.{closed, replyBytes, keptBytes}
 use Rattle.rules.specs.Rules.Step.{World, Call, Outcome, exchange, board, reset, short, lend, step, run, only, withState, performed, served, shortStores, shortFor, writeLength, readLength, replyLength}
 use Rattle.rules.specs.Statements.Plans.{Did, Settled, Admits, commandOf}
 use Rattle.rules.specs.Statements.Channels.{Acts, Settles}
 use Rattle.rules.specs.Statements.Channels as L
 use Rattle.rules.specs.Statements.Events.{accepted, lowersPltrst, lowering, pltrstFalls}
-use Rattle.rules.specs.Statements.Fields.{byte}
+use Rattle.rules.specs.Statements.Fields.{byte, registerAt, registerValue}
+use Rattle.rules.specs.Statements.Reads.{Writes}
+use Rattle.rules.specs.Statements.Cases as S
+use Rattle.rules.specs.Statements.Cases.{Case}
 use Rattle.rules.specs.Statements.Sizes.{isOf}
+use Rattle.rules.specs.Statements.Wires.Rows.{someLine}
 use Rattle.rules.specs.Statements.Both as T
-use Rattle.rules.specs.Statements.Both.{Both, SameRoom}
-use Rattle.rules.specs.Statements.Apart.{storesOf, clear, isCommandOf, isCallOf, others, remaining, remains, replyBut, Seen, seen, seeing, RunsAlike, StatesAlike, Alike, NoneTells, SameButWires, WiresApart, SameButPeripheral, PeripheralApart}
+use Rattle.rules.specs.Statements.Both.{Both, SameRoom, SameHindrance}
+use Rattle.rules.specs.Statements.Apart.{storesOf, clear, isCommandOf, isCallOf, others, remaining, remains, writesAgainst, edgeRefuses, Unhindered, replyBut, Seen, seen, seeing}
+use Rattle.rules.specs.Statements.Apart.{RunsAlike, StatesAlike, Alike, NoneTells, SameButWires, WiresApart, SameButPeripheral, PeripheralApart}
 use Rattle.rules.specs.Proofs.Plans as Q
 use Rattle.rules.specs.Proofs.Channels as L₁
 use Rattle.rules.specs.Proofs.Peripheral.Apart as P₁
@@ -43,9 +56,9 @@ use Rattle.rules.specs.Proofs.Wires.Apart as W₁
 use Rattle.rules.specs.Proofs.Stores.{lacks, SameLack, bodyIn, Owns, kept-other}
 use Rattle.rules.specs.Proofs.Whose.{begins, own-command}
 use Rattle.rules.specs.Proofs.Fields.{outside}
-use Rattle.rules.specs.Proofs.Events.{no-lowering}
+use Rattle.rules.specs.Proofs.Events.{no-lowering, head-without, tail-without}
 use Rattle.rules.specs.Proofs.Effects.{unlowered, lowers-is, above}
-use Rattle.rules.specs.Proofs.Cases.{both, reset-is}
+use Rattle.rules.specs.Proofs.Cases.{both, cases, reset-is, exchange-long}
 use Rattle.rules.specs.Proofs.Lift.{out-change, part-stays, lift-change, put-config, put-both, part-each, same-is, same-turned, own-or-other, planned}
 use Rattle.rules.specs.Proofs.Reads.{reads}
 use Rattle.rules.specs.Proofs.Reply.{closed-as, closed-length, status-bits, status-small, over-long}
@@ -55,7 +68,7 @@ use Rattle.rules.specs.declared.Say.the-variants as Y
 use Rattle.rules.specs.declared.Kept.{Kept}
 use Rattle.rules.specs.declared.Kept.the-variants as K
 use Rattle.rules.specs.declared.Out.{Out}
-use Rattle.rules.specs.declared.Plan.{Plan}
+use Rattle.rules.specs.Rules.Plan.{Plan}
 use Rattle.rules.specs.declared.Response.the-variants.{Accept, NonFatal}
 
 -- ---- the status without x's bits: the others' are left
@@ -450,6 +463,144 @@ module _ (x : Channel) (w : World) where
   own-call T.wiped e = absurd (true≢false (sym e))
   own-call T.lent e = absurd (true≢false (sym e))
 
+-- ---- an edge that stands against a write
+
+-- of a write's value: it stands against those of operating count 1 with channel 1 on
+one-or-none : (n : ℕ) → eqb (n + 1) 1 ≡ eqb n 0
+one-or-none n = go (eqb n 0) refl
+  where
+    go : (t : Bool) → eqb n 0 ≡ t → eqb (n + 1) 1 ≡ t
+    go true e = eq-eqb (n + 1) 1 (omega (arith, eqb-true n 0 e))
+    go false e = ne-eqb (n + 1) 1 (λ q. omega (arith, eqb-false n 0 e))
+
+hindered-value : (s : State) (n a : ℕ)
+    → hindered s a n ≡ eqb a 0x020 && (eqb (bitsOf 0 0 n) 1 && (eqb (bitsOf 21 16 n) 0 && someLine (s .wires .lines .edges)))
+unfolding anyBit
+hindered-value s n =
+    let waits : Bool = someLine (s .wires .lines .edges) in
+    let r = s .config .r020 in
+    by-address (λ (a : ℕ). hindered s a n ≡ eqb a 0x020 && (eqb (bitsOf 0 0 n) 1 && (eqb (bitsOf 21 16 n) 0 && waits))) refl refl
+    (ap₂ (λ (t u : Bool). t && (u && waits)) (on1-written r n ∙ ap (λ (m : ℕ). eqb m 1) (sym (bit-zero n)))
+    (ap (λ (m : ℕ). eqb m 1) (count-written r n) ∙ one-or-none (bitsOf 21 16 n)))
+    (λ a e f g. rw g)
+
+-- by the command's bytes
+against-as : (s : State) (b : List ℕ) (a n : ℕ) → Writes b a n → writesAgainst s b ≡ hindered s a n
+against-as s b a n h =
+    ap (λ (op : ℕ). eqb op 0x22 && (eqb (registerAt b) 0x020 && OfValue (registerValue b))) (h .opcode)
+    ∙ ap₂ (λ (m v : ℕ). eqb m 0x020 && OfValue v) (sym (h .address)) (sym (h .value))
+    ∙ sym (hindered-value s n a)
+  where
+    OfValue : ℕ → Bool
+    OfValue v = eqb (bitsOf 0 0 v) 1 && (eqb (bitsOf 21 16 v) 0 && someLine (s .wires .lines .edges))
+
+-- so the write is refused for it
+refused-for : (w : World) (b r : List ℕ) → shortStores r w ≡ false → (a n : ℕ) → Admits (w .state) b (C.SetConfiguration a n)
+    → hindered (w .state) a n ≡ true → edgeRefuses w (exchange b r) ≡ true
+unfolding performed
+refused-for w b r l a n e h =
+    and-true (eq-eqb (step w (exchange b r) .number) 2 two) (against-as (w .state) b a n (reads (w .state) b (C.SetConfiguration a n) e) ∙ h)
+  where
+    two : step w (exchange b r) .number ≡ 2
+    two =
+        ap (λ (o : Outcome). o .number) (exchange-long w b r l)
+        ∙ ap (λ (p : Plan). p .number) (Q.plan-write (w .state) b a n e)
+        ∙ Q.hindered-number (w .state) a n h
+
+-- where x is the wires, a world in which no edge waits: nothing is refused for one
+abbrev Quiet : Channel → World → Type 0
+Quiet x w = same x wires ≡ true → anyEdge (w .state .wires .lines) ≡ false
+
+none-hindered : (s : State) (a n : ℕ) → anyEdge (s .wires .lines) ≡ false → hindered s a n ≡ false
+none-hindered s a n e = falls (eqb a 0x020) (on1 (writeAt (s .config) a n .r020)) (eqb (operatingCount (writeAt (s .config) a n .r020)) 1) _ e
+  where
+    falls : (p q r t : Bool) → t ≡ false → p && (q && (r && t)) ≡ false
+    falls true true true t f = f
+    falls true true false t f = refl
+    falls true false r t f = refl
+    falls false q r t f = refl
+
+-- a call that is refused for none in w is the same case in a quiet world; of another channel than the wires the edges are the same
+module _ (x : Channel) (w v : World) (h : Alike x w v) (q : Quiet x v) where
+  write-hindrance : (b r : List ℕ) → (same x wires ≡ true → edgeRefuses w (exchange b r) ≡ false) → shortStores r w ≡ false → (a n : ℕ)
+      → Admits (w .state) b (C.SetConfiguration a n) → hindered (w .state) a n ≡ hindered (v .state) a n
+  write-hindrance b r f l a n e = by (same x wires) refl
+    where
+      free : same x wires ≡ true → (t : Bool) → hindered (w .state) a n ≡ t → t ≡ false
+      free i true g = sym (refused-for w b r l a n e g) ∙ f i
+      free i false g = refl
+
+      by : (t : Bool) → same x wires ≡ t → hindered (w .state) a n ≡ hindered (v .state) a n
+      by true i = free i (hindered (w .state) a n) refl ∙ sym (none-hindered (v .state) a n (q i))
+      by false i =
+          ap (λ (z : Config). eqb a 0x020 && edgeHinders (writeAt z a n) (w .state .wires)) (h .state .config)
+          ∙ ap (λ (p : AllWires). eqb a 0x020 && edgeHinders (writeAt (v .state .config) a n) p) (h .state .parts wires i)
+
+  same-hindrance : (d : Call) → (same x wires ≡ true → edgeRefuses w d ≡ false) → SameHindrance w v d
+  same-hindrance (reset r) f = tt
+  same-hindrance (exchange b r) f = write-hindrance b r f
+  same-hindrance (board k o) f = tt
+  same-hindrance (short state d) f = tt
+  same-hindrance (lend write read) f = tt
+
+self-hindrance : (w : World) (c : Call) → SameHindrance w w c
+self-hindrance w (reset r) = tt
+self-hindrance w (exchange b r) = λ l a n e. refl
+self-hindrance w (board k o) = tt
+self-hindrance w (short state c) = tt
+self-hindrance w (lend write read) = tt
+
+-- a call that is not the wires' lets no edge wait
+module _ (w : World) (none : anyEdge (w .state .wires .lines) ≡ false) where
+  abbrev NoEdge : AllWires → Type 0
+  NoEdge p = anyEdge (p .lines) ≡ false
+
+  enabled-none : (was is : Bool) → NoEdge (enableEdge wires was is (w .state .wires))
+  enabled-none true true = none
+  enabled-none true false = no-bits
+  enabled-none false true = no-bits
+  enabled-none false false = none
+
+  reset-none : (r : Reset) → NoEdge (N.reset wires r (w .state .wires))
+  reset-none start = no-bits
+  reset-none espiReset = no-bits
+  reset-none platformReset = no-bits
+
+  put-none : (k : Channel) (p : Part k) → same wires k ≡ false → NoEdge (put k p (w .state) .wires)
+  put-none k p e = subst NoEdge (sym (part-stays k wires p (w .state) (same-turned wires k e))) none
+
+  case-none : {c : Call} {o : Outcome} → Case w c o → isCallOf wires c ≡ false → NoEdge (o .next .state .wires)
+  unfolding performed served lift
+  case-none (S.idle n q) e = none
+  case-none (S.shown q) e = none
+  case-none (S.acted {b} k o x a d f) e = put-none k (nextOf k x) (sym (own-command wires k (w .state) b o a) ∙ e)
+  case-none (S.settles k o x h d) e = put-none k (nextOf k x) e
+  case-none (S.forbidden a v h f) e = none
+  case-none (S.hindered a v h f g) e = none
+  case-none (S.configured a v h f g) e = enabled-none (on wires (w .state .config)) (on wires (writeAt (w .state .config) a v))
+  case-none (S.lowered {b} o x a d) e = absurd (true≢false (sym (own-command wires wires (w .state) b o a) ∙ e))
+  case-none (S.cleared h) e = none
+  case-none (S.wiped {r}) e = reset-none r
+  case-none S.lent e = none
+
+quiet-next : (x : Channel) (w : World) → Quiet x w → (c : Call) → isCallOf x c ≡ false → Quiet x (step w c .next)
+quiet-next x w q c e i = case-none w (q i) (cases w c) (ap (λ (z : Channel). isCallOf z c) (same-is x wires i) ∙ e)
+
+-- the quiet world of a world: x's own replaced
+abbrev calmed : (x : Channel) → Part x → Part x
+calmed peripheral p = p
+calmed wires p = withLines p (dropped (p .lines))
+
+abbrev quieted : Channel → World → World
+quieted x w = withState w (put x (calmed x (part x (w .state))) (w .state))
+
+quieted-quiet : (x : Channel) (w : World) → Quiet x (quieted x w)
+quieted-quiet peripheral w e = absurd (true≢false (sym e))
+quieted-quiet wires w e = no-bits
+
+quieted-alike : (x : Channel) (w : World) → Alike x w (quieted x w)
+quieted-alike x w = turned (record { state = put-own x (calmed x (part x (w .state))) (w .state); stores = λ y e. refl; room = λ r. refl })
+
 -- ---- runs: a run shows what it shows without x's calls
 
 same-room : (x : Channel) (w v : World) → Alike x w v → (c : Call) → isCallOf x c ≡ false → SameRoom w v c
@@ -469,18 +620,21 @@ self-room w (lend write read) = tt
 -- what remains of a call: nothing, or one call that is not x's and leaves the same of what is not x's
 data Left (x : Channel) (w : World) (c : Call) : List Call → Type 0 where
   nothing : Alike x (step w c .next) w → Left x w c []
-  one : (d : Call) → isCallOf x d ≡ false → Alike x (step w c .next) (step w d .next) → Left x w c (d ∷ [])
+  one : (d : Call) → isCallOf x d ≡ false → (edgeRefuses w c ≡ false → edgeRefuses w d ≡ false) → Alike x (step w c .next) (step w d .next)
+      → Left x w c (d ∷ [])
 
 left-of : (x : Channel) (w : World) (c : Call) → Left x w c (remaining x w c)
 left-of x w c = by (isCallOf x c) refl
   where
     fallen : (t : Bool) → Alike x (step w c .next) (pick t (wiped w) w) → Left x w c (pick t (reset platformReset ∷ []) [])
-    fallen true h = one (reset platformReset) refl (subst (λ (o : Outcome). Alike x (step w c .next) (o .next)) (sym (reset-is w platformReset)) h)
+    fallen true h =
+        one (reset platformReset) refl (λ e. and-false (eqb (step w (reset platformReset) .number) 2))
+        (subst (λ (o : Outcome). Alike x (step w c .next) (o .next)) (sym (reset-is w platformReset)) h)
     fallen false h = nothing h
 
     by : (t : Bool) → isCallOf x c ≡ t → Left x w c (pick t (pick (pltrstFalls w c) (reset platformReset ∷ []) []) (c ∷ []))
-    by true e = fallen (pltrstFalls w c) (own-call x w (both w w c refl (self-room w c)) e)
-    by false e = one c e (self x (step w c .next))
+    by true e = fallen (pltrstFalls w c) (own-call x w (both w w c refl (self-room w c) (self-hindrance w c)) e)
+    by false e = one c e (λ f. f) (self x (step w c .next))
 
 -- a call that is not x's
 remaining-other : (x : Channel) (w : World) (c : Call) → isCallOf x c ≡ false → remaining x w c ≡ c ∷ []
@@ -495,19 +649,26 @@ module _ (x : Channel) (w : World) (c : Call) (cs : List Call) where
   unfolding seeing
   seeing-as e = ap (λ (z : List Call). map (λ (d : Call). seen x (step w d)) z ++ seeing x (step w c .next) cs) e
 
-sifted : (x : Channel) (cs : List Call) (w v : World) → Alike x w v → RunsAlike x (Alike x) w v cs (remains x w cs)
+-- a run against what remains of it from a quiet world
+sifted : (x : Channel) (cs : List Call) (w v : World) → Alike x w v → Unhindered x w cs → Quiet x v → RunsAlike x (Alike x) w v cs (remains x w cs)
 unfolding remains seeing run
-sifted x [] w v h = record { calls = refl; after = h }
-sifted x (c ∷ cs) w v h = go (remaining x w c) refl (left-of x w c) (sifted x cs)
+sifted x [] w v h f q = record { calls = refl; after = h }
+sifted x (c ∷ cs) w v h f q = go (remaining x w c) refl (left-of x w c) (sifted x cs)
   where
-    go : (l : List Call) → remaining x w c ≡ l → Left x w c l → ((w v : World) → Alike x w v → RunsAlike x (Alike x) w v cs (remains x w cs))
-        → RunsAlike x (Alike x) w v (c ∷ cs) (remains x w (c ∷ cs))
+    Rest : Type 0
+    Rest = (w v : World) → Alike x w v → Unhindered x w cs → Quiet x v → RunsAlike x (Alike x) w v cs (remains x w cs)
+
+    later : Unhindered x (step w c .next) cs
+    later i = tail-without edgeRefuses w c cs (f i)
+
+    go : (l : List Call) → remaining x w c ≡ l → Left x w c l → Rest → RunsAlike x (Alike x) w v (c ∷ cs) (remains x w (c ∷ cs))
     go l e (nothing a) rest =
-        let r = rest (step w c .next) v (joined a h) in
+        let r = rest (step w c .next) v (joined a h) later q in
         subst (RunsAlike x (Alike x) w v (c ∷ cs)) (sym (remains-as x w c cs e)) (record { calls = seeing-as x w c cs e ∙ r .calls; after = r .after })
-    go l e (one d n a) rest =
-        let o = other-call x w v h (both w v d (h .state .config) (same-room x w v h d n)) n in
-        let r = rest (step w c .next) (step v d .next) (joined a (o .next)) in
+    go l e (one d n g a) rest =
+        let free = same-hindrance x w v h q d (λ i. g (head-without edgeRefuses w c cs (f i))) in
+        let o = other-call x w v h (both w v d (h .state .config) (same-room x w v h d n) free) n in
+        let r = rest (step w c .next) (step v d .next) (joined a (o .next)) later (quiet-next x v q d n) in
         subst (RunsAlike x (Alike x) w v (c ∷ cs)) (sym (remains-as x w c cs e))
         (record {
           calls =
@@ -519,9 +680,12 @@ sifted x (c ∷ cs) w v h = go (remaining x w c) refl (left-of x w c) (sifted x 
         })
 
 pub none-tells : NoneTells
-none-tells x w v cs ds h e =
-    let a = sifted x cs w v h in
-    let b = subst (RunsAlike x (Alike x) v v ds) (sym e) (sifted x ds v v (self x v)) in
+none-tells x w v cs ds h f g e =
+    let u = quieted x v in
+    let k = quieted-alike x v in
+    let q = quieted-quiet x v in
+    let a = sifted x cs w u (joined h k) f q in
+    let b = subst (RunsAlike x (Alike x) v u ds) (sym e) (sifted x ds v u k g q) in
     record { calls = a .calls ∙ sym (b .calls); after = joined (a .after) (turned (b .after)) }
 
 -- ---- P22 and its mirror
@@ -543,7 +707,8 @@ from-wires h =
     }
 
 pub wires-apart : WiresApart
-wires-apart w v cs ds h e = let r = none-tells wires w v cs ds (to-wires h) e in record { calls = r .calls; after = from-wires (r .after) }
+wires-apart w v cs ds h f g e =
+    let r = none-tells wires w v cs ds (to-wires h) (λ i. f) (λ i. g) e in record { calls = r .calls; after = from-wires (r .after) }
 
 -- of channel 0's own calls none lowers PLTRST#
 first-opcode : (b : List ℕ) → isCommandOf peripheral b ≡ true → isOf peripheral (byte b 0) ≡ true
@@ -579,5 +744,8 @@ from-peripheral h = record { state = h .state; room = h .room }
 
 pub peripheral-apart : PeripheralApart
 peripheral-apart w v cs ds h e =
-    let r = none-tells peripheral w v cs ds (to-peripheral h) (remains-others cs w ∙ e ∙ sym (remains-others ds v)) in
+    let r = none-tells peripheral w v cs ds (to-peripheral h) (free w cs) (free v ds) (remains-others cs w ∙ e ∙ sym (remains-others ds v)) in
     record { calls = r .calls; after = from-peripheral (r .after) }
+  where
+    free : (u : World) (l : List Call) → Unhindered peripheral u l
+    free u l i = absurd (true≢false (sym i))

@@ -18,10 +18,10 @@ use Rattle.rules.specs.Statements.Both as T
 use Rattle.rules.specs.Statements.Both.{Both, BothCases}
 use Rattle.rules.specs.Statements.Plans as N
 use Rattle.rules.specs.Statements.Plans.{Silent, Planned}
-use Rattle.rules.specs.Statements.Cases.{Case, idle, shown, acted, settles, forbidden, configured, lowered, cleared, wiped, lent, Cases}
+use Rattle.rules.specs.Statements.Cases.{Case, idle, shown, acted, settles, forbidden, hindered, configured, lowered, cleared, wiped, lent, Cases}
 use Rattle.rules.specs.Proofs.Plans.{plans, exchange-both}
 pub use Rattle.rules.specs.Proofs.Plans.{did, settled}
-use Rattle.rules.specs.declared.Plan.{Plan}
+use Rattle.rules.specs.Rules.Plan.{Plan}
 
 too-short : Silent 10
 too-short = record { least = omega arith; most = omega arith }
@@ -37,7 +37,8 @@ exchange-case w b r (N.shows q) = shown q
 exchange-case w b r (N.acts k o x e d f) = acted k o x e d f
 exchange-case w b r (N.lowers o x e d) = lowered o x e d
 exchange-case w b r (N.forbids a v e f) = forbidden a v e f
-exchange-case w b r (N.configures a v e f) = configured a v e f
+exchange-case w b r (N.hinders a v e f g) = hindered a v e f g
+exchange-case w b r (N.configures a v e f g) = configured a v e f g
 exchange-case w b r (N.clears e) = cleared e
 
 pub cases : Cases
@@ -80,8 +81,8 @@ either {w} {v} {c} {a} {b} {a′} {b′} t u e f g = subst (λ (z : Bool). Both 
 
 pub both : BothCases
 unfolding S.step
-both w v (reset r) c m = T.wiped
-both w v (exchange b r) c m = either (shortStores r w) (shortStores r v) m (T.idle 10 (omega arith)) (λ e. exchange-both w v b r e c)
-both w v (board k o) c m = either (shortFor k o w) (shortFor k o v) m (T.idle 10 (omega arith)) (λ e. T.settles k o e)
-both w v (short state k) c m = T.idle 10 (omega arith)
-both w v (lend write read) c m = T.lent
+both w v (reset r) c m i = T.wiped
+both w v (exchange b r) c m i = either (shortStores r w) (shortStores r v) m (T.idle 10 (omega arith)) (λ e. exchange-both w v b r e i c)
+both w v (board k o) c m i = either (shortFor k o w) (shortFor k o v) m (T.idle 10 (omega arith)) (λ e. T.settles k o e)
+both w v (short state k) c m i = T.idle 10 (omega arith)
+both w v (lend write read) c m i = T.lent

@@ -1,6 +1,6 @@
 -- Every channel is lawful, from its own law.
 use Rattle.registers.specs.declared.Config.{Config}
-use Rattle.state.specs.declared.State.{State}
+use Rattle.state.specs.State.{State}
 use Rattle.rules.specs.Rules.Channel.{Channel, peripheral, wires, Part, Act, Board, Change, part, settle}
 use Rattle.rules.specs.Statements.Plans.{Did, Settled}
 use Rattle.rules.specs.Statements.Channels.{Acts, Settles, Lawful}

@@ -14,14 +14,14 @@ use Rattle.registers.specs.Laws.{field-kept, field-written, written010, written
 use Rattle.registers.specs.declared.Config.{Config}
 use Rattle.command.specs.declared.Command.the-variants as C
 use Rattle.state.specs.Status.{status}
-use Rattle.state.specs.declared.State.{State}
+use Rattle.state.specs.State.{State}
 use Rattle.rules.specs.Rules.Peripheral as P
 use Rattle.rules.specs.Rules.Wires as W
 use Rattle.rules.specs.Rules.Channel.{Channel, peripheral, wires, Part, Board, part}
 use Rattle.rules.specs.Rules.Reply.{replyBytes, closed}
 use Rattle.rules.specs.Rules.Step.{World, Call, reset, exchange, board, short, lend, Outcome, step, performed}
 use Rattle.rules.specs.Statements.Plans as N
-use Rattle.rules.specs.Statements.Cases.{Case, idle, shown, acted, settles, forbidden, configured, lowered, cleared, wiped, lent}
+use Rattle.rules.specs.Statements.Cases.{Case, idle, shown, acted, settles, forbidden, hindered, configured, lowered, cleared, wiped, lent}
 use Rattle.rules.specs.Statements.Fields.{byte, registerAt, registerValue}
 use Rattle.rules.specs.Statements.Sizes.{isEnabled}
 use Rattle.rules.specs.Statements.Events.{enablesAt}
@@ -180,7 +180,8 @@ read-case w (shown {b} (N.register a e)) h z =
 read-case w (acted {b} k o x e d f) h z = absurd (not-ours w k b h (above k .at21) (command-own k (w .state) b o e))
 read-case w (settles k o x n d) h z = absurd (omega arith)
 read-case w (forbidden a v e f) h z = absurd (omega arith)
-read-case w (configured {b} a v e f) h z = absurd (omega (arith, R.reads (w .state) b (C.SetConfiguration a v) e .opcode))
+read-case w (hindered a v e f g) h z = absurd (omega arith)
+read-case w (configured {b} a v e f g) h z = absurd (omega (arith, R.reads (w .state) b (C.SetConfiguration a v) e .opcode))
 read-case w (lowered {b} o x e d) h z = absurd (not-ours w wires b h (above wires .at21) (command-own wires (w .state) b o e))
 read-case w (cleared {b} e) h z = absurd (omega (arith, R.reads (w .state) b C.Reset e))
 read-case w wiped h z = absurd (omega arith)
@@ -198,6 +199,8 @@ board-row w peripheral (P.answer serial success bytes) h = absurd (true≢false 
 board-row w peripheral (P.takeWrite report) h = absurd (true≢false (sym h))
 board-row w wires (W.setWire index bit value) h = absurd (true≢false (sym h))
 board-row w wires (W.readWire index bit) h = refl
+board-row w wires (W.setLine line level) h = absurd (true≢false (sym h))
+board-row w wires (W.pulseLine line) h = absurd (true≢false (sym h))
 
 same-row : (w : World) (c : Call) → onlyReads c ≡ true → effect w c ≡ w
 same-row w (reset r) h = absurd (true≢false (sym h))

@@ -12,15 +12,16 @@ use Rattle.registers.specs.Registers.{writeAt}
 use Rattle.registers.specs.Laws.{bit-zero, by-address, write-other}
 use Rattle.registers.specs.declared.Config.{Config}
 use Rattle.wires.specs.Groups.{putPairs}
+use Rattle.wires.specs.Senders.{withGroups}
 use Rattle.command.specs.declared.Command.the-variants as C
-use Rattle.state.specs.declared.State.{State}
+use Rattle.state.specs.State.{State}
 use Rattle.rules.specs.Rules.Reset.{Reset, start, espiReset, platformReset}
 use Rattle.rules.specs.Rules.Channel.{Channel, peripheral, wires, Part, Command, Board, Change, nextOf, outOf, actOf, resetFollows, given, enableEdge, part, put, on, channelNumber, same}
 use Rattle.rules.specs.Rules.Lift.{lift}
 use Rattle.rules.specs.Rules.Exchange.{reconfigured, wasReset}
 use Rattle.rules.specs.Rules.Reply.{keptBytes}
 use Rattle.rules.specs.Rules.Step.{World, Call, Outcome, step, withState, performed, served}
-use Rattle.rules.specs.Statements.Cases.{Did, Settled, commandOf, Admits, status, register, Case, idle, shown, acted, settles, forbidden, configured, lowered, cleared, wiped, lent}
+use Rattle.rules.specs.Statements.Cases.{Did, Settled, commandOf, Admits, status, register, Case, idle, shown, acted, settles, forbidden, hindered, configured, lowered, cleared, wiped, lent}
 use Rattle.rules.specs.Statements.Fields.{byte, pairs}
 use Rattle.rules.specs.Statements.Sizes.{isOf, isEnabled}
 use Rattle.rules.specs.Statements.Events.{accepted, enablesAt, lowersPltrst, lowering}
@@ -139,7 +140,7 @@ module _ (w : World) where
   -- the packet's wires, and then the reset
   lowered-case : (b : List ℕ) (v : Part wires) → Lowered s b v → withState w (wasReset platformReset (put wires v s)) ≡ exchangeEffect w (byte b 0) b
   lowered-case b v l =
-      let row : commandPart wires (s .config) (s .wires) b ≡ putPairs (s .wires) (pairs b) = rw (l .opcode) in
+      let row : commandPart wires (s .config) (s .wires) b ≡ withGroups (s .wires) (putPairs (s .wires .groups) (pairs b)) = rw (l .opcode) in
       ap (λ (z : Part wires). withState w (wasReset platformReset (put wires z s))) (l .wires ∙ sym row)
       ∙ reset-row (commandEffect wires w b) platformReset
       ∙ taken (resetEffect (commandEffect wires w b) platformReset) (commandEffect wires w b) (l .lowers) refl
@@ -164,7 +165,8 @@ module _ (w : World) where
   becomes (acted {b} k o x e d f) z = command-case k b o x e (command-row k s b o x e d) (unlowered k s b o x e d f) z
   becomes (settles k o x h d) z = board-case k o x (board-row k (s .config) (part k s) o x d) z
   becomes (forbidden a v e f) z = absurd (omega arith)
-  becomes (configured {b} a v e f) z =
+  becomes (hindered a v e f g) z = absurd (omega arith)
+  becomes (configured {b} a v e f g) z =
       let r = reads s b (C.SetConfiguration a v) e in
       plainly _ ∙ ap (withState w) (written-row s v a ∙ rw (r .address, r .value)) ∙ at b (r .opcode)
   becomes (lowered {b} o x e d) z = plainly _ ∙ lowered-case b (x .next) (lowered-bytes s b d (reads s b (C.Wires o) e))
@@ -230,7 +232,8 @@ module _ (w : World) (k : Channel) where
   framed (acted {b} j o x e d f) h l = frame j (nextOf j x) _ (one-channel k j (byte b 0) h (command-own j (w .state) b o e)) refl
   framed (settles j o x n d) h l = frame j (nextOf j x) _ h refl
   framed (forbidden a v e f) h l = stays _ refl
-  framed (configured {b} a v e f) h l = absurd (not-ours b (reads (w .state) b (C.SetConfiguration a v) e .opcode) (above k .at22) h)
+  framed (hindered a v e f g) h l = stays _ refl
+  framed (configured {b} a v e f g) h l = absurd (not-ours b (reads (w .state) b (C.SetConfiguration a v) e .opcode) (above k .at22) h)
   framed (lowered {b} o x e d) h l =
       absurd (true≢false (sym (lowered-bytes (w .state) b d (reads (w .state) b (C.Wires o) e) .lowers) ∙ l))
   framed (cleared {b} e) h l = absurd (not-ours b (reads (w .state) b C.Reset e) (above k .atFF) h)

@@ -11,7 +11,7 @@ use Rattle.registers.specs.Registers.{on0, on1, writeAt}
 use Rattle.registers.specs.Laws.{by-address, on0-written, on1-written}
 use Rattle.registers.specs.declared.Config.{Config}
 use Rattle.wires.specs.Groups.{putPairs, readWire}
-use Rattle.state.specs.declared.State.{State}
+use Rattle.state.specs.State.{State}
 use Rattle.rules.specs.Rules.Channel.{Channel, peripheral, wires, on}
 use Rattle.rules.specs.Rules.Step.{World, Call, step}
 use Rattle.rules.specs.Statements.Events.{enablesAt, disables, lowersPltrst, ends, unended}
@@ -69,7 +69,7 @@ disabling k s b a v h =
 
 -- PUT_VWIRE alone lowers it
 pub no-lowering : (s : State) (b : List ℕ) → eqb (byte b 0) 0x04 ≡ false → lowersPltrst s b ≡ false
-no-lowering s b e = ap (λ (t : Bool). t && (eqb (readWire (s .wires) 3 1) 1 && eqb (readWire (putPairs (s .wires) (pairs b)) 3 1) 0)) e
+no-lowering s b e = ap (λ (t : Bool). t && (eqb (readWire (s .wires .groups) 3 1) 1 && eqb (readWire (putPairs (s .wires .groups) (pairs b)) 3 1) 0)) e
 
 -- an exchange that ends nothing: no disabling, and PLTRST# does not go low
 pub no-ending : (k : Channel) (s : State) (b : List ℕ) → eqb (byte b 0) 0x22 ≡ false → lowersPltrst s b ≡ false → (disables k s b || lowersPltrst s b) ≡ false

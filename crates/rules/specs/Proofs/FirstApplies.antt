@@ -9,7 +9,7 @@ use lib.Dec.{eqb, ltb, leb}
 use lib.ListN.{length, getD}
 use borrow.Author.Tests.{lt-ltb, le-ltb, ltb-true, ltb-false}
 use Rattle.base.specs.Pick.{pick}
-use Rattle.registers.specs.Registers.{crcChecked, forbiddenAt, forbidden008}
+use Rattle.registers.specs.Registers.{bits, crcChecked, forbiddenAt, forbidden008}
 use Rattle.registers.specs.declared.Config.{Config}
 use Rattle.command.specs.Rows.{rowOf}
 use Rattle.command.specs.Needs.{channelOn, lengthOf, groupCount, allFF, wholeWith, needData}
@@ -24,7 +24,7 @@ use Rattle.command.specs.declared.Listed.the-variants.{As, Unlisted}
 use Rattle.command.specs.declared.Need.{Need}
 use Rattle.command.specs.declared.Need.the-variants.{Whole}
 use Rattle.command.specs.declared.Command.{Command}
-use Rattle.state.specs.declared.State.{State}
+use Rattle.state.specs.State.{State}
 use Rattle.state.specs.Facts.{sound-wires}
 use Rattle.state.specs.Sound.{sound}
 use Rattle.rules.specs.Rules.Channel.{Channel, peripheral, wires, on}
@@ -37,6 +37,7 @@ use Rattle.rules.specs.Statements.Plans.{Admits, Planned}
 use Rattle.rules.specs.Statements.Reads.{Writes}
 use Rattle.rules.specs.Statements.Rows.{firstOf, noneApplies}
 use Rattle.rules.specs.Statements.Sizes.{isEnabled}
+use Rattle.rules.specs.Statements.Wires.Rows.{someLine}
 use Rattle.rules.specs.Statements.FirstApplies.{valueForbidden, formRows, laterRows, commandRows}
 use Rattle.rules.specs.Proofs.Fields.{by-opcode, one}
 use Rattle.rules.specs.Proofs.Reads.{one-of, Wide, width-as, reads}
@@ -47,7 +48,7 @@ use Rattle.rules.specs.Proofs.Peripheral.Rows as P
 use Rattle.rules.specs.Proofs.Wires.Rows as W
 use Rattle.rules.specs.Proofs.Wires.Lowering.{lowers-did, lowers-accepts}
 use Rattle.rules.specs.declared.Out.{Out}
-use Rattle.rules.specs.declared.Plan.{Plan}
+use Rattle.rules.specs.Rules.Plan.{Plan}
 
 -- ---- the decoder's tests in a chain
 
@@ -196,7 +197,7 @@ form-number : (c : Config) (b : List ℕ) → numberIn (admit (channelsOf c) (cr
 form-number c [] = chain c []
 form-number c (op ∷ r) = chain c (op ∷ r) ∙ at-opcode c r op
 
--- ---- SET_CONFIGURATION: a forbidden value
+-- ---- SET_CONFIGURATION: a forbidden value, an edge that waits
 
 forbidden-as : (a v : ℕ) → forbiddenAt a v ≡ valueForbidden a v
 forbidden-as a v =
@@ -215,18 +216,29 @@ module _ (s : State) (b : List ℕ) where
       go [] q = absurd (omega arith)
       go (x ∷ r) q = rw q (sym (h r))
 
-  set-rows : byte b 0 ≡ 0x22 → firstOf (laterRows s b) ≡ pick (valueForbidden (registerAt b) (registerValue b)) 2 0
+  -- an edge stands against the write of these bytes
+  abbrev edgeHolds : List ℕ → Bool
+  edgeHolds l =
+      eqb (registerAt l) 0x020
+      && (eqb (bits 0 0 (registerValue l)) 1 && (eqb (bits 21 16 (registerValue l)) 0 && someLine (s .wires .lines .edges)))
+
+  set-rows : byte b 0 ≡ 0x22 → firstOf (laterRows s b) ≡ pick (valueForbidden (registerAt b) (registerValue b)) 2 (pick (edgeHolds b) 2 0)
   set-rows e = go b e
     where
-      go : (l : List ℕ) → byte l 0 ≡ 0x22 → firstOf (laterRows s l) ≡ pick (valueForbidden (registerAt l) (registerValue l)) 2 0
+      go : (l : List ℕ) → byte l 0 ≡ 0x22 → firstOf (laterRows s l) ≡ pick (valueForbidden (registerAt l) (registerValue l)) 2 (pick (edgeHolds l) 2 0)
       go [] q = absurd (omega arith)
       go (x ∷ r) q = rw q refl
 
   value-as : (a v : ℕ) → Writes b a v → valueForbidden (registerAt b) (registerValue b) ≡ forbiddenAt a v
   value-as a v h = rw (h .address, h .value) (sym (forbidden-as (registerAt b) (registerValue b)))
 
-  set-number : (a v : ℕ) (t : Bool) → Writes b a v → forbiddenAt a v ≡ t → pick t 2 0 ≡ firstOf (laterRows s b)
-  set-number a v t h e = sym (set-rows (h .opcode) ∙ ap (λ (u : Bool). pick u 2 0) (value-as a v h ∙ e))
+  edge-as : (a v : ℕ) → Writes b a v → edgeHolds b ≡ E.hindered s a v
+  edge-as a v h = rw (h .address, h .value) (sym (W.hindered-as s (registerValue b) (registerAt b)))
+
+  set-number : (a v : ℕ) (t u : Bool) → Writes b a v → forbiddenAt a v ≡ t → E.hindered s a v ≡ u → pick t 2 (pick u 2 0) ≡ firstOf (laterRows s b)
+  set-number a v t u h e f =
+      sym (set-rows (h .opcode) ∙ ap (λ (x : Bool). pick x 2 (pick (edgeHolds b) 2 0)) (value-as a v h ∙ e)
+      ∙ ap (λ (x : Bool). pick t 2 (pick x 2 0)) (edge-as a v h ∙ f))
 
   -- an admitted command has passed the rows of form
   admitted : {o : Command} {n : ℕ} → Admits s b o → n ≡ firstOf (laterRows s b) → n ≡ firstOf (commandRows s b)
@@ -242,8 +254,9 @@ module _ (s : State) (b : List ℕ) where
   plan-number h (N.shows (N.register a e)) = admitted e (other-rows 0x21 (λ _. refl) (omega arith) (reads s b _ e .opcode))
   plan-number h (N.acts peripheral o x e d f) = admitted e (P.act-number s b (reads s b _ e) d)
   plan-number h (N.acts wires o x e d f) = admitted e (W.act-number s (sound-wires s h) b (reads s b _ e) d)
-  plan-number h (N.forbids a v e f) = admitted e (set-number a v true (reads s b _ e) f)
-  plan-number h (N.configures a v e f) = admitted e (set-number a v false (reads s b _ e) f)
+  plan-number h (N.forbids a v e f) = admitted e (set-number a v true (E.hindered s a v) (reads s b _ e) f refl)
+  plan-number h (N.hinders a v e f g) = admitted e (set-number a v false true (reads s b _ e) f g)
+  plan-number h (N.configures a v e f g) = admitted e (set-number a v false false (reads s b _ e) f g)
   plan-number h (N.lowers o x e d) =
       admitted e (sym (ap (λ (out : Out). out .number) (lowers-accepts d)) ∙ W.act-number s (sound-wires s h) b (reads s b _ e) (lowers-did d))
   plan-number h (N.clears e) = admitted e (other-rows 0xFF (λ _. refl) (omega arith) (reads s b _ e))

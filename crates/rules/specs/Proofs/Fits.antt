@@ -6,10 +6,10 @@ use mathlib.Core.Path.{_≡_, subst}
 use native.Mathlib.Omega.{arith}
 use lib.ListN.{length, drop, length-take}
 use Rattle.wires.specs.Sent.{packet-length}
-use Rattle.wires.specs.declared.Wires.{Wires}
+use Rattle.wires.specs.Senders.{AllWires}
 use Rattle.state.specs.Sound.{sound}
 use Rattle.state.specs.Facts.{sound-config, sound-request, sound-wires}
-use Rattle.state.specs.declared.State.{State}
+use Rattle.state.specs.State.{State}
 use Rattle.rules.specs.Rules.Out.{responseByte}
 use Rattle.rules.specs.Rules.Peripheral as P₀
 use Rattle.rules.specs.Rules.Channel.{Channel, peripheral, wires, Command, Change, outOf, part, actOf}
@@ -31,19 +31,19 @@ use Rattle.rules.specs.declared.Say.{Say}
 use Rattle.rules.specs.declared.Say.the-variants as S
 use Rattle.rules.specs.declared.Reply.{Reply}
 use Rattle.rules.specs.declared.Reply.the-variants.{Silent, Said}
-use Rattle.rules.specs.declared.Plan.{Plan}
+use Rattle.rules.specs.Rules.Plan.{Plan}
 use Rattle.rules.specs.declared.PeripheralChange.{PeripheralChange}
 
 -- ---- the reply's length
 
-body-length : (b : Body) (w : Wires) (reads : List ℕ) → BodyFits b w → length (bodyBytes b w reads) ≤ 259
+body-length : (b : Body) (w : AllWires) (reads : List ℕ) → BodyFits b w → length (bodyBytes b w reads) ≤ 259
 body-length B.Nothing w reads f = omega arith
 body-length (B.Word v) w reads f = omega arith
 body-length (B.Piece c) w reads f = omega (arith, length-take (c .length) (drop (c .from) reads), f .most)
 body-length (B.Groups p) w reads f = omega (arith, packet-length w p, f .most)
 
 -- "reply at least 263 bytes"
-pub reply-length : (r : Reply) (w : Wires) (reads : List ℕ) → ReplyFits r w → length (replyBytes r w reads) ≤ 263
+pub reply-length : (r : Reply) (w : AllWires) (reads : List ℕ) → ReplyFits r w → length (replyBytes r w reads) ≤ 263
 unfolding replyBytes
 reply-length Silent w reads f = omega arith
 reply-length (Said response body status) w reads f =
@@ -51,7 +51,7 @@ reply-length (Said response body status) w reads f =
 
 -- ---- an exchange's plan
 
-with-status : (say : Say) (word : ℕ) (w : Wires) → SayFits say w → ReplyFits (withStatus say word) w
+with-status : (say : Say) (word : ℕ) (w : AllWires) → SayFits say w → ReplyFits (withStatus say word) w
 with-status S.Silent word w f = f
 with-status (S.Said response body) word w f = f
 
@@ -72,7 +72,8 @@ module _ (s : State) (h : sound s ≡ true) where
   planned-fits {b} (N.shows (N.register a e)) = record { reply = tt; kept = tt }
   planned-fits {b} (N.acts k o x e d f) = lift-fits k s x (length b) (acts-fit b k o x e d)
   planned-fits {b} (N.forbids a v e f) = record { reply = tt; kept = tt }
-  planned-fits {b} (N.configures a v e f) = record { reply = tt; kept = tt }
+  planned-fits {b} (N.hinders a v e f g) = record { reply = tt; kept = tt }
+  planned-fits {b} (N.configures a v e f g) = record { reply = tt; kept = tt }
   planned-fits {b} (N.lowers o x e d) = record { reply = tt; kept = tt }
   planned-fits {b} (N.clears e) = record { reply = tt; kept = tt }
 

@@ -6,11 +6,11 @@ use borrow.Author.Tests.{eq-eqb, ne-eqb, eqb-true, eqb-false}
 use Rattle.registers.specs.declared.Config.{Config}
 use Rattle.state.specs.Status.{status}
 use Rattle.state.specs.Parts.{by-channel}
-use Rattle.state.specs.declared.State.{State}
+use Rattle.state.specs.State.{State}
 use Rattle.rules.specs.Rules.Channel.{Channel, peripheral, wires, Part, change, nextOf, outOf, part, put, each, channelNumber, same}
 use Rattle.rules.specs.Rules.Lift.{lift, withStatus}
 use Rattle.rules.specs.declared.Out.{Out}
-use Rattle.rules.specs.declared.Plan.{Plan}
+use Rattle.rules.specs.Rules.Plan.{Plan}
 
 -- what goes out, with a state and its status
 abbrev pub planned : State → Out → Plan

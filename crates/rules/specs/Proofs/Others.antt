@@ -5,7 +5,7 @@ use mathlib.Core.List.{List, [], _∷_}
 use mathlib.Core.Path.{_≡_, refl, sym, ap, _∙_}
 use lib.Dec.{eqb}
 use Rattle.base.specs.Pick.{pick}
-use Rattle.state.specs.declared.State.{State}
+use Rattle.state.specs.State.{State}
 use Rattle.rules.specs.Rules.Out.{fatal, number, keep}
 use Rattle.rules.specs.Rules.Channel.{Channel, peripheral, wires, Part, Command, Act, Board, Change, outOf, ownKept, same}
 use Rattle.rules.specs.Statements.Cases.{commandOf, Admits}

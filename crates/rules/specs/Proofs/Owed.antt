@@ -21,7 +21,7 @@ use Rattle.peripheral.specs.declared.Np.{Np}
 use Rattle.peripheral.specs.declared.Np.the-variants.{Free, Waiting, Ready, Failed}
 use Rattle.peripheral.specs.declared.Peripheral.{Peripheral}
 use Rattle.state.specs.Status.{status}
-use Rattle.state.specs.declared.State.{State}
+use Rattle.state.specs.State.{State}
 use Rattle.state.specs.Facts.{sound-off}
 use Rattle.state.specs.Sound.{Sound}
 use Rattle.rules.specs.Rules.Peripheral as P₀

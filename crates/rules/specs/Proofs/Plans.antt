@@ -1,10 +1,10 @@
 -- The plan of an exchange: what stands above the channels is unfolded here, a channel's decisions in its own law.
 use Prim.Native.Nat.{ℕ}
 use mathlib.Core.List.{List}
-use mathlib.Core.Path.{_≡_, refl, subst}
+use mathlib.Core.Path.{_≡_, refl, sym, subst}
 use native.Mathlib.Omega.{arith}
 use Rattle.base.specs.Pick.{pick-ind, pick}
-use Rattle.registers.specs.Registers.{crcChecked, forbiddenAt}
+use Rattle.registers.specs.Registers.{crcChecked, forbiddenAt, writeAt}
 use Rattle.registers.specs.declared.Config.{Config}
 use Rattle.command.specs.Decode.{admit}
 use Rattle.command.specs.Facts.{refused-number}
@@ -12,21 +12,22 @@ use Rattle.command.specs.declared.Command as C₀
 use Rattle.command.specs.declared.Command.the-variants as C
 use Rattle.command.specs.declared.Decoded.{Decoded}
 use Rattle.command.specs.declared.Decoded.the-variants.{Known, Refused}
-use Rattle.state.specs.declared.State.{State}
+use Rattle.state.specs.State.{State}
 use Rattle.rules.specs.Rules.Channel as N
 use Rattle.rules.specs.Rules.Channel.{Channel, peripheral, wires, Part, Command, Act, Board, actOf, acting}
+use Rattle.rules.specs.Rules.Lift.{nonFatal, acceptThen}
 use Rattle.rules.specs.Rules.Exchange as E
-use Rattle.rules.specs.Rules.Exchange.{channelsOf, byDecoded}
+use Rattle.rules.specs.Rules.Exchange.{channelsOf, hindered, byDecoded}
 use Rattle.rules.specs.Proofs.Peripheral as P
 use Rattle.rules.specs.Proofs.Wires as W
-use mathlib.Core.Bool.{Bool, true, false}
+use mathlib.Core.Bool.{Bool, true, false, true≢false}
 use Rattle.base.specs.Bytes.{over}
 use Rattle.rules.specs.Rules.Reply.{replyBytes}
 use Rattle.rules.specs.Rules.Step.{World, exchange, shortStores, performed}
-use Rattle.rules.specs.declared.Plan.{Plan}
+use Rattle.rules.specs.Rules.Plan.{Plan}
 use Rattle.rules.specs.Statements.Both as T
-use Rattle.rules.specs.Statements.Both.{Both}
-use Rattle.rules.specs.Statements.Plans.{Did, Settled, commandOf, Admits, Planned, turned, shows, acts, lowers, forbids, configures, clears, status, register, Plans}
+use Rattle.rules.specs.Statements.Both.{Both, SameHindrance}
+use Rattle.rules.specs.Statements.Plans.{Did, Settled, commandOf, Admits, Planned, turned, shows, acts, lowers, forbids, hinders, configures, clears, status, register, Plans}
 
 pub did : (k : Channel) (c : Config) (p : Part k) (a : Act k) → Did k c p a (acting k c p a)
 did peripheral = P.did
@@ -39,7 +40,8 @@ settled wires = W.settles
 module _ (s : State) (b : List ℕ) where
   set-planned : (a v : ℕ) → Admits s b (C.SetConfiguration a v) → Planned s b (E.setConfiguration s a v)
   unfolding E.setConfiguration
-  set-planned a v e = pick-ind (Planned s b) (forbiddenAt a v) (forbids a v e) (configures a v e)
+  set-planned a v e =
+      pick-ind (Planned s b) (forbiddenAt a v) (forbids a v e) (λ f. pick-ind (Planned s b) (hindered s a v) (hinders a v e f) (configures a v e f))
 
   acted-planned : (k : Channel) (o : Command k) → Admits s b (commandOf k o) → Planned s b (E.acted k s (actOf k (s .config) o b))
   acted-planned peripheral o e = acts peripheral o _ e (did peripheral _ _ _) refl
@@ -71,16 +73,38 @@ unfolding E.exchange E.decide
 plan-admitted peripheral s b o e = rw e
 plan-admitted wires s b o e = rw e
 
+-- .. and a write by its rule
+pub plan-write : (s : State) (b : List ℕ) (a v : ℕ) → Admits s b (C.SetConfiguration a v) → E.exchange s b ≡ E.setConfiguration s a v
+unfolding E.exchange E.decide
+plan-write s b a v e = rw e
+
+-- one that an edge stands against is number 2
+pub hindered-number : (s : State) (a v : ℕ) → hindered s a v ≡ true → E.setConfiguration s a v .number ≡ 2
+unfolding E.setConfiguration
+hindered-number s a v = go (forbiddenAt a v) (hindered s a v) _
+  where
+    go : (t u : Bool) (p : Plan) → u ≡ true → pick t (nonFatal s) (pick u (nonFatal s) p) .number ≡ 2
+    go true u p e = refl
+    go false true p e = refl
+    go false false p e = absurd (true≢false (sym e))
+
 -- ---- the same command in two worlds of one configuration
 
-module _ (w v : World) (b r : List ℕ) (room : shortStores r w ≡ false) where
+module _ (w v : World) (b r : List ℕ) (room : shortStores r w ≡ false) (same : SameHindrance w v (exchange b r)) where
   abbrev Twice : Plan → Plan → Type 0
   Twice p q = Both w v (exchange b r) (performed w b p) (performed v b q)
 
   set-both : (a n : ℕ) → Admits (w .state) b (C.SetConfiguration a n) → Twice (E.setConfiguration (w .state) a n) (E.setConfiguration (v .state) a n)
   unfolding E.setConfiguration
-  set-both a n e = chosen (forbiddenAt a n) _ _ _ _ T.forbidden (T.configured a n e)
+  set-both a n e =
+      subst
+      (λ (t : Bool). Twice (E.setConfiguration (w .state) a n) (pick (forbiddenAt a n) (nonFatal (v .state)) (pick t (nonFatal (v .state)) (wrote v))))
+      (same room a n e)
+      (chosen (forbiddenAt a n) _ _ _ _ T.forbidden (chosen (hindered (w .state) a n) _ _ _ _ T.forbidden (T.configured a n e)))
     where
+      wrote : World → Plan
+      wrote x = acceptThen (x .state) (E.reconfigured (x .state) (writeAt (x .state .config) a n))
+
       chosen : (t : Bool) (p q p′ q′ : Plan) → Twice p p′ → Twice q q′ → Twice (pick t p q) (pick t p′ q′)
       chosen true p q p′ q′ f g = f
       chosen false p q p′ q′ f g = g

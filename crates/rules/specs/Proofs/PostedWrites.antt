@@ -137,7 +137,8 @@ module _ (w : World) where
       → WriteMove w (board k o) (served k w o (lift k (w .state) x)))
       (λ o x d. settled-write d) (λ k n o x d. settled-beside k n o x) k o x d
   case-write (C.forbidden a v e f) = stays refl refl
-  case-write (C.configured {b} {r} a v e f) = set-write b r a v (reads (w .state) b _ e)
+  case-write (C.hindered a v e f g) = stays refl refl
+  case-write (C.configured {b} {r} a v e f g) = set-write b r a v (reads (w .state) b _ e)
   case-write (C.lowered {b} {r} o x e d) =
       ended refl refl (lowering-ends peripheral (w .state) b (lowered-bytes (w .state) b d (reads (w .state) b _ e) .lowers))
   case-write (C.cleared e) = stays refl refl
@@ -250,7 +251,8 @@ module _ (w : World) (b r : List ℕ) where
       (λ o e. data-read (reads (w .state) b _ e) p)
       (λ k n o e. absurd (true≢false (sym (one-channel peripheral k (byte b 0) (channel-0 p) (command-own k (w .state) b o e)) ∙ n))) k o e
   data-whole (C.forbidden a v e f) p z = absurd (omega arith)
-  data-whole (C.configured a v e f) p z = absurd (true≢false (sym p ∙ ap isPosted (reads (w .state) b _ e .opcode)))
+  data-whole (C.hindered a v e f g) p z = absurd (omega arith)
+  data-whole (C.configured a v e f g) p z = absurd (true≢false (sym p ∙ ap isPosted (reads (w .state) b _ e .opcode)))
   data-whole (C.lowered o x e d) p z =
       absurd (true≢false (sym p ∙ ap isPosted (lowered-bytes (w .state) b d (reads (w .state) b _ e) .opcode)))
   data-whole (C.cleared e) p z = absurd (true≢false (sym p ∙ ap isPosted (reads (w .state) b _ e)))

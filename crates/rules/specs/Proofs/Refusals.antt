@@ -10,7 +10,7 @@ use lib.ListN.{length, drop, length-take}
 use lib.Seq.{drop-append-add, drop-drop}
 use borrow.Author.Tests.{lt-ltb}
 use Rattle.base.specs.Bytes.{over, over-none}
-use Rattle.state.specs.declared.State.{State}
+use Rattle.state.specs.State.{State}
 use Rattle.rules.specs.Rules.Out.{fatal, number}
 use Rattle.rules.specs.Rules.Channel.{Channel, peripheral, wires, Command, Act, Board, Change, outOf, actOf, part, given}
 use Rattle.rules.specs.Rules.Lift.{lift, silent, nonFatal}
@@ -34,7 +34,7 @@ use Rattle.rules.specs.Proofs.Cases.{cases}
 use Rattle.rules.specs.Proofs.Reads.{reads}
 use Rattle.rules.specs.declared.Kept.{Kept}
 use Rattle.rules.specs.declared.Kept.the-variants as K
-use Rattle.rules.specs.declared.Plan.{Plan}
+use Rattle.rules.specs.Rules.Plan.{Plan}
 
 -- ---- a plan by its number
 
@@ -75,7 +75,8 @@ planned-turned {s} (N.turned n h) = silent-as s n (omega (arith, h .least)) (ome
 planned-turned {s} (N.shows h) = tt
 planned-turned {s} (N.acts k o x e d f) = acts-turned k s _ (H.acts k (s .config) (part k s) _ x d)
 planned-turned {s} (N.forbids a v e f) = refl
-planned-turned {s} (N.configures a v e f) = tt
+planned-turned {s} (N.hinders a v e f g) = refl
+planned-turned {s} (N.configures a v e f g) = tt
 planned-turned {s} (N.lowers o x e d) = tt
 planned-turned {s} (N.clears e) = tt
 
@@ -134,7 +135,8 @@ refusal {w} {c} (C.shown h) = tt
 refusal {w} {c} (C.acted {b} {r} k o x e d f) = exchanged-refusal w b r (N.acts k o x e d f)
 refusal {w} {c} (C.settles k o x e d) = settled-refusal w k o (H.settled k (w .state .config) (part k (w .state)) o x d)
 refusal {w} {c} (C.forbidden {b} {r} a v e f) = exchanged-refusal w b r (N.forbids a v e f)
-refusal {w} {c} (C.configured a v e f) = tt
+refusal {w} {c} (C.hindered {b} {r} a v e f g) = exchanged-refusal w b r (N.hinders a v e f g)
+refusal {w} {c} (C.configured a v e f g) = tt
 refusal {w} {c} (C.lowered o x e d) = tt
 refusal {w} {c} (C.cleared e) = tt
 refusal {w} {c} C.wiped = tt
@@ -164,7 +166,8 @@ planned-keeps {s} {b} (N.turned n h) = zero-le
 planned-keeps {s} {b} (N.shows h) = zero-le
 planned-keeps {s} {b} (N.acts k o x e d f) = subst (λ (z : Kept). keptCount z ≤ postedLength b) (sym (lift-keeps k s x)) (acts-keep k s b o x e d)
 planned-keeps {s} {b} (N.forbids a v e f) = zero-le
-planned-keeps {s} {b} (N.configures a v e f) = zero-le
+planned-keeps {s} {b} (N.hinders a v e f g) = zero-le
+planned-keeps {s} {b} (N.configures a v e f g) = zero-le
 planned-keeps {s} {b} (N.lowers o x e d) = zero-le
 planned-keeps {s} {b} (N.clears e) = zero-le
 
@@ -213,7 +216,8 @@ past {w} (C.shown {b} h) e = exchange-past w b (N.shows h)
 past {w} (C.acted {b} k o x e d f) l = exchange-past w b (N.acts k o x e d f)
 past {w} (C.settles k o x e d) l = settled-past w k o (lift k (w .state) x) (settled-keeps k (w .state) o x d)
 past {w} (C.forbidden {b} a v e f) l = exchange-past w b (N.forbids a v e f)
-past {w} (C.configured {b} a v e f) l = exchange-past w b (N.configures a v e f)
+past {w} (C.hindered {b} a v e f g) l = exchange-past w b (N.hinders a v e f g)
+past {w} (C.configured {b} a v e f g) l = exchange-past w b (N.configures a v e f g)
 past {w} (C.lowered {b} o x e d) l = exchange-past w b (N.lowers o x e d)
 past {w} (C.cleared {b} e) l = exchange-past w b (N.clears e)
 past {w} C.wiped l = record { atWrite = refl; atRead = refl }

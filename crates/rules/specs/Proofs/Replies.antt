@@ -8,10 +8,10 @@ use lib.Dec.{eqb}
 use lib.ListN.{length, length-append}
 use borrow.Author.Tests.{eqb-false}
 use Rattle.state.specs.Status.{status}
-use Rattle.state.specs.declared.State.{State}
+use Rattle.state.specs.State.{State}
 use Rattle.rules.specs.Rules.Reply.{replyBytes}
 use Rattle.rules.specs.Statements.Shape.{replyOf, acceptCode, bodyLength, AcceptedReply, Shape}
-use Rattle.rules.specs.declared.Plan.{Plan}
+use Rattle.rules.specs.Rules.Plan.{Plan}
 
 abbrev pub isNone : {A : Type 0} → List A → Bool
 isNone [] = true

@@ -10,10 +10,10 @@ use lib.Seq.{getD-append-add}
 use borrow.Author.Tests.{ltb-false, le-ltb}
 use Rattle.base.specs.Bytes.{low2, over, bit-below, bit}
 use Rattle.crc.specs.Crc.{crc}
-use Rattle.wires.specs.Groups.{anyPending}
+use Rattle.wires.specs.Senders.{anyPending}
 use Rattle.peripheral.specs.Status.{pcFree, npFree, pcAvail}
 use Rattle.state.specs.Status.{status}
-use Rattle.state.specs.declared.State.{State}
+use Rattle.state.specs.State.{State}
 use Rattle.rules.specs.Rules.Reply.{closed}
 use Rattle.rules.specs.Statements.Requests.{statusIn}
 

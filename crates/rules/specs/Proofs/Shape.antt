@@ -11,7 +11,7 @@ use Rattle.base.specs.Pick.{pick-ind}
 use Rattle.base.specs.Bytes.{low4}
 use Rattle.peripheral.specs.Sound.{soundRequest}
 use Rattle.state.specs.Status.{status}
-use Rattle.state.specs.declared.State.{State}
+use Rattle.state.specs.State.{State}
 use Rattle.state.specs.Facts.{sound-request}
 use Rattle.rules.specs.Rules.Channel.{Channel, peripheral, wires, Command, Change, nextOf, outOf, part, put, actOf}
 use Rattle.rules.specs.Rules.Lift.{lift, withStatus}
@@ -32,7 +32,7 @@ use Rattle.rules.specs.Proofs.StatusShown.{shown-same, shows-after, writ
 use Rattle.rules.specs.Proofs.Wires.Lowering.{lowered-bytes}
 use Rattle.rules.specs.Proofs.Peripheral.Shape as P
 use Rattle.rules.specs.Proofs.Wires.Shape as W
-use Rattle.rules.specs.declared.Plan.{Plan}
+use Rattle.rules.specs.Rules.Plan.{Plan}
 
 module _ (s : State) (reads : List ℕ) (enough : readLength ≤ length reads) where
   acts-shape : (b : List ℕ) → soundRequest (s .peripheral .request) ≡ true → (k : Channel) (o : Command k) (x : Change k) → N.Admits s b (N.commandOf k o)
@@ -61,7 +61,8 @@ module _ (s : State) (reads : List ℕ) (enough : readLength ≤ length reads) w
       (λ z. shows-after k s b o x e d f (eq-eqb (outOf k x .number) 0 z))
       (acts-shape b np k o x e d)
   planned-shape {b} np (N.forbids a v e f) = refl
-  planned-shape {b} np (N.configures a v e f) =
+  planned-shape {b} np (N.hinders a v e f g) = refl
+  planned-shape {b} np (N.configures a v e f g) =
       let op = D.reads s b _ e .opcode in
       accepted-as (written-shows s _ b op) (at (byte b 0) 0x22 op (with-body 0x22 s [] refl refl (omega arith)))
   planned-shape {b} np (N.lowers o x e d) =
@@ -98,7 +99,8 @@ replies-alone (C.shown h) e = absurd (true≢false e)
 replies-alone (C.acted k o x a d f) e = absurd (true≢false e)
 replies-alone (C.settles k o x a d) e = refl
 replies-alone (C.forbidden a v f g) e = absurd (true≢false e)
-replies-alone (C.configured a v f g) e = absurd (true≢false e)
+replies-alone (C.hindered a v f g h) e = absurd (true≢false e)
+replies-alone (C.configured a v f g h) e = absurd (true≢false e)
 replies-alone (C.lowered o x a d) e = absurd (true≢false e)
 replies-alone (C.cleared f) e = absurd (true≢false e)
 replies-alone C.wiped e = refl

@@ -1,10 +1,10 @@
 -- Sound states part by part: a clause reads the configuration or one channel's part, and passes unchanged through a change of any other.
-use mathlib.Core.Bool.{Bool, true}
+use mathlib.Core.Bool.{true}
 use mathlib.Core.Path.{_≡_, refl, sym, subst}
-use Rattle.registers.specs.Registers.{fresh008, fresh010, reachable}
+use Rattle.registers.specs.Registers.{operatingCount, fresh008, fresh010, reachable}
 use Rattle.registers.specs.Laws.{Fitting, fits-fresh, fresh-008, fresh-010, reachable-fresh, reachable-all, reachable-r008, reachable-r010, reachable-r020}
 use Rattle.registers.specs.declared.Config.{Config}
-use Rattle.state.specs.declared.State.{State}
+use Rattle.state.specs.State.{State}
 use Rattle.state.specs.Channel.{soundPart, fitsPart}
 use Rattle.state.specs.Facts.{sound-parts, sound-made, fit-parts, fit-made}
 use Rattle.state.specs.Sound.{Sound}
@@ -20,54 +20,54 @@ pub record ConfigOk (c : Config) : Type 0 where
   pub right : reachable c ≡ true
   pub fit : Fitting c
 
-abbrev pub PartOk : (k : Channel) → Bool → Part k → Type 0
-PartOk peripheral on p = PeripheralOk on p
-PartOk wires on p = WiresOk on p
+abbrev pub PartOk : (k : Channel) → Config → Part k → Type 0
+PartOk peripheral c p = PeripheralOk (on peripheral c) p
+PartOk wires c p = WiresOk (on wires c) (operatingCount (c .r020)) p
 
 pub record Parts (s : State) : Type 0 where
   pub config : ConfigOk (s .config)
-  pub each : (k : Channel) → PartOk k (on k (s .config)) (part k s)
+  pub each : (k : Channel) → PartOk k (s .config) (part k s)
 
 -- the tests say it, both ways
-part-ok : (k : Channel) (on : Bool) (q : Part k) → soundPart k on q ≡ true → fitsPart k q ≡ true → PartOk k on q
-part-ok peripheral on q e f = P.peripheral-ok on q e f
-part-ok wires on q e f = record { right = e; fit = f }
+part-ok : (k : Channel) (c : Config) (q : Part k) → soundPart k c q ≡ true → fitsPart k q ≡ true → PartOk k c q
+part-ok peripheral c q e f = P.peripheral-ok (on peripheral c) q e f
+part-ok wires c q e f = record { right = e; fit = f }
 
-ok-sound : (k : Channel) (on : Bool) (q : Part k) → PartOk k on q → soundPart k on q ≡ true
-ok-sound peripheral on q h = P.ok-sound on q h
-ok-sound wires on q h = h .right
+ok-sound : (k : Channel) (c : Config) (q : Part k) → PartOk k c q → soundPart k c q ≡ true
+ok-sound peripheral c q h = P.ok-sound (on peripheral c) q h
+ok-sound wires c q h = h .right
 
-ok-fits : (k : Channel) (on : Bool) (q : Part k) → PartOk k on q → fitsPart k q ≡ true
-ok-fits peripheral on q h = P.ok-fits on q h
-ok-fits wires on q h = h .fit
+ok-fits : (k : Channel) (c : Config) (q : Part k) → PartOk k c q → fitsPart k q ≡ true
+ok-fits peripheral c q h = P.ok-fits (on peripheral c) q h
+ok-fits wires c q h = h .fit
 
 pub parts : {s : State} → Sound s → Parts s
 parts {s} h =
     let p = sound-parts s (h .isSound) in
     let f = fit-parts s (h .isFit) in
-    record { config = record { right = p .config; fit = f .config }; each = λ k. part-ok k (on k (s .config)) (part k s) (p .each k) (f .each k) }
+    record { config = record { right = p .config; fit = f .config }; each = λ k. part-ok k (s .config) (part k s) (p .each k) (f .each k) }
 
 pub whole : {s : State} → Parts s → Sound s
 whole {s} h =
     record {
-      isSound = sound-made s (record { config = h .config .right; each = λ k. ok-sound k (on k (s .config)) (part k s) (h .each k) });
-      isFit = fit-made s (record { config = h .config .fit; each = λ k. ok-fits k (on k (s .config)) (part k s) (h .each k) });
+      isSound = sound-made s (record { config = h .config .right; each = λ k. ok-sound k (s .config) (part k s) (h .each k) });
+      isFit = fit-made s (record { config = h .config .fit; each = λ k. ok-fits k (s .config) (part k s) (h .each k) });
     }
 
 -- one part changed
-pub with-part : (k : Channel) {s : State} (q : Part k) → Parts s → PartOk k (on k (s .config)) q → Sound (put k q s)
+pub with-part : (k : Channel) {s : State} (q : Part k) → Parts s → PartOk k (s .config) q → Sound (put k q s)
 with-part k {s} q h e =
     whole (record {
       config = subst ConfigOk (sym (put-config k q s)) (h .config);
       each =
-          λ j. subst (λ (c : Config). PartOk j (on j c) (part j (put k q s))) (sym (put-config k q s))
-          (put-each (λ j p. PartOk j (on j (s .config)) p) k q s e (h .each) j);
+          λ j. subst (λ (c : Config). PartOk j c (part j (put k q s))) (sym (put-config k q s))
+          (put-each (λ j p. PartOk j (s .config) p) k q s e (h .each) j);
     })
 
 -- every part changed, under a new configuration
-pub with-each : {s : State} (f : (k : Channel) → Part k → Part k) (c : Config) → ConfigOk c → ((k : Channel) → PartOk k (on k c) (f k (part k s)))
+pub with-each : {s : State} (f : (k : Channel) → Part k → Part k) (c : Config) → ConfigOk c → ((k : Channel) → PartOk k c (f k (part k s)))
     → Sound (each f c s)
-with-each {s} f c h e = whole (record { config = h; each = λ k. subst (PartOk k (on k c)) (sym (part-each f c s k)) (e k) })
+with-each {s} f c h e = whole (record { config = h; each = λ k. subst (PartOk k c) (sym (part-each f c s k)) (e k) })
 
 -- ---- the configuration with 008h, or 010h, as at reset
 

@@ -10,9 +10,8 @@ use lib.ListN.{length}
 use borrow.Author.Tests.{le-ltb}
 use Rattle.base.specs.Pick.{pick, pick-ind}
 use Rattle.base.specs.Bytes.{bit}
-use Rattle.wires.specs.Sent.{pending-any}
 use Rattle.state.specs.Status.{status}
-use Rattle.state.specs.declared.State.{State}
+use Rattle.state.specs.State.{State}
 use Rattle.state.specs.Sound.{Sound}
 use Rattle.rules.specs.Rules.Channel.{Channel, peripheral, wires, Part, Command, Act, Change, nextOf, outOf, part, put, actOf, resetFollows}
 use Rattle.rules.specs.Rules.Lift.{lift, withStatus}
@@ -36,6 +35,7 @@ use Rattle.rules.specs.Proofs.Reply as R
 use Rattle.rules.specs.Proofs.Status.{ByRows}
 use Rattle.rules.specs.Proofs.Peripheral.Status as P
 use Rattle.rules.specs.Proofs.Wires.Status as W
+use Rattle.rules.specs.Proofs.Wires.Rows.{pending-as}
 use Rattle.rules.specs.Proofs.Lift.{out-change, next-change, put-same}
 use Rattle.rules.specs.Proofs.Channels as H
 use Rattle.rules.specs.Proofs.StatusShown.{shown-same, shows-after, written-shows, lowered-shows, lowered-status}
@@ -43,7 +43,7 @@ use Rattle.rules.specs.Proofs.Wires.Lowering.{lowered-bytes}
 use Rattle.rules.specs.declared.Out.{Out}
 use Rattle.rules.specs.declared.Say.{Say}
 use Rattle.rules.specs.declared.Say.the-variants as Y
-use Rattle.rules.specs.declared.Plan.{Plan}
+use Rattle.rules.specs.Rules.Plan.{Plan}
 
 -- ---- the bits
 
@@ -51,7 +51,7 @@ word-is : (w : World) → status (w .state) ≡ statusBit w 0 + 2 * statusBit w 
 unfolding status
 word-is w =
     let s = w .state in
-    rw (P.free-bit s, P.idle-bit s, P.avail-bit s, W.word-bit s) (omega (arith, R.status-bits s, ap bit (pending-any (s .wires))))
+    rw (P.free-bit s, P.idle-bit s, P.avail-bit s, W.word-bit s) (omega (arith, R.status-bits s, ap bit (pending-as (s .wires))))
 
 module _ (w : World) (lent : List ℕ) (sound : Sound (w .state)) (long : LongEnough w lent) where
   abbrev s : State
@@ -69,7 +69,7 @@ module _ (w : World) (lent : List ℕ) (sound : Sound (w .state)) (long : LongEn
 
   of-channel : (k : Channel) → BitsOf w lent k
   of-channel peripheral = P.status-bits w lent sound by-rows
-  of-channel wires = W.get-vwire w lent sound by-rows
+  of-channel wires = record { gets = W.get-vwire w lent sound by-rows; pending = W.word-bit s }
 
   status-bits : StatusBits w lent
   status-bits = record { word = word-is w; ofChannel = of-channel }
@@ -110,7 +110,8 @@ module _ (s : State) (b store : List ℕ) where
   plan-shows (N.shows q) some = status-in _ s ∙ ap status (shown-same b s)
   plan-shows (N.acts k o x e d f) some = said (outOf k x .say) (put k (nextOf k x) s) some ∙ ap status (acted-shows k o x e d f)
   plan-shows (N.forbids a v e f) some = status-in _ s ∙ ap status (shown-same b s)
-  plan-shows (N.configures a v e f) some = status-in _ s ∙ ap status (written-shows s _ b (reads s b _ e .opcode))
+  plan-shows (N.hinders a v e f g) some = status-in _ s ∙ ap status (shown-same b s)
+  plan-shows (N.configures a v e f g) some = status-in _ s ∙ ap status (written-shows s _ b (reads s b _ e .opcode))
   plan-shows (N.lowers o x e d) some =
       let l = lowered-bytes s b d (reads s b _ e) in
       status-in _ (put wires (x .next) s) ∙ lowered-status s b (x .next) l ∙ ap status (lowered-shows s _ b (l .lowers))

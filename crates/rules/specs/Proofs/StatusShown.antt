@@ -5,9 +5,9 @@ use mathlib.Core.List.{List}
 use mathlib.Core.Path.{_≡_, refl, ap, ap₂, _∙_}
 use lib.Dec.{eqb}
 use Rattle.base.specs.Pick.{pick-ind, taken, passed}
-use Rattle.wires.specs.declared.Wires.{Wires}
+use Rattle.wires.specs.Senders.{AllWires}
 use Rattle.state.specs.Status.{status}
-use Rattle.state.specs.declared.State.{State}
+use Rattle.state.specs.State.{State}
 use Rattle.rules.specs.Rules.Channel.{Channel, wires, Command, Change, nextOf, outOf, part, put, actOf, resetFollows}
 use Rattle.rules.specs.Statements.Plans.{Did, Admits, commandOf}
 use Rattle.rules.specs.Statements.Events.{lowersPltrst}
@@ -35,5 +35,5 @@ written-shows s t b e = taken _ _ (ap (λ (op : ℕ). eqb op 0x22 || lowersPltrs
 pub lowered-shows : (s t : State) (b : List ℕ) → lowersPltrst s b ≡ true → s ≡ stateShown b s t
 lowered-shows s t b e = taken _ _ (ap (λ (u : Bool). eqb (byte b 0) 0x22 || u) e ∙ or-true (eqb (byte b 0) 0x22)) refl
 
-pub lowered-status : (s : State) (b : List ℕ) (v : Wires) → Lowered s b v → status (put wires v s) ≡ status s
-lowered-status s b v l = ap (λ (z : Wires). status (put wires z s)) (l .wires) ∙ status-put s _
+pub lowered-status : (s : State) (b : List ℕ) (v : AllWires) → Lowered s b v → status (put wires v s) ≡ status s
+lowered-status s b v l = ap (λ (z : AllWires). status (put wires z s)) (l .wires) ∙ status-put s _

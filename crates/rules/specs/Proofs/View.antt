@@ -18,7 +18,7 @@ use Rattle.peripheral.specs.declared.Np.{Np}
 use Rattle.peripheral.specs.declared.Peripheral.{Peripheral}
 use Rattle.peripheral.specs.Facts.{no-request}
 use Rattle.state.specs.Status.{status}
-use Rattle.state.specs.declared.State.{State}
+use Rattle.state.specs.State.{State}
 use Rattle.rules.specs.Rules.Reset.{Reset, start, espiReset, platformReset}
 use Rattle.rules.specs.Rules.Out.{fatal, number}
 use Rattle.rules.specs.Rules.Peripheral as P₀
@@ -56,7 +56,7 @@ use Rattle.rules.specs.declared.Kept.{Kept}
 use Rattle.rules.specs.declared.Response.the-variants.{Accept, NonFatal}
 use Rattle.rules.specs.declared.Body.{Body}
 use Rattle.rules.specs.declared.Body.the-variants as B
-use Rattle.rules.specs.declared.Plan.{Plan}
+use Rattle.rules.specs.Rules.Plan.{Plan}
 
 -- ---- the status that a reply shows
 
@@ -259,7 +259,8 @@ module _ (w : World) where
       → Seen (board k o) (served k w o (lift k (w .state) x)))
       (λ o x d. settled-seen d) (λ k n o x d. settled-beside k n o x (N.settled k (w .state .config) (part k (w .state)) o x d)) k o x d
   case-seen (C.forbidden {b} {r} a v e f) = forbidden-seen b r
-  case-seen (C.configured {b} {r} a v e f) = set-seen b r a v (reads (w .state) b _ e)
+  case-seen (C.hindered {b} {r} a v e f g) = forbidden-seen b r
+  case-seen (C.configured {b} {r} a v e f g) = set-seen b r a v (reads (w .state) b _ e)
   case-seen (C.lowered {b} {r} o x e d) = lowered-seen b r (x .next) (lowered-bytes (w .state) b d (reads (w .state) b _ e) .lowers)
   case-seen (C.cleared {b} {r} e) = cleared-seen b r (plain (w .state) b 0xFF (reads (w .state) b _ e) refl refl refl)
   case-seen (C.wiped {r}) = reset-seen r

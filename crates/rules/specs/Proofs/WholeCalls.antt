@@ -10,7 +10,7 @@ use lib.Dec.{ltb}
 use lib.ListN.{length, drop}
 use borrow.Author.Tests.{not-false, ltb-true, ltb-false, lt-ltb}
 use Rattle.base.specs.Bytes.{over, over-none, drop-over}
-use Rattle.state.specs.declared.State.{State}
+use Rattle.state.specs.State.{State}
 use Rattle.state.specs.Packing.{packed-length, stored-same}
 use Rattle.state.specs.Layout.{stateLength, packed, unpacked, holds}
 use Rattle.rules.specs.Rules.Out.{number}
@@ -24,7 +24,7 @@ use Rattle.rules.specs.Statements.Channels.{Settles}
 use Rattle.rules.specs.Statements.Refusals.{numberOf, ExchangeRefusal}
 use Rattle.rules.specs.Proofs.Lift.{lift-change, lift-stays}
 use Rattle.rules.specs.Proofs.Refusals.{PlanAs, SettledAs}
-use Rattle.rules.specs.declared.Plan.{Plan}
+use Rattle.rules.specs.Rules.Plan.{Plan}
 
 pub number-small : (n : ℕ) → ltb n 256 ≡ true → numberOf n ≡ n
 number-small n h = omega (arith, ltb-true n 256 h)

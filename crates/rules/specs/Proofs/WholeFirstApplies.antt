@@ -1,4 +1,4 @@
--- P6 proved of the nine calls over lent bytes.
+-- P6 proved of the eleven calls over lent bytes.
 use Prim.Native.Nat.{ℕ, _%_, _≤_}
 use mathlib.Core.Bool.{Bool, true, false, not, true≢false}
 use mathlib.Core.List.{List}
@@ -6,7 +6,7 @@ use mathlib.Core.Path.{_≡_, refl, sym, _∙_}
 use lib.Dec.{ltb}
 use lib.ListN.{length}
 use borrow.Author.Tests.{not-false, not-true, ltb-false}
-use Rattle.state.specs.declared.State.{State}
+use Rattle.state.specs.State.{State}
 use Rattle.state.specs.Layout.{stateLength, unpacked, holds}
 use Rattle.state.specs.Packing.{packed-holds, packed-found, holds-bytes, holds-sound}
 use Rattle.rules.specs.Rules.Reset.{Reset, espiReset, platformReset}
@@ -79,4 +79,6 @@ first-applies =
       takeWrite = λ st write report. first refl (P.take-first st write report);
       setWire = λ st index bit value. first refl (W.set-first st index bit value);
       readWire = λ st index bit. first refl (W.read-first st index bit);
+      setLine = λ st line level. first refl (W.line-first st line level);
+      pulseLine = λ st line. first refl (W.pulse-first st line);
     }

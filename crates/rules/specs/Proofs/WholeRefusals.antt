@@ -1,4 +1,4 @@
--- P5 proved of the nine calls over lent bytes.
+-- P5 proved of the eleven calls over lent bytes.
 use Prim.Native.Nat.{ℕ, zero, suc, _/_}
 use mathlib.Core.Bool.{true, not}
 use mathlib.Core.List.{List}
@@ -11,7 +11,7 @@ use borrow.Author.Tests.{ltb-true}
 use Rattle.base.specs.Pick.{pick-ind}
 use Rattle.base.specs.Bytes.{drop-over}
 use Rattle.state.specs.Fresh.{freshState}
-use Rattle.state.specs.declared.State.{State}
+use Rattle.state.specs.State.{State}
 use Rattle.state.specs.Layout.{stateLength, unpacked, holds}
 use Rattle.rules.specs.Rules.Out.{number}
 use Rattle.rules.specs.Rules.Reset.{Reset, espiReset, platformReset}
@@ -22,7 +22,7 @@ use Rattle.rules.specs.Rules.Calls as X
 use Rattle.rules.specs.Rules.Calls.{word, Done, Exchanged, done, exchangeCall, exchangePlanned, startCall, resetCall, espiResetCall, platformResetCall}
 use Rattle.rules.specs.Statements.Refusals.{postedLength, numberOf, ExchangeRefusal, CallsRefuse, CallsKeepBytes}
 use Rattle.rules.specs.Proofs.Refusals.{PlanAs, exchange-turned, exchange-keeps, past-kept}
-use Rattle.rules.specs.declared.Plan.{Plan}
+use Rattle.rules.specs.Rules.Plan.{Plan}
 use Rattle.rules.specs.Proofs.WholeCalls.{planned-refuses, past-state, DonePast}
 use Rattle.rules.specs.Proofs.Peripheral.WholeRefusals as P₁
 use Rattle.rules.specs.Proofs.Wires.WholeRefusals as W₁
@@ -67,6 +67,8 @@ calls-refuse =
       takeWrite = P₁.take-refuses;
       setWire = W₁.set-refuses;
       readWire = W₁.read-refuses;
+      setLine = W₁.line-refuses;
+      pulseLine = W₁.pulse-refuses;
     }
 
 -- ---- the bytes past what a call writes
@@ -134,4 +136,6 @@ calls-keep-bytes =
       takeState = λ st write report. P₁.take-bytes st write report .atState;
       takeReport = λ st write report. P₁.take-bytes st write report .atStore;
       setWire = W₁.set-bytes;
+      setLine = W₁.line-bytes;
+      pulseLine = W₁.pulse-bytes;
     }

@@ -25,7 +25,7 @@ module _ (n : ℕ) (rows : List Row) (h : numbered rows ≡ true) (e : n ≡ fir
 
 -- ---- the board's calls: a channel's number is that of its rows
 
-pub settle-number : (k : Channel) (c : Config) (p : Part k) (o : Board k) → outOf k (settle k c p o) .number ≡ firstOf (boardRows k p o)
+pub settle-number : (k : Channel) (c : Config) (p : Part k) (o : Board k) → outOf k (settle k c p o) .number ≡ firstOf (boardRows k c p o)
 settle-number peripheral c p o = P.settle-number p (settled peripheral c p o)
 settle-number wires c p o = W.settle-number c p (settled wires c p o)
 
@@ -33,6 +33,6 @@ module _ (st : List ℕ) where
   abbrev c : Config
   c = unpacked st .config
 
-  pub own : (k : Channel) (o : Board k) → numbered (boardRows k (part k (unpacked st)) o) ≡ true
-      → outOf k (settle k c (part k (unpacked st)) o) .number % 256 ≡ firstOf (boardRows k (part k (unpacked st)) o)
-  own k o h = as-word _ (boardRows k (part k (unpacked st)) o) h (settle-number k c (part k (unpacked st)) o)
+  pub own : (k : Channel) (o : Board k) → numbered (boardRows k c (part k (unpacked st)) o) ≡ true
+      → outOf k (settle k c (part k (unpacked st)) o) .number % 256 ≡ firstOf (boardRows k c (part k (unpacked st)) o)
+  own k o h = as-word _ (boardRows k c (part k (unpacked st)) o) h (settle-number k c (part k (unpacked st)) o)

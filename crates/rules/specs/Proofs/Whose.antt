@@ -9,7 +9,7 @@ use lib.ListN.{length}
 use Rattle.registers.specs.Registers.{crcChecked}
 use Rattle.command.specs.Facts.{admit-decodes}
 use Rattle.command.specs.declared.Command as C₀
-use Rattle.state.specs.declared.State.{State}
+use Rattle.state.specs.State.{State}
 use Rattle.rules.specs.Rules.Channel.{Channel, Command, same}
 use Rattle.rules.specs.Rules.Exchange.{channelsOf}
 use Rattle.rules.specs.Statements.Plans.{Admits, commandOf}

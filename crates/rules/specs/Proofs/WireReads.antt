@@ -11,7 +11,8 @@ use lib.Seq.{getD-set-same, getD-set-other}
 use borrow.Author.Tests.{eqb-true, eqb-false, eq-eqb, ne-eqb}
 use Rattle.base.specs.Pick.{pick, pick-ind, and-left, and-right, and-true, or-either}
 use Rattle.wires.specs.Table.{rowAt, isGroup}
-use Rattle.wires.specs.Groups.{levelAt, isDown, definedBit, readWire, putPairs, afterSent, platformWires}
+use Rattle.wires.specs.Groups.{levelAt, isDown, definedBit, readWire, putPairs, platformWires}
+use Rattle.wires.specs.Senders.{AllWires, withGroups, afterSent}
 use Rattle.wires.specs.Kept.{whole-level}
 use Rattle.wires.specs.Rows.{DefinedBit, defined-bit, settable-bit}
 use Rattle.wires.specs.Sent.{sent-levels}
@@ -28,10 +29,10 @@ use Rattle.rules.specs.Statements.Sizes.{isOf, isEnabled}
 use Rattle.rules.specs.Statements.Effects.{switched, enabledAfter, exchangeEffect, effect}
 use Rattle.rules.specs.Statements.Events.{accepted, lowersPltrst, pltrstFalls}
 use Rattle.rules.specs.Statements.Requests.{without}
-use Rattle.rules.specs.Statements.WireEvents.{wiresOf}
+use Rattle.rules.specs.Statements.WireEvents.{wiresOf, groupsOf}
 use Rattle.rules.specs.Statements.WireView.{setsWire}
 use Rattle.rules.specs.Statements.WireSteps.{wireOf, Lowered}
-use Rattle.rules.specs.Statements.Wires.Effects.{groupsSent}
+use Rattle.rules.specs.Statements.Wires.Effects.{sendersSent}
 use Rattle.rules.specs.Statements.Wires.Rows.{wireDefined, wireOfBoard}
 use Rattle.rules.specs.Statements.WireReads.{wireDown, resetLevel, resetsGroup, resetsBy, along, packetIn, settingIn, packets, settings}
 use Rattle.rules.specs.Statements.WireReads.{through, lastPut, lastSet, valueRead, ReadAfter, SoundBefore, WireReads}
@@ -97,22 +98,23 @@ read-level w i bit e = ap (λ (q : Outcome). q .value) (board-long wires w (W.re
 
 -- ---- one call
 
-edge-level : (was is : Bool) (v : Wires) → switched wires was is v .level ≡ v .level
+edge-level : (was is : Bool) (v : AllWires) → switched wires was is v .groups .level ≡ v .groups .level
 edge-level true true v = refl
 edge-level true false v = refl
 edge-level false true v = refl
 edge-level false false v = refl
 
 -- a command of the channel that is no PUT_VWIRE
-get-level : (op : ℕ) (v u : Wires) (ks : List ℕ) → eqb op 0x04 ≡ false → pick (eqb op 0x04) u (pick (eqb op 0x05) (afterSent v ks) v) .level ≡ v .level
+get-level : (op : ℕ) (v u : AllWires) (ks : List ℕ) → eqb op 0x04 ≡ false
+    → pick (eqb op 0x04) u (pick (eqb op 0x05) (afterSent v ks) v) .groups .level ≡ v .groups .level
 get-level op v u ks e =
-    ap (λ (t : Bool). pick t u (pick (eqb op 0x05) (afterSent v ks) v) .level) e
-    ∙ pick-ind (λ (x : Wires). x .level ≡ v .level) (eqb op 0x05) (λ _. sent-levels v ks) (λ _. refl)
+    ap (λ (t : Bool). pick t u (pick (eqb op 0x05) (afterSent v ks) v) .groups .level) e
+    ∙ pick-ind (λ (x : AllWires). x .groups .level ≡ v .groups .level) (eqb op 0x05) (λ _. sent-levels v ks) (λ _. refl)
 
 module _ (w : World) where
   -- the levels are as they were
   abbrev Kept : World → Type 0
-  Kept v = wiresOf v .level ≡ wiresOf w .level
+  Kept v = groupsOf v .level ≡ groupsOf w .level
 
   other-command : (b : List ℕ) → eqb (byte b 0) 0x04 ≡ false → Kept (exchangeEffect w (byte b 0) b)
   other-command b e =
@@ -121,7 +123,7 @@ module _ (w : World) where
       pick-ind Kept (isOf peripheral op) (λ _. refl)
       (λ _. pick-ind Kept (isOf wires op)
       (λ _. pick-ind Kept (lowersPltrst (w .state) b) (λ l. absurd (true≢false (sym l ∙ no-lowering (w .state) b e)))
-      (λ _. get-level op v (putPairs v (pairs b)) (groupsSent (w .state .config) v) e))
+      (λ _. get-level op v (withGroups v (putPairs (v .groups) (pairs b))) (sendersSent (w .state .config) v) e))
       (λ _. pick-ind Kept (eqb op 0x22)
       (λ _. edge-level (isEnabled wires (w .state .config)) (enabledAfter wires (w .state .config) (registerAt b) (registerValue b)) v)
       (λ _. pick-ind Kept (eqb op 0xFF) (λ _. refl) (λ _. refl))))
@@ -130,17 +132,17 @@ module _ (w : World) where
   refused c e = after-call Kept w c refl (λ n. absurd (true≢false (sym (eq-eqb (step w c .number) 0 n) ∙ e)))
 
 module _ (w : World) (i bit : ℕ) (from : 2 ≤ i) where
-  kept-wire : (v : World) → wiresOf v .level ≡ wiresOf w .level → wireOf v i bit ≡ wireOf w i bit
+  kept-wire : (v : World) → groupsOf v .level ≡ groupsOf w .level → wireOf v i bit ≡ wireOf w i bit
   kept-wire v e = ap (λ (l : List ℕ). getD l (i - 2) 0 / 2 ^ bit % 2) e
 
-  same-wire : (v : World) → levelAt (wiresOf v) i ≡ levelAt (wiresOf w) i → wireOf v i bit ≡ wireOf w i bit
+  same-wire : (v : World) → levelAt (groupsOf v) i ≡ levelAt (groupsOf w) i → wireOf v i bit ≡ wireOf w i bit
   same-wire v e = ap (λ (x : ℕ). x / 2 ^ bit % 2) e
 
   pub reset-wire : (r : Reset) → resetsGroup i r ≡ false → wireOf (effect w (reset r)) i bit ≡ wireOf w i bit
   reset-wire start e = absurd (true≢false e)
   reset-wire espiReset e = absurd (true≢false e)
   reset-wire platformReset e =
-      let l = wiresOf w .level in
+      let l = groupsOf w .level in
       same-wire (effect w (reset platformReset))
       (getD-set-other (set l 4 0x7) 5 (i - 2) 0x6 0 (λ q. not-either (eqb i 6) (eqb i 7) e .1 (eq-eqb i 7 (omega arith)))
       ∙ getD-set-other l 4 (i - 2) 0x7 0 (λ q. not-either (eqb i 6) (eqb i 7) e .0 (eq-eqb i 6 (omega arith))))
@@ -172,7 +174,7 @@ module _ (w : World) (i bit : ℕ) (b r : List ℕ) (n : step w (exchange b r) .
 
   lowered-wire : {given : List ℕ} (u : Lowered w (step w (exchange b r) .next) given) → 2 ≤ i → resetsBy i w (exchange b r) ≡ false
       → wireOf (step w (exchange b r) .next) i bit ≡ wireOf (u .packet) i bit
-  lowered-wire u from e = ap (λ (v : Wires). readWire v i bit) (u .reset) ∙ reset-wire (u .packet) i bit from platformReset (spared e)
+  lowered-wire u from e = ap (λ (v : AllWires). readWire (v .groups) i bit) (u .reset) ∙ reset-wire (u .packet) i bit from platformReset (spared e)
 
 -- ---- a down wire: packets alone change it
 
@@ -208,6 +210,8 @@ module _ (w : World) (s : Sound (w .state)) (i bit : ℕ) (d : Wire true i bit) 
   accepted-down (board peripheral o) e n = by-row w i bit from (board peripheral o) n refl
   accepted-down (board wires (W.setWire j k v)) e n = set-down j k v n
   accepted-down (board wires (W.readWire j k)) e n = by-row w i bit from (board wires (W.readWire j k)) n refl
+  accepted-down (board wires (W.setLine j k)) e n = by-row w i bit from (board wires (W.setLine j k)) n refl
+  accepted-down (board wires (W.pulseLine j)) e n = by-row w i bit from (board wires (W.pulseLine j)) n refl
   accepted-down (short state c) e n = by-row w i bit from (short state c) n refl
   accepted-down (lend write read) e n = by-row w i bit from (lend write read) n refl
 
@@ -258,6 +262,8 @@ module _ (w : World) (s : Sound (w .state)) (i bit : ℕ) (u : Wire false i bit)
   accepted-up (board peripheral o) e n = by-row w i bit (its .from) (board peripheral o) n refl
   accepted-up (board wires (W.setWire j k v)) e n = set-up j k v n
   accepted-up (board wires (W.readWire j k)) e n = by-row w i bit (its .from) (board wires (W.readWire j k)) n refl
+  accepted-up (board wires (W.setLine j k)) e n = by-row w i bit (its .from) (board wires (W.setLine j k)) n refl
+  accepted-up (board wires (W.pulseLine j)) e n = by-row w i bit (its .from) (board wires (W.pulseLine j)) n refl
   accepted-up (short state c) e n = by-row w i bit (its .from) (short state c) n refl
   accepted-up (lend write read) e n = by-row w i bit (its .from) (lend write read) n refl
 
@@ -317,7 +323,7 @@ reset-level : (w : World) (r : Reset) (i bit : ℕ) → SoundBefore w (reset r) 
 unfolding step
 reset-level w start i bit s e = refl
 reset-level w espiReset i bit s e = refl
-reset-level w platformReset i bit s e = platform-level (wiresOf w) i bit (whole-level (wiresOf w) (wires-whole w (s refl))) e
+reset-level w platformReset i bit s e = platform-level (groupsOf w) i bit (whole-level (groupsOf w) (wires-whole w (s refl))) e
 
 -- whatever the packet put there
 lowered-level : (w : World) (b r : List ℕ) (i bit : ℕ) → Sound (w .state) → handedOver (exchange b r) ≡ true → resetsBy i w (exchange b r) ≡ true
@@ -327,11 +333,11 @@ lowered-level w b r i bit s h e =
     let falls = and-right (resetsGroup i platformReset) (pltrstFalls w (exchange b r)) e in
     let u = wire-steps .lowered w b r s (eqb-true _ 0 (and-left (accepted (step w (exchange b r))) _ falls))
     (and-right (accepted (step w (exchange b r))) (lowersPltrst (w .state) b) falls) in
-    let l = wiresOf (u .packet) .level in
-    let whole = whole-level (wiresOf v) (wires-whole v (sound-step w (exchange b r) s h)) in
-    ap (λ (x : Wires). readWire x i bit) (u .reset)
-    ∙ platform-level (wiresOf (u .packet)) i bit
-    (sym (length-set (set l 4 0x7) 5 0x6 ∙ length-set l 4 0x7) ∙ ap (λ (x : Wires). length (x .level)) (sym (u .reset)) ∙ whole)
+    let l = groupsOf (u .packet) .level in
+    let whole = whole-level (groupsOf v) (wires-whole v (sound-step w (exchange b r) s h)) in
+    ap (λ (x : AllWires). readWire (x .groups) i bit) (u .reset)
+    ∙ platform-level (groupsOf (u .packet)) i bit
+    (sym (length-set (set l 4 0x7) 5 0x6 ∙ length-set l 4 0x7) ∙ ap (λ (x : AllWires). length (x .groups .level)) (sym (u .reset)) ∙ whole)
     (and-left (resetsGroup i platformReset) (pltrstFalls w (exchange b r)) e)
 
 since-level : (w : World) (c : Call) (i bit : ℕ) → SoundBefore w c → handedOver c ≡ true → resetsBy i w c ≡ true

@@ -1,28 +1,26 @@
 -- The wires' view: one sweep over the case law, reading channel 1's law; whatever another channel does leaves the wires.
 use Prim.Native.Nat.{ℕ, _%_, _≤_}
 use mathlib.Core.Bool.{Bool, true, false, _&&_, _||_, not, true≢false}
-use mathlib.Core.List.{List, _∷_}
+use mathlib.Core.List.{List}
 use mathlib.Core.Path.{_≡_, refl, sym, ap, ap₂, subst, _∙_}
 use native.Mathlib.Omega.{arith}
 use lib.Dec.{eqb}
 use borrow.Author.Tests.{ne-eqb}
 use Rattle.base.specs.Pick.{pick}
 use Rattle.registers.specs.Registers.{writeAt}
-use Rattle.wires.specs.Groups as G
-use Rattle.wires.specs.Groups.{packetOf, packetBytes, afterSent, platformWires, wholeWires}
+use Rattle.wires.specs.Groups.{wholeWires}
 use Rattle.wires.specs.Kept as K
-use Rattle.wires.specs.Sent.{sent-bytes}
-use Rattle.wires.specs.declared.Wires.{Wires}
+use Rattle.wires.specs.Senders.{AllWires, afterSent, allEnabled, allDisabled, allPlatform, soundAll, wholeAll}
+use Rattle.wires.specs.AllKept.{sound-groups, whole-groups}
 use Rattle.state.specs.Sound.{Sound}
-use Rattle.state.specs.Status.{status}
-use Rattle.state.specs.declared.State.{State}
+use Rattle.state.specs.State.{State}
 use Rattle.rules.specs.Rules.Reset.{Reset, start, espiReset, platformReset}
 use Rattle.rules.specs.Rules.Wires as W₀
 use Rattle.rules.specs.Rules.Channel as N
 use Rattle.rules.specs.Rules.Channel.{Channel, peripheral, wires, Command, Board, Change, nextOf, part, on, actOf, same}
 use Rattle.rules.specs.Rules.Lift.{lift, show, acceptThen}
 use Rattle.rules.specs.Rules.Exchange.{reconfigured, wasReset, thenReset}
-use Rattle.rules.specs.Rules.Reply.{closed, replyBytes}
+use Rattle.rules.specs.Rules.Reply.{replyBytes}
 use Rattle.rules.specs.Rules.Step.{World, Call, reset, exchange, board, lend, Outcome, only, withState, performed, served}
 use Rattle.rules.specs.Statements.Wires as W
 use Rattle.rules.specs.Statements.Plans.{Did, Settled, Admits, commandOf, Shows, status as getsStatus, register}
@@ -31,8 +29,8 @@ use Rattle.rules.specs.Statements.Cases.{Case}
 use Rattle.rules.specs.Statements.Events.{accepted, lowersPltrst, ending, enablesAt}
 use Rattle.rules.specs.Statements.Fields.{byte, isChannel1, registerAt, registerValue}
 use Rattle.rules.specs.Statements.Reads as R
-use Rattle.rules.specs.Statements.WireEvents.{WireEvent, idle, puts, gets, enables, ends, switchesOn, commandWire, boardWire, acceptedWire, wireEventOf, wiresOf, countOf}
-use Rattle.rules.specs.Statements.WireView.{WireMove, still, put, sent, set, enabled, disabled, wiped, platformWiped, lowered, WireView}
+use Rattle.rules.specs.Statements.WireEvents.{WireEvent, idle, puts, gets, enables, ends, switchesOn, commandWire, boardWire, acceptedWire, wireEventOf, wiresOf, groupsOf, countOf}
+use Rattle.rules.specs.Statements.WireView.{WireMove, still, put, sent, set, lineSet, pulsed, enabled, disabled, wiped, platformWiped, lowered, WireView}
 use Rattle.rules.specs.Proofs.Cases.{cases}
 use Rattle.rules.specs.Proofs.SoundParts.{parts}
 use Rattle.rules.specs.Proofs.Reads.{reads}
@@ -41,7 +39,7 @@ use Rattle.rules.specs.Proofs.Lift.{same-turned, own-or-other, part-stay
 use Rattle.rules.specs.Proofs.Effects.{command-own}
 use Rattle.rules.specs.Proofs.Whose.{own-opcode, never-set}
 use Rattle.rules.specs.Proofs.Wires.Lowering as W₂
-use Rattle.rules.specs.declared.WiresChange.{WiresChange}
+use Rattle.rules.specs.Rules.Plan.{WiresChange}
 use Rattle.rules.specs.declared.Body.{Body}
 
 -- ---- events
@@ -146,7 +144,7 @@ module _ (w : World) where
         (ap (λ (op : ℕ). pick (eqb op 0x04) puts (pick (eqb op 0x05) gets (pick (switchesOn (w .state) b) enables idle))) (h .opcode)
         ∙ ap (λ (t : Bool). pick t enables idle) (enabling b a v h))
 
-    set-wires : wiresOf (Set .next) ≡ pick (was && not is) (G.disabled (wiresOf w)) (pick (not was && is) (G.enabled (wiresOf w)) (wiresOf w))
+    set-wires : wiresOf (Set .next) ≡ pick (was && not is) (allDisabled (wiresOf w)) (pick (not was && is) (allEnabled (wiresOf w)) (wiresOf w))
     unfolding performed
     set-wires = refl
 
@@ -154,7 +152,7 @@ module _ (w : World) where
     set-seen = go (was && not is) (not was && is) refl set-event set-wires
       where
         go : (t u : Bool) → not was && is ≡ u → wireEventOf (w .state) (exchange b r) Set ≡ pick t ends (pick u enables idle)
-            → wiresOf (Set .next) ≡ pick t (G.disabled (wiresOf w)) (pick u (G.enabled (wiresOf w)) (wiresOf w)) → Seen (exchange b r) Set
+            → wiresOf (Set .next) ≡ pick t (allDisabled (wiresOf w)) (pick u (allEnabled (wiresOf w)) (wiresOf w)) → Seen (exchange b r) Set
         go true u e f g = as-is f (disabled g)
         go false true e f g = as-is f (enabled b r refl (enabling b a v h ∙ e) g)
         go false false e f g = as-is f (still g)
@@ -181,17 +179,14 @@ module _ (w : World) where
       as-is (command-event b r 0x04 puts h refl refl _ refl (W₂.unlowered (w .state) b (W.put e f) (R.Wires.puts h) l refl)) (put b r refl f refl)
   acted-seen b r (W.nonePending e) h l = as-is (refused-wire (w .state) (exchange b r) _ refl) (still refl)
   acted-seen b r (W.sentOff {k = k} {ks = ks} e) (R.Wires.gets h) l =
-      let v = wiresOf w in
-      let t = status (N.put wires (afterSent v (k ∷ ks)) (w .state)) in
       as-is (command-event b r 0x05 gets h refl refl _ refl (no-lowering (w .state) b (ap (λ (op : ℕ). eqb op 0x04) h)))
-      (sent k ks e (ap (afterSent v) (sym e))
-      (ap (λ (l : List ℕ). closed (0x08 ∷ packetBytes v (packetOf v l)) t) (sym e) ∙ ap (λ (l : List ℕ). closed (0x08 ∷ l) t) (sent-bytes v (countOf w))))
+      (sent k ks e (ap (afterSent (wiresOf w)) (sym e)) refl)
 
-  lowered-seen : (b r : List ℕ) (v : Wires) → W₂.Lowered (w .state) b v → Seen (exchange b r) (performed w b (thenReset (N.put wires v (w .state))))
+  lowered-seen : (b r : List ℕ) (v : AllWires) → W₂.Lowered (w .state) b v → Seen (exchange b r) (performed w b (thenReset (N.put wires v (w .state))))
   unfolding performed
   lowered-seen b r v l =
       as-is (ended-wire (w .state) (exchange b r) _ refl (lowering-ends wires (w .state) b (l .lowers)))
-      (lowered b r refl (l .few) (l .lowers) (ap platformWires (l .wires)))
+      (lowered b r refl (l .few) (l .lowers) (ap allPlatform (l .wires)))
 
   settled-seen : {o : W₀.Board} {x : WiresChange} → W.Settled (w .state .config) (wiresOf w) o x
       → Seen (board wires o) (served wires w o (lift wires (w .state) x))
@@ -200,6 +195,12 @@ module _ (w : World) where
   settled-seen (W.set {index = i} {bit = bit} {value = value} e) = set i bit value refl e refl
   settled-seen (W.noWire e) = still refl
   settled-seen (W.read e) = still refl
+  settled-seen (W.noLine e) = still refl
+  settled-seen (W.edgeWaits e f) = still refl
+  settled-seen (W.lineSet {line = n} {level = level} e f) = lineSet n level refl e f refl
+  settled-seen (W.noLineToPulse e) = still refl
+  settled-seen (W.cannotPulse e f) = still refl
+  settled-seen (W.pulsed {line = n} e f) = pulsed n refl e f refl
 
   -- ---- every channel
 
@@ -237,7 +238,8 @@ module _ (w : World) where
   seen-case (C.acted {b = b} {r = r} k o x e d f) = any-acted b r k o x e d f
   seen-case (C.settles k o x e d) = any-settled k o x d
   seen-case (C.forbidden {b = b} {r = r} a v e f) = as-is (refused-wire (w .state) (exchange b r) _ refl) (still refl)
-  seen-case (C.configured {b = b} {r = r} a v e f) = set-seen b r a v (reads (w .state) b _ e)
+  seen-case (C.hindered {b = b} {r = r} a v e f g) = as-is (refused-wire (w .state) (exchange b r) _ refl) (still refl)
+  seen-case (C.configured {b = b} {r = r} a v e f g) = set-seen b r a v (reads (w .state) b _ e)
   seen-case (C.lowered {b = b} {r = r} o x e d) = lowered-seen b r (x .next) (W₂.lowered-bytes (w .state) b d (reads (w .state) b _ e))
   seen-case (C.cleared {b = b} {r = r} e) = quiet-seen b r _ 0xFF (reads (w .state) b _ e) refl refl refl
   seen-case (C.wiped {r = r}) = wiped-seen r
@@ -248,8 +250,17 @@ wire-view w c = seen-case w (cases w c)
 
 -- ---- what a sound state says of its wires
 
-pub wires-sound : (w : World) → Sound (w .state) → K.Sound (on wires (w .state .config)) (wiresOf w)
-wires-sound w s = K.sound-view (on wires (w .state .config)) (wiresOf w) (parts s .each wires .right)
+abbrev pub AllSound : World → Type 0
+AllSound w = soundAll (on wires (w .state .config)) (countOf w) (wiresOf w) ≡ true
 
-pub wires-whole : (w : World) → Sound (w .state) → wholeWires (wiresOf w) ≡ true
-wires-whole w s = parts s .each wires .fit
+pub all-sound : (w : World) → Sound (w .state) → AllSound w
+all-sound w s = parts s .each wires .right
+
+pub all-whole : (w : World) → Sound (w .state) → wholeAll (wiresOf w) ≡ true
+all-whole w s = parts s .each wires .fit
+
+pub wires-sound : (w : World) → Sound (w .state) → K.Sound (on wires (w .state .config)) (groupsOf w)
+wires-sound w s = K.sound-view (on wires (w .state .config)) (groupsOf w) (sound-groups (on wires (w .state .config)) (countOf w) (wiresOf w) (all-sound w s))
+
+pub wires-whole : (w : World) → Sound (w .state) → wholeWires (groupsOf w) ≡ true
+wires-whole w s = whole-groups (wiresOf w) (all-whole w s)

@@ -10,7 +10,7 @@ use borrow.Author.Tests.{eqb-true, eq-eqb}
 use Rattle.base.specs.Pick.{pick-ind, taken, and-left, and-right, and-true, or-either}
 use Rattle.registers.specs.declared.Config.{Config}
 use Rattle.wires.specs.Groups.{readWire, putPairs}
-use Rattle.wires.specs.declared.Wires.{Wires}
+use Rattle.wires.specs.Senders.{AllWires, withGroups}
 use Rattle.rules.specs.Rules.Reset.{platformReset}
 use Rattle.rules.specs.Rules.Channel.{Channel, peripheral, wires, on}
 use Rattle.rules.specs.Rules.Step.{World, Call, reset, exchange, board, short, lend, step}
@@ -83,19 +83,20 @@ module _ (w : World) (b r : List ℕ) (n : Accepted w (exchange b r)) where
   put = commandEffect wires w b
 
   -- it leaves group 3 as its pairs put it
-  pltrst-after : byte b 0 ≡ 0x04 → pltrstRead (step w (exchange b r) .next) ≡ readWire (putPairs (w .state .wires) (pairs b)) 3 1
+  pltrst-after : byte b 0 ≡ 0x04 → pltrstRead (step w (exchange b r) .next) ≡ readWire (putPairs (w .state .wires .groups) (pairs b)) 3 1
   pltrst-after e =
       read-level (step w (exchange b r) .next) 3 1 refl
       ∙ ap (λ (v : World). wireOf v 3 1) (effects w (exchange b r) n ∙ ap (λ (op : ℕ). exchangeEffect w op b) e)
       ∙ pick-ind (λ (v : World). wireOf v 3 1 ≡ wireOf put 3 1) (lowersPltrst (w .state) b) (λ _. reset-wire put 3 1 (omega arith) platformReset refl)
       (λ _. refl)
-      ∙ ap (λ (v : Wires). readWire v 3 1) (sym (taken (putPairs (w .state .wires) (pairs b)) _ (eq-eqb (byte b 0) 0x04 e) refl))
+      ∙ ap (λ (v : AllWires). readWire (v .groups) 3 1)
+      (sym (taken (withGroups (w .state .wires) (putPairs (w .state .wires .groups) (pairs b))) _ (eq-eqb (byte b 0) 0x04 e) refl))
 
   packet-of : (k : Channel) → lowersPltrst (w .state) b ≡ true → EndingAt k w (exchange b r)
   packet-of k l =
       let op = eqb (byte b 0) 0x04 in
-      let high = eqb (readWire (w .state .wires) 3 1) 1 in
-      let low = eqb (readWire (putPairs (w .state .wires) (pairs b)) 3 1) 0 in
+      let high = eqb (readWire (w .state .wires .groups) 3 1) 1 in
+      let low = eqb (readWire (putPairs (w .state .wires .groups) (pairs b)) 3 1) 0 in
       let e = eqb-true (byte b 0) 0x04 (and-left op (high && low) l) in
       let levels = and-right op (high && low) l in
       byPacket e (read-level w 3 1 refl ∙ eqb-true _ 1 (and-left high low levels)) (pltrst-after e ∙ eqb-true _ 0 (and-right high low levels))

@@ -1,4 +1,4 @@
--- The nine calls as the C boundary has them: numbers 10 and 11 first, the state as bytes, the word's bits 7:0 the number and 31:8 the value.
+-- The eleven calls as the C boundary has them: numbers 10 and 11 first, the state as bytes, the word's bits 7:0 the number and 31:8 the value.
 use Prim.Native.Nat.{ℕ, _+_, _*_}
 use mathlib.Core.Bool.{not}
 use mathlib.Core.List.{List}
@@ -7,7 +7,7 @@ use lib.ListN.{length}
 use Rattle.base.specs.Pick.{pick}
 use Rattle.base.specs.Bytes.{over}
 use Rattle.state.specs.Fresh.{freshState}
-use Rattle.state.specs.declared.State.{State}
+use Rattle.state.specs.State.{State}
 use Rattle.state.specs.Layout.{stateLength, packed, unpacked, holds}
 use Rattle.rules.specs.Rules.Numbers.{storeTooShort, stateNotSound}
 use Rattle.rules.specs.Rules.Reset.{Reset, espiReset, platformReset}
@@ -18,7 +18,7 @@ use Rattle.rules.specs.Rules.Lift as L
 use Rattle.rules.specs.Rules.Exchange as E
 use Rattle.rules.specs.Rules.Reply.{replyBytes, keptBytes}
 use Rattle.rules.specs.Rules.Step.{replyLength, writeLength, readLength, lookLength, takeLength}
-use Rattle.rules.specs.declared.Plan.{Plan}
+use Rattle.rules.specs.Rules.Plan.{Plan}
 
 -- number in bits 7:0, value in bits 31:8: "through plain numbers and byte slices" (01, What the engine covers)
 abbrev pub word : ℕ → ℕ → ℕ
@@ -151,3 +151,19 @@ readWireCall st index bit =
     pick (ltb (length st) stateLength) storeTooShort
     (pick (not (holds st)) stateNotSound
     (word (W.readNumber index bit) (W.readValue (unpacked st .wires) index bit)))
+
+-- "The board raises and lowers a line": 10, 11, then 22 and 24 (02, Q-4)
+unfoldable pub setLineCall : (st : List ℕ) (line level : ℕ) → Done
+setLineCall st line level =
+    pick (ltb (length st) stateLength) (done storeTooShort st)
+    (pick (not (holds st)) (done stateNotSound st)
+    (let p = L.settled wires (unpacked st) (W.setLine line level) in
+    done (p .number) (kept (p .next) st)))
+
+-- "or asks for an edge": 10, 11, then 22 and 24 (02, Q-4)
+unfoldable pub pulseLineCall : (st : List ℕ) (line : ℕ) → Done
+pulseLineCall st line =
+    pick (ltb (length st) stateLength) (done storeTooShort st)
+    (pick (not (holds st)) (done stateNotSound st)
+    (let p = L.settled wires (unpacked st) (W.pulseLine line) in
+    done (p .number) (kept (p .next) st)))

@@ -16,7 +16,7 @@ use Rattle.rules.specs.declared.Kept.{Kept}
 use Rattle.rules.specs.declared.Kept.the-variants as K
 use Rattle.rules.specs.declared.Out.{Out}
 use Rattle.rules.specs.declared.PeripheralChange.{PeripheralChange}
-use Rattle.rules.specs.declared.WiresChange.{WiresChange}
+use Rattle.rules.specs.Rules.Plan.{WiresChange}
 
 -- ---- what a channel has
 

@@ -1,6 +1,8 @@
 -- An exchange (01, Replies and refusals): the decoder, then the command's channel, or what stands above all channels.
 use Prim.Native.Nat.{ℕ}
+use mathlib.Core.Bool.{Bool, _&&_}
 use mathlib.Core.List.{List}
+use lib.Dec.{eqb}
 use Rattle.base.specs.Pick.{pick}
 use Rattle.registers.specs.Registers.{crcChecked, fresh008, fresh010, freshConfig, readAt, forbiddenAt, writeAt}
 use Rattle.registers.specs.declared.Config.{Config}
@@ -10,12 +12,13 @@ use Rattle.command.specs.declared.Command.{Command}
 use Rattle.command.specs.declared.Command.the-variants as C
 use Rattle.command.specs.declared.Decoded.{Decoded}
 use Rattle.command.specs.declared.Decoded.the-variants.{Known, Refused}
-use Rattle.state.specs.declared.State.{State}
+use Rattle.state.specs.State.{State}
 use Rattle.rules.specs.Rules.Reset.{Reset, start, espiReset, platformReset}
 use Rattle.rules.specs.Rules.Channel.{Channel, peripheral, wires, Act, Change, nextOf, part, put, each, on, actOf, acting, resetFollows, enableEdge, reset}
+use Rattle.rules.specs.Rules.Wires.{edgeHinders}
 use Rattle.rules.specs.Rules.Lift.{lift, silent, show, nonFatal, acceptThen, quietly}
 use Rattle.rules.specs.declared.Body.the-variants as B
-use Rattle.rules.specs.declared.Plan.{Plan}
+use Rattle.rules.specs.Rules.Plan.{Plan}
 
 -- ---- configuration: each channel gets the enableEdge of its enable bit
 
@@ -24,9 +27,17 @@ use Rattle.rules.specs.declared.Plan.{Plan}
 abbrev pub reconfigured : State → Config → State
 reconfigured s c = each (λ k. enableEdge k (on k (s .config)) (on k c)) c s
 
--- 2, "forbidden configuration value"; else "A write takes effect after its own reply" (01, Replies and refusals; Registers and status)
+-- a write of 020h that a waiting edge stands against (02, Q-4: "The operating count may not be lowered to 1 while an edge waits (number 2)")
+abbrev pub hindered : State → ℕ → ℕ → Bool
+hindered s a v = eqb a 0x020 && edgeHinders (writeAt (s .config) a v) (s .wires)
+
+-- 2, "forbidden configuration value" (01, Replies and refusals), or an edge that waits (02, Q-4); else "A write takes effect after its own reply" (01,
+-- Registers and status)
 unfoldable pub setConfiguration : State → ℕ → ℕ → Plan
-setConfiguration s a v = pick (forbiddenAt a v) (nonFatal s) (acceptThen s (reconfigured s (writeAt (s .config) a v)))
+setConfiguration s a v =
+    pick (forbiddenAt a v) (nonFatal s)
+    (pick (hindered s a v) (nonFatal s)
+    (acceptThen s (reconfigured s (writeAt (s .config) a v))))
 
 -- "RESET .. No reply. It resets register 008h and nothing else"
 abbrev pub reset008h : State → State

@@ -1,7 +1,7 @@
 -- A channel's change put back into the whole: the one place where a part meets the others. And the plans above all channels.
 use Prim.Native.Nat.{ℕ}
 use Rattle.state.specs.Status.{status}
-use Rattle.state.specs.declared.State.{State}
+use Rattle.state.specs.State.{State}
 use Rattle.rules.specs.Rules.Numbers.{nonFatalError}
 use Rattle.rules.specs.Rules.Channel.{Channel, Board, Change, nextOf, outOf, part, put, settle}
 use Rattle.rules.specs.declared.Response.the-variants.{Accept, NonFatal}
@@ -12,7 +12,7 @@ use Rattle.rules.specs.declared.Say.the-variants as S
 use Rattle.rules.specs.declared.Kept.the-variants as K
 use Rattle.rules.specs.declared.Reply.{Reply}
 use Rattle.rules.specs.declared.Reply.the-variants.{Silent, Said}
-use Rattle.rules.specs.declared.Plan.{Plan}
+use Rattle.rules.specs.Rules.Plan.{Plan}
 
 -- what a channel says, with a status word: "response byte .., body, status" (01, Replies and refusals)
 abbrev pub withStatus : Say → ℕ → Reply

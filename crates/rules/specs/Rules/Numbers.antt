@@ -32,3 +32,8 @@ noSuchWire = 22
 -- "no write to take, or no unanswered request to look at"
 abbrev pub nothingThere : ℕ
 nothingThere = 23
+
+-- "A new number, 24, refuses an edge while channel 1 is off or the operating count is 1, an edge on a line that already waits to be sent, and a raise or
+-- lower while its edge waits" (02, Q-4)
+abbrev pub lineBusy : ℕ
+lineBusy = 24

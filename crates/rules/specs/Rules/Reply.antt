@@ -4,8 +4,7 @@ use mathlib.Core.List.{List, [], _∷_, _++_}
 use lib.ListN.{take, drop}
 use Rattle.base.specs.Bytes.{low2, low4}
 use Rattle.crc.specs.Crc.{crc}
-use Rattle.wires.specs.Groups.{packetBytes}
-use Rattle.wires.specs.declared.Wires.{Wires}
+use Rattle.wires.specs.Senders.{AllWires, packetBytes}
 use Rattle.peripheral.specs.declared.Completion.{Completion}
 use Rattle.rules.specs.Rules.Out.{responseByte}
 use Rattle.rules.specs.declared.Body.{Body}
@@ -25,7 +24,7 @@ dataBytes c reads = take (c .length) (drop (c .from) reads)
 
 -- "body" (01, Replies and refusals): none, a register's four bytes (004, 3.7: "1 DW of Data"), header and data, a packet of wires;
 -- over the wires as they were before the command, and the read store
-abbrev pub bodyBytes : Body → Wires → List ℕ → List ℕ
+abbrev pub bodyBytes : Body → AllWires → List ℕ → List ℕ
 bodyBytes B.Nothing w reads = []
 bodyBytes (B.Word v) w reads = low4 v
 bodyBytes (B.Piece c) w reads = headerBytes c ++ dataBytes c reads
@@ -36,7 +35,7 @@ unfoldable pub closed : List ℕ → ℕ → List ℕ
 closed m status = (m ++ low2 status) ++ (crc (m ++ low2 status) ∷ [])
 
 -- "Reply: response byte .., body, status .., CRC"; a refusal that has none gives no byte (01, Replies and refusals)
-unfoldable pub replyBytes : Reply → Wires → List ℕ → List ℕ
+unfoldable pub replyBytes : Reply → AllWires → List ℕ → List ℕ
 replyBytes Silent w reads = []
 replyBytes (Said response body status) w reads = closed (responseByte response ∷ bodyBytes body w reads) status
 

@@ -6,7 +6,7 @@ use lib.Dec.{ltb}
 use lib.ListN.{length}
 use Rattle.base.specs.Pick.{pick}
 use Rattle.base.specs.Bytes.{over}
-use Rattle.state.specs.declared.State.{State}
+use Rattle.state.specs.State.{State}
 use Rattle.state.specs.Layout.{stateLength}
 use Rattle.rules.specs.Rules.Numbers.{storeTooShort}
 use Rattle.rules.specs.Rules.Reset.{Reset}
@@ -15,7 +15,7 @@ use Rattle.rules.specs.Rules.Channel.{Channel, peripheral, wires, Board,
 use Rattle.rules.specs.Rules.Lift as L
 use Rattle.rules.specs.Rules.Exchange as E
 use Rattle.rules.specs.Rules.Reply.{replyBytes, keptBytes}
-use Rattle.rules.specs.declared.Plan.{Plan}
+use Rattle.rules.specs.Rules.Plan.{Plan}
 
 -- "reply at least 263 bytes" (01, What the engine covers)
 abbrev pub replyLength : ℕ

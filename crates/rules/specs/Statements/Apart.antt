@@ -1,19 +1,24 @@
 -- No channel tells on another, for every channel x: two runs that differ in x's own calls alone show the same of all other calls, but for x's
 -- status bits and the CRC byte, and leave the same registers, the same other parts and the other channels' stores alike. A packet that lowers PLTRST# is a
--- platform reset for the others, and both runs have it. P22 ("Wire traffic and channel 0") is the case of the wires; its mirror is that of channel 0.
+-- platform reset for the others, and both runs have it. Of runs that differ in wires one thing more is asked: that a waiting edge has no write of 020h
+-- refused. P22 ("Wire traffic and channel 0") is the case of the wires; its mirror is that of channel 0.
 use Prim.Native.Nat.{ℕ, _+_, _-_, _*_, _/_, _%_}
-use mathlib.Core.Bool.{Bool, false}
+use mathlib.Core.Bool.{Bool, true, false, _&&_}
 use mathlib.Core.List.{List, [], _∷_, _++_, map}
 use mathlib.Core.Path.{_≡_}
 use lib.Dec.{eqb}
 use lib.ListN.{getD, length, take}
 use Rattle.base.specs.Pick.{pick}
-use Rattle.state.specs.declared.State.{State}
+use Rattle.registers.specs.Registers.{bits}
+use Rattle.state.specs.State.{State}
 use Rattle.rules.specs.Rules.Reset.{platformReset}
 use Rattle.rules.specs.Rules.Channel.{Channel, peripheral, wires, part, same}
 use Rattle.rules.specs.Rules.Step.{World, Call, reset, exchange, board, short, lend, Outcome, step, run, shortStores}
 use Rattle.rules.specs.Statements.Events.{pltrstFalls}
+use Rattle.rules.specs.Statements.Fields.{byte, registerAt, registerValue}
+use Rattle.rules.specs.Statements.Requests.{without}
 use Rattle.rules.specs.Statements.Sizes.{isOf}
+use Rattle.rules.specs.Statements.Wires.Rows.{someLine}
 
 -- ---- what is a channel's own besides its opcodes: its stores, its status bits
 
@@ -59,6 +64,33 @@ unfoldable pub remains : Channel → World → List Call → List Call
 remains x w [] = []
 remains x w (c ∷ cs) = remaining x w c ++ remains x (step w c .next) cs
 
+-- ---- the one thing that the others see of the wires
+
+-- a write that would leave channel 1 on with operating count 1 "while an edge waits" (02, Q-4): SET_CONFIGURATION of 020h, bit 0 (enable) of the value
+-- being 1 and bits 21:16 (the count less one) 0
+abbrev pub writesAgainst : State → List ℕ → Bool
+writesAgainst s b =
+    eqb (byte b 0) 0x22 && (eqb (registerAt b) 0x020
+    && (eqb (bits 0 0 (registerValue b)) 1 && (eqb (bits 21 16 (registerValue b)) 0 && someLine (s .wires .lines .edges))))
+
+-- .. of any call (02, Q-4)
+abbrev pub againstEdge : State → Call → Bool
+againstEdge s (reset r) = false
+againstEdge s (exchange command reply) = writesAgainst s command
+againstEdge s (board k o) = false
+againstEdge s (short state c) = false
+againstEdge s (lend write read) = false
+
+-- .. that was refused: "The operating count may not be lowered to 1 while an edge waits (number 2)" (02, Q-4); such bytes that are no command by their
+-- length or CRC, or come with too short stores, have another number
+abbrev pub edgeRefuses : World → Call → Bool
+edgeRefuses w c = eqb (step w c .number) 2 && againstEdge (w .state) c
+
+-- "The wire-independence rule then holds for runs without such a refused write" (02, Q-4): asked where x is the wires; two runs that differ in another
+-- channel have the same wires, and so the same such writes
+abbrev pub Unhindered : Channel → World → List Call → Type 0
+Unhindered x w cs = same x wires ≡ true → without edgeRefuses w cs ≡ true
+
 -- ---- what a call shows
 
 -- a reply "but for [its] status bit[s] and the CRC byte": the last three bytes are status, low byte first, and CRC; the status as one number
@@ -103,13 +135,17 @@ pub record Alike (x : Channel) (w v : World) : Type 0 where
   pub stores : (y : Channel) → same x y ≡ false → storesOf y (w .write) (w .read) ≡ storesOf y (v .write) (v .read)
   pub room : (reply : List ℕ) → shortStores reply w ≡ shortStores reply v
 
--- "State the wire-independence rule for every pair of the four channels" (02, Q-14), of the two that there are
+-- "State the wire-independence rule for every pair of the four channels" (02, Q-14), of the two that there are. Both runs are to be without a write that an
+-- edge refuses (02, Q-4): a run against the same run without its wire calls fails from a start in which an edge waits, since nothing sends it there, and the
+-- write of operating count 1 that the first accepts behind its GET_VWIRE the second refuses
 abbrev pub NoneTells : Type 0
-NoneTells = (x : Channel) (w v : World) (cs ds : List Call) → Alike x w v → remains x w cs ≡ remains x v ds → RunsAlike x (Alike x) w v cs ds
+NoneTells =
+    (x : Channel) (w v : World) (cs ds : List Call) → Alike x w v → Unhindered x w cs → Unhindered x v ds → remains x w cs ≡ remains x v ds
+    → RunsAlike x (Alike x) w v cs ds
 
 -- ---- P22, and its mirror
 
--- any two states that agree but for levels, marks and place, sound or not, and stores of any length: neither is needed
+-- any two states that agree but for levels, marks, place and lines, sound or not, and stores of any length: neither is needed
 -- ("equal sound starts, equal stores long enough", 01, Wires)
 pub record SameButWires (w v : World) : Type 0 where
   pub state : StatesAlike wires (w .state) (v .state)
@@ -117,9 +153,12 @@ pub record SameButWires (w v : World) : Type 0 where
   pub read : w .read ≡ v .read
 
 -- "Wire traffic and channel 0: two runs .. give each peripheral command the same reply but for status bit 6 and the CRC byte" (01, Wires), "for runs with the
--- same such packets" (02, Q-1): a packet of one run may stand against a packet of other bytes or the board's platform reset of the other
+-- same such packets" (02, Q-1): a packet of one run may stand against a packet of other bytes or the board's platform reset of the other; and "for runs
+-- without such a refused write" (02, Q-4), in both
 abbrev pub WiresApart : Type 0
-WiresApart = (w v : World) (cs ds : List Call) → SameButWires w v → remains wires w cs ≡ remains wires v ds → RunsAlike wires SameButWires w v cs ds
+WiresApart =
+    (w v : World) (cs ds : List Call) → SameButWires w v → without edgeRefuses w cs ≡ true → without edgeRefuses v ds ≡ true
+    → remains wires w cs ≡ remains wires v ds → RunsAlike wires SameButWires w v cs ds
 
 -- any two that agree but for held write, request and serial, and stores of any bytes
 -- (docs/DECISIONS.md, 32: the stores differ with channel 0; 02, Q-14: "equal stores long enough")

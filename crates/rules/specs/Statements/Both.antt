@@ -1,5 +1,5 @@
--- The case law for two worlds of one configuration: a call is the same case in both, for what it is depends on the configuration, on its own bytes
--- and on whether its stores are long enough.
+-- The case law for two worlds of one configuration: a call is the same case in both, for what it is depends on the configuration, on its own bytes,
+-- on whether its stores are long enough, and on whether an edge stands against it.
 use Prim.Native.Nat.{ℕ, _≤_}
 use mathlib.Core.Bool.{false}
 use mathlib.Core.List.{List}
@@ -11,7 +11,7 @@ use Rattle.rules.specs.Rules.Channel.{Channel, Command, Board, actOf}
 use Rattle.rules.specs.Rules.Lift as L
 use Rattle.rules.specs.Rules.Lift.{show, nonFatal, acceptThen, quietly}
 use Rattle.rules.specs.Rules.Exchange as E
-use Rattle.rules.specs.Rules.Exchange.{reconfigured, reset008h, wasReset}
+use Rattle.rules.specs.Rules.Exchange.{reconfigured, hindered, reset008h, wasReset}
 use Rattle.rules.specs.Rules.Step as S
 use Rattle.rules.specs.Rules.Step.{World, Call, Outcome, exchange, board, reset, short, lend, only, withState, shortStores, shortFor, performed, served}
 use Rattle.rules.specs.Statements.Plans.{commandOf, Admits}
@@ -64,6 +64,17 @@ SameRoom w v (board k o) = shortFor k o w ≡ shortFor k o v
 SameRoom w v (short state c) = Unit {0}
 SameRoom w v (lend write read) = Unit {0}
 
+-- an edge stands against the write of an exchange in both worlds, or in neither: "The wire-independence rule then holds for runs without such a refused
+-- write" (02, Q-4); asked where the stores are long enough, else the number is 10 and the write is not looked at
+abbrev pub SameHindrance : World → World → Call → Type 0
+SameHindrance w v (reset r) = Unit {0}
+SameHindrance w v (exchange b r) =
+    shortStores r w ≡ false → (a n : ℕ) → Admits (w .state) b (C.SetConfiguration a n) → hindered (w .state) a n ≡ hindered (v .state) a n
+SameHindrance w v (board k o) = Unit {0}
+SameHindrance w v (short state c) = Unit {0}
+SameHindrance w v (lend write read) = Unit {0}
+
 -- for the rule "Wire traffic and channel 0" (01, Wires) and its like of every channel: registers alike, a call is one case in both
 abbrev pub BothCases : Type 0
-BothCases = (w v : World) (c : Call) → w .state .config ≡ v .state .config → SameRoom w v c → Both w v c (S.step w c) (S.step v c)
+BothCases =
+    (w v : World) (c : Call) → w .state .config ≡ v .state .config → SameRoom w v c → SameHindrance w v c → Both w v c (S.step w c) (S.step v c)

@@ -9,6 +9,7 @@ use Rattle.command.specs.declared.Command.the-variants as C
 use Rattle.rules.specs.Rules.Reset.{Reset}
 use Rattle.rules.specs.Rules.Channel.{Channel, wires, Command, Board, Change, nextOf, part, put, actOf, resetFollows}
 use Rattle.rules.specs.Rules.Lift.{lift, show, nonFatal, acceptThen, quietly}
+use Rattle.rules.specs.Rules.Exchange as E
 use Rattle.rules.specs.Rules.Exchange.{reconfigured, reset008h, wasReset, thenReset}
 use Rattle.rules.specs.Rules.Step as S
 use Rattle.rules.specs.Rules.Step.{World, Call, Outcome, exchange, board, reset, lend, only, withState, shortFor, performed, served}
@@ -18,9 +19,10 @@ use Rattle.rules.specs.declared.Body.{Body}
 
 -- ---- the cases
 
--- idle: "none; unchanged"; forbidden: 2, "forbidden configuration value" (01, Replies and refusals); configured: "A write takes effect after its own
--- reply" (01, Registers and status); cleared: RESET, "It resets register 008h and nothing else" (01, Commands); wiped: "start, eSPI reset, platform reset"
--- (01, What the engine covers); lowered: "the platform reset follows after that reply" (02, Q-1); acted and settles: the channel's own law
+-- idle: "none; unchanged"; forbidden: 2, "forbidden configuration value" (01, Replies and refusals); hindered: "The operating count may not be lowered to
+-- 1 while an edge waits (number 2)" (02, Q-4); configured: "A write takes effect after its own reply" (01, Registers and status); cleared: RESET, "It resets
+-- register 008h and nothing else" (01, Commands); wiped: "start, eSPI reset, platform reset" (01, What the engine covers); lowered: "the platform reset
+-- follows after that reply" (02, Q-1); acted and settles: the channel's own law
 pub data Case (w : World) : Call → Outcome → Type 0 where
   idle : {c : Call} (n : ℕ) → Silent n → Case w c (only n w)
   shown : {b r : List ℕ} {body : Body} → Shows (w .state) b body → Case w (exchange b r) (performed w b (show body (w .state)))
@@ -31,7 +33,9 @@ pub data Case (w : World) : Call → Outcome → Type 0 where
       → Settled k (w .state .config) (part k (w .state)) o x → Case w (board k o) (served k w o (lift k (w .state) x))
   forbidden : {b r : List ℕ} (a v : ℕ) → Admits (w .state) b (C.SetConfiguration a v) → forbiddenAt a v ≡ true
       → Case w (exchange b r) (performed w b (nonFatal (w .state)))
-  configured : {b r : List ℕ} (a v : ℕ) → Admits (w .state) b (C.SetConfiguration a v) → forbiddenAt a v ≡ false
+  hindered : {b r : List ℕ} (a v : ℕ) → Admits (w .state) b (C.SetConfiguration a v) → forbiddenAt a v ≡ false → E.hindered (w .state) a v ≡ true
+      → Case w (exchange b r) (performed w b (nonFatal (w .state)))
+  configured : {b r : List ℕ} (a v : ℕ) → Admits (w .state) b (C.SetConfiguration a v) → forbiddenAt a v ≡ false → E.hindered (w .state) a v ≡ false
       → Case w (exchange b r) (performed w b (acceptThen (w .state) (reconfigured (w .state) (writeAt (w .state .config) a v))))
   lowered : {b r : List ℕ} (o : Command wires) (x : Change wires) → Admits (w .state) b (commandOf wires o)
       → W.Lowers (w .state .config) (w .state .wires) (actOf wires (w .state .config) o b) x

@@ -73,6 +73,8 @@ peripheralReads (P.takeWrite report) = false
 abbrev pub wiresReads : W.Board → Bool
 wiresReads (W.setWire index bit value) = false
 wiresReads (W.readWire index bit) = true
+wiresReads (W.setLine line level) = false
+wiresReads (W.pulseLine line) = false
 
 -- .. of any channel (01, What the engine covers: "look at the request", "read a wire")
 abbrev pub boardOnlyReads : (k : Channel) → Board k → Bool

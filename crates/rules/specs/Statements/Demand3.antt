@@ -13,7 +13,7 @@ use Rattle.pieces.specs.Pieces.{blocks, piece, part}
 use Rattle.peripheral.specs.declared.Np.the-variants.{Free, Waiting}
 use Rattle.peripheral.specs.Layout.{kindNumber}
 use Rattle.state.specs.Status.{status}
-use Rattle.state.specs.declared.State.{State}
+use Rattle.state.specs.State.{State}
 use Rattle.state.specs.Sound.{Sound}
 use Rattle.rules.specs.Rules.Peripheral.{look, succeeded}
 use Rattle.rules.specs.Rules.Channel.{peripheral}

@@ -9,7 +9,7 @@ use lib.Dec.{eqb}
 use Rattle.base.specs.Pick.{pick}
 use Rattle.registers.specs.Registers.{bits}
 use Rattle.registers.specs.declared.Config.{Config}
-use Rattle.state.specs.declared.State.{State}
+use Rattle.state.specs.State.{State}
 use Rattle.rules.specs.Rules.Reset.{Reset, start, espiReset, platformReset}
 use Rattle.rules.specs.Rules.Channel.{Channel, peripheral, wires, Part, Board, part, put, each, same}
 use Rattle.rules.specs.Rules.Step.{World, Call, reset, exchange, board, short, lend, withState, step}

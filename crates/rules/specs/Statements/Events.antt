@@ -4,7 +4,7 @@ use mathlib.Core.Bool.{Bool, true, false, _&&_, _||_, not}
 use mathlib.Core.List.{List, [], _∷_}
 use lib.Dec.{eqb}
 use Rattle.wires.specs.Groups.{putPairs, readWire}
-use Rattle.state.specs.declared.State.{State}
+use Rattle.state.specs.State.{State}
 use Rattle.rules.specs.Rules.Channel.{Channel, peripheral, wires, on}
 use Rattle.rules.specs.Rules.Step.{World, Call, reset, exchange, board, short, lend, Outcome, step}
 use Rattle.rules.specs.Statements.Fields.{byte, pairs, registerAt, registerValue}
@@ -24,7 +24,7 @@ disables k s b = eqb (byte b 0) 0x22 && (enablesAt k (registerAt b) && (on k (s 
 
 -- a PUT_VWIRE that "ends with PLTRST# low that was high before" (02, Q-1): bit 1 of group 3 (004, table 10), before the packet and after all its pairs
 abbrev pub lowersPltrst : State → List ℕ → Bool
-lowersPltrst s b = eqb (byte b 0) 0x04 && (eqb (readWire (s .wires) 3 1) 1 && eqb (readWire (putPairs (s .wires) (pairs b)) 3 1) 0)
+lowersPltrst s b = eqb (byte b 0) 0x04 && (eqb (readWire (s .wires .groups) 3 1) 1 && eqb (readWire (putPairs (s .wires .groups) (pairs b)) 3 1) 0)
 
 -- .. of any call (02, Q-1)
 abbrev pub lowering : State → Call → Bool

@@ -10,13 +10,13 @@ use lib.Dec.{eqb, ltb}
 use lib.ListN.{length, take}
 use Rattle.registers.specs.Registers.{bits}
 use Rattle.registers.specs.declared.Config.{Config}
-use Rattle.state.specs.declared.State.{State}
+use Rattle.state.specs.State.{State}
 use Rattle.state.specs.Layout.{stateLength, packed, unpacked, holds}
 use Rattle.state.specs.Sound.{Sound}
 use Rattle.rules.specs.Rules.Peripheral.{look, answer, takeWrite}
-use Rattle.rules.specs.Rules.Wires.{setWire, readWire}
+use Rattle.rules.specs.Rules.Wires.{setWire, readWire, setLine, pulseLine}
 use Rattle.rules.specs.Rules.Channel.{Channel, peripheral, wires, Part, Board, part}
-use Rattle.rules.specs.Rules.Calls.{startCall, espiResetCall, platformResetCall, exchangeCall, lookCall, answerCall, takeWriteCall, setWireCall, readWireCall}
+use Rattle.rules.specs.Rules.Calls.{startCall, espiResetCall, platformResetCall, exchangeCall, lookCall, answerCall, takeWriteCall, setWireCall, readWireCall, setLineCall, pulseLineCall}
 use Rattle.rules.specs.Statements.Fields.{byte, isListed, isReset, registerAt, registerValue, wholeLength, crcRight}
 use Rattle.rules.specs.Statements.Sizes.{isOf, isEnabled}
 use Rattle.rules.specs.Statements.Rows.{Row, row, First}
@@ -38,12 +38,17 @@ sizeRows wires c b = W.sizeRows c b
 -- "The check comes after the operating count" (02, Q-6): 1, channel 1's own
 abbrev pub transitionRows : (k : Channel) → Part k → List ℕ → List Row
 transitionRows peripheral p b = []
-transitionRows wires p b = W.transitionRows p b
+transitionRows wires p b = W.transitionRows (p .groups) b
+
+-- an edge that stands against a write of 020h: 2, channel 1's own (02, Q-4)
+abbrev pub edgeRows : (k : Channel) → Part k → List ℕ → List Row
+edgeRows peripheral p b = []
+edgeRows wires p b = W.edgeRows p b
 
 -- "their own from 20 up", each channel its own (01, Replies and refusals)
-abbrev pub boardRows : (k : Channel) → Part k → Board k → List Row
-boardRows peripheral p o = P.boardRows p o
-boardRows wires p o = W.boardRows o
+abbrev pub boardRows : (k : Channel) → Config → Part k → Board k → List Row
+boardRows peripheral c p o = P.boardRows p o
+boardRows wires c p o = W.boardRows c p o
 
 -- the rows of all channels (an opcode is of one channel, so that "in this order" is kept, 01, Replies and refusals)
 abbrev pub byChannel : ((k : Channel) → List Row) → List Row
@@ -135,13 +140,15 @@ valueRows b = row 2 (eqb (byte b 0) 0x22 && valueForbidden (registerAt b) (regis
 abbrev pub allSizes : Config → List ℕ → List Row
 allSizes c b = byChannel (λ (k : Channel). sizeRows k c b)
 
--- after the decoder: "16, credit (1), size (1), 2" (01, Replies and refusals); with size, "after the operating count", transitions (1) (02, Q-6)
+-- after the decoder: "16, credit (1), size (1), 2" (01, Replies and refusals); with size, "after the operating count", transitions (1) (02, Q-6); with 2,
+-- "while an edge waits (number 2)" (02, Q-4)
 abbrev pub laterRows : State → List ℕ → List Row
 laterRows s b =
     byChannel (λ (k : Channel). creditRows k (part k s) b)
     ++ (allSizes (s .config) b
     ++ (byChannel (λ (k : Channel). transitionRows k (part k s) b)
-    ++ valueRows b))
+    ++ (valueRows b
+    ++ byChannel (λ (k : Channel). edgeRows k (part k s) b))))
 
 -- the decoder's rows come first: "A decode that gives no command ends the exchange at once" (01, Replies and refusals)
 abbrev pub commandRows : State → List ℕ → List Row
@@ -164,7 +171,7 @@ resetRows st = tooShort st stateLength ∷ packsNone st ∷ []
 
 -- 11, then the channel's own ("11, then their own from 20 up", 01, Replies and refusals)
 abbrev pub ownRows : (k : Channel) → List ℕ → Board k → List Row
-ownRows k st o = packsNone st ∷ boardRows k (part k (unpacked st)) o
+ownRows k st o = packsNone st ∷ boardRows k (unpacked st .config) (part k (unpacked st)) o
 
 -- a report has 19 bytes, a take's 10; "an answer [uses] the read store, a take the write store"
 abbrev pub lookRows : (st report : List ℕ) → List Row
@@ -186,6 +193,14 @@ setRows st index bit value = tooShort st stateLength ∷ ownRows wires st (setWi
 abbrev pub readRows : (st : List ℕ) (index bit : ℕ) → List Row
 readRows st index bit = tooShort st stateLength ∷ ownRows wires st (readWire index bit)
 
+-- .. then 22 and 24: "22 for no such line comes first" (02, Q-4)
+abbrev pub lineRows : (st : List ℕ) (line level : ℕ) → List Row
+lineRows st line level = tooShort st stateLength ∷ ownRows wires st (setLine line level)
+
+-- .. of an edge (02, Q-4)
+abbrev pub pulseRows : (st : List ℕ) (line : ℕ) → List Row
+pulseRows st line = tooShort st stateLength ∷ ownRows wires st (pulseLine line)
+
 -- ---- the statement; the number is in the word's bits 7:0
 
 -- "The first that applies counts", of each call (01, Replies and refusals)
@@ -203,3 +218,5 @@ pub record FirstApplies : Type 0 where
   pub takeWrite : (st write report : List ℕ) → First (takeWriteCall st write report .word % 256) (takeRows st write report)
   pub setWire : (st : List ℕ) (index bit value : ℕ) → First (setWireCall st index bit value .word % 256) (setRows st index bit value)
   pub readWire : (st : List ℕ) (index bit : ℕ) → First (readWireCall st index bit % 256) (readRows st index bit)
+  pub setLine : (st : List ℕ) (line level : ℕ) → First (setLineCall st line level .word % 256) (lineRows st line level)
+  pub pulseLine : (st : List ℕ) (line : ℕ) → First (pulseLineCall st line .word % 256) (pulseRows st line)

@@ -1,5 +1,5 @@
 -- The plan of an exchange by cases: the decoder gave no command, the command shows and changes nothing, its channel acted, the
--- configuration was written or its value is forbidden, PLTRST# went low, or register 008h was reset.
+-- configuration was written or its value is forbidden or hindered by an edge, PLTRST# went low, or register 008h was reset.
 use Prim.Native.Nat.{ℕ, _≤_}
 use mathlib.Core.Bool.{true, false}
 use mathlib.Core.List.{List}
@@ -10,16 +10,16 @@ use Rattle.command.specs.Decode.{admit}
 use Rattle.command.specs.declared.Command as C₀
 use Rattle.command.specs.declared.Command.the-variants as C
 use Rattle.command.specs.declared.Decoded.the-variants.{Known, Refused}
-use Rattle.state.specs.declared.State.{State}
+use Rattle.state.specs.State.{State}
 use Rattle.rules.specs.Rules.Channel.{Channel, peripheral, wires, Part, Command, Act, Board, Change, nextOf, part, put, actOf, resetFollows}
 use Rattle.rules.specs.Rules.Lift.{lift, silent, show, nonFatal, acceptThen, quietly}
 use Rattle.rules.specs.Rules.Exchange as E
-use Rattle.rules.specs.Rules.Exchange.{channelsOf, reconfigured, reset008h, thenReset}
+use Rattle.rules.specs.Rules.Exchange.{channelsOf, reconfigured, hindered, reset008h, thenReset}
 use Rattle.rules.specs.Statements.Peripheral as P
 use Rattle.rules.specs.Statements.Wires as W
 use Rattle.rules.specs.declared.Body.{Body}
 use Rattle.rules.specs.declared.Body.the-variants as B
-use Rattle.rules.specs.declared.Plan.{Plan}
+use Rattle.rules.specs.Rules.Plan.{Plan}
 
 -- ---- a channel's law, by channel
 
@@ -59,9 +59,9 @@ pub record Refuses (s : State) (b : List ℕ) (n : ℕ) : Type 0 where
   pub least : 12 ≤ n
   pub most : n ≤ 16
 
--- turned: "A decode that gives no command ends the exchange at once"; forbids: 2, "forbidden configuration value" (01, Replies and refusals); configures: "A
--- write takes effect after its own reply" (01, Registers and status); lowers: "the platform reset follows after that reply" (02, Q-1); clears: RESET, "resets
--- register 008h and nothing else" (01, Commands)
+-- turned: "A decode that gives no command ends the exchange at once"; forbids: 2, "forbidden configuration value" (01, Replies and refusals); hinders:
+-- "The operating count may not be lowered to 1 while an edge waits (number 2)" (02, Q-4); configures: "A write takes effect after its own reply" (01,
+-- Registers and status); lowers: "the platform reset follows after that reply" (02, Q-1); clears: RESET, "resets register 008h and nothing else" (01, Commands)
 pub data Planned (s : State) (b : List ℕ) : Plan → Type 0 where
   turned : (n : ℕ) → Refuses s b n → Planned s b (silent n s)
   shows : {body : Body} → Shows s b body → Planned s b (show body s)
@@ -70,7 +70,8 @@ pub data Planned (s : State) (b : List ℕ) : Plan → Type 0 where
   lowers : (o : Command wires) (x : Change wires) → Admits s b (commandOf wires o) → W.Lowers (s .config) (s .wires) (actOf wires (s .config) o b) x
       → Planned s b (thenReset (put wires (x .next) s))
   forbids : (a v : ℕ) → Admits s b (C.SetConfiguration a v) → forbiddenAt a v ≡ true → Planned s b (nonFatal s)
-  configures : (a v : ℕ) → Admits s b (C.SetConfiguration a v) → forbiddenAt a v ≡ false
+  hinders : (a v : ℕ) → Admits s b (C.SetConfiguration a v) → forbiddenAt a v ≡ false → hindered s a v ≡ true → Planned s b (nonFatal s)
+  configures : (a v : ℕ) → Admits s b (C.SetConfiguration a v) → forbiddenAt a v ≡ false → hindered s a v ≡ false
       → Planned s b (acceptThen s (reconfigured s (writeAt (s .config) a v)))
   clears : Admits s b C.Reset → Planned s b (quietly (reset008h s))
 

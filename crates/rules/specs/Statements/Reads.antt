@@ -12,7 +12,7 @@ use Rattle.command.specs.declared.Listed.the-variants.{As}
 use Rattle.command.specs.declared.Command.{Command}
 use Rattle.command.specs.declared.Command.the-variants as C
 use Rattle.peripheral.specs.declared.Request.{Request}
-use Rattle.state.specs.declared.State.{State}
+use Rattle.state.specs.State.{State}
 use Rattle.rules.specs.Rules.Peripheral as P
 use Rattle.rules.specs.Rules.Peripheral.{requestOf}
 use Rattle.rules.specs.Rules.Wires as W

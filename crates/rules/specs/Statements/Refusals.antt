@@ -10,12 +10,12 @@ use lib.ListN.{length, drop}
 use Rattle.base.specs.Pick.{pick}
 use Rattle.crc.specs.Crc.{crc}
 use Rattle.state.specs.Status.{status}
-use Rattle.state.specs.declared.State.{State}
+use Rattle.state.specs.State.{State}
 use Rattle.state.specs.Layout.{stateLength, unpacked}
 use Rattle.rules.specs.Rules.Peripheral as P
 use Rattle.rules.specs.Rules.Channel.{Channel, peripheral, wires, Board}
 use Rattle.rules.specs.Rules.Step.{World, Call, reset, exchange, board, short, lend, Outcome, step, lookLength, takeLength}
-use Rattle.rules.specs.Rules.Calls.{word, Exchanged, done, exchanged, stored, looked, startCall, espiResetCall, platformResetCall, exchangeCall, lookCall, answerCall, takeWriteCall, setWireCall, readWireCall}
+use Rattle.rules.specs.Rules.Calls.{word, Exchanged, done, exchanged, stored, looked, startCall, espiResetCall, platformResetCall, exchangeCall, lookCall, answerCall, takeWriteCall, setWireCall, readWireCall, setLineCall, pulseLineCall}
 use Rattle.rules.specs.declared.Kept.{Kept}
 use Rattle.rules.specs.declared.Kept.the-variants as K
 use Rattle.rules.specs.Statements.Fields.{byte, isPosted, accessLength}
@@ -122,7 +122,7 @@ pub record StoresKept (w : World) (c : Call) : Type 0 where
 abbrev pub CallsKeepStores : Type 0
 CallsKeepStores = (w : World) (c : Call) → isLend c ≡ false → StoresKept w c
 
--- ---- the same of the nine calls over lent bytes
+-- ---- the same of the eleven calls over lent bytes
 
 -- a word's bits 7:0 ("through plain numbers", 01, What the engine covers)
 abbrev pub numberOf : ℕ → ℕ
@@ -156,6 +156,10 @@ pub record CallsRefuse : Type 0 where
       → setWireCall st index bit value ≡ done (numberOf (setWireCall st index bit value .word)) st
   pub readWire : (st : List ℕ) (index bit : ℕ)
       → numberOf (readWireCall st index bit) ≢ 0 → readWireCall st index bit ≡ numberOf (readWireCall st index bit)
+  pub setLine : (st : List ℕ) (line level : ℕ)
+      → numberOf (setLineCall st line level .word) ≢ 0 → setLineCall st line level ≡ done (numberOf (setLineCall st line level .word)) st
+  pub pulseLine : (st : List ℕ) (line : ℕ)
+      → numberOf (pulseLineCall st line .word) ≢ 0 → pulseLineCall st line ≡ done (numberOf (pulseLineCall st line .word)) st
 
 -- past the state's length, the reply's, a report's and the data's, every byte is as it was, whatever the number
 -- ("Store bytes that no rule writes are unchanged", 01, Replies and refusals; "with bytes past it neither read nor written", 01, What the engine covers)
@@ -178,3 +182,5 @@ pub record CallsKeepBytes : Type 0 where
   pub takeState : (st write report : List ℕ) → drop stateLength (takeWriteCall st write report .state) ≡ drop stateLength st
   pub takeReport : (st write report : List ℕ) → drop takeLength (takeWriteCall st write report .store) ≡ drop takeLength report
   pub setWire : (st : List ℕ) (index bit value : ℕ) → drop stateLength (setWireCall st index bit value .state) ≡ drop stateLength st
+  pub setLine : (st : List ℕ) (line level : ℕ) → drop stateLength (setLineCall st line level .state) ≡ drop stateLength st
+  pub pulseLine : (st : List ℕ) (line : ℕ) → drop stateLength (pulseLineCall st line .state) ≡ drop stateLength st

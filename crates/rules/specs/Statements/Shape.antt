@@ -10,7 +10,7 @@ use lib.ListN.{length}
 use Rattle.base.specs.Pick.{pick}
 use Rattle.crc.specs.Crc.{crc}
 use Rattle.state.specs.Status.{status}
-use Rattle.state.specs.declared.State.{State}
+use Rattle.state.specs.State.{State}
 use Rattle.state.specs.Sound.{Sound}
 use Rattle.rules.specs.Statements.Fields.{byte, isNonPosted}
 use Rattle.rules.specs.Statements.Events.{lowersPltrst}

@@ -1,10 +1,10 @@
 -- "Sound state" (01, Wires, last paragraph) in propositions, a field for each clause; each channel has its own.
-use Prim.Native.Nat.{ℕ, _^_, _<_}
-use mathlib.Core.Bool.{Bool, false}
+use Prim.Native.Nat.{ℕ, _+_, _^_, _<_}
+use mathlib.Core.Bool.{false}
 use mathlib.Core.Path.{_≡_}
-use Rattle.registers.specs.Registers.{forbidden008, forbidden010, write008, write010, write020, fresh008, fresh010, fresh020}
+use Rattle.registers.specs.Registers.{bits, forbidden008, forbidden010, write008, write010, write020, fresh008, fresh010, fresh020}
 use Rattle.registers.specs.declared.Config.{Config}
-use Rattle.state.specs.declared.State.{State}
+use Rattle.state.specs.State.{State}
 use Rattle.rules.specs.Rules.Channel.{Channel, peripheral, wires, Part, part, on}
 use Rattle.rules.specs.Statements.Peripheral.SoundMeans as P
 use Rattle.rules.specs.Statements.Wires.SoundMeans as W
@@ -19,12 +19,13 @@ pub record Reached (c : Config) : Type 0 where
 
 -- ---- the clauses
 
--- the clauses of a channel's part, on or off (01, Sound state: "none while channel 1 is off", "no queue is held while channel 0 is off")
-abbrev pub PartClauses : (k : Channel) → Bool → Part k → Type 0
-PartClauses peripheral on p = P.Clauses on p
-PartClauses wires on p = W.Clauses on p
+-- the clauses of a channel's part, on or off (01, Sound state: "none while channel 1 is off", "no queue is held while channel 0 is off"), and with this
+-- operating count (02, Q-4)
+abbrev pub PartClauses : (k : Channel) → Config → Part k → Type 0
+PartClauses peripheral c p = P.Clauses (on peripheral c) p
+PartClauses wires c p = W.Clauses (on wires c) (bits 21 16 (c .r020 .value) + 1) p
 
--- "Sound state: registers hold reachable values; .. the going-round place is 4 to 6" (01, Wires)
+-- "Sound state: registers hold reachable values; .. the going-round place is 4 to 6" (01, Wires; 02, Q-4: a sender's)
 pub record Clauses (s : State) : Type 0 where
   pub registers : Reached (s .config)
-  pub ofChannel : (k : Channel) → PartClauses k (on k (s .config)) (part k s)
+  pub ofChannel : (k : Channel) → PartClauses k (s .config) (part k s)

@@ -4,6 +4,7 @@ use Prim.Native.Nat.{ℕ, _+_, _*_}
 use mathlib.Core.List.{List, []}
 use mathlib.Core.Logic.{_≢_}
 use mathlib.Core.Path.{_≡_}
+use Rattle.base.specs.Bytes.{bit}
 use Rattle.state.specs.Status.{status}
 use Rattle.state.specs.Sound.{Sound}
 use Rattle.rules.specs.Rules.Channel.{Channel, peripheral, wires}
@@ -11,13 +12,19 @@ use Rattle.rules.specs.Rules.Step.{World, exchange, step}
 use Rattle.rules.specs.Statements.Requests.{statusIn}
 use Rattle.rules.specs.Statements.Status.{LongEnough, statusBit, ShowsAvail}
 use Rattle.rules.specs.Statements.Peripheral.Status as P
+use Rattle.rules.specs.Statements.Wires.Rows.{somePending}
 use Rattle.rules.specs.Statements.Shape.{stateShown}
 
 module _ (w : World) (lent : List ℕ) where
-  -- channel 1: "6 VWIRE_AVAIL (a group is pending)", on or off
+  -- "6 VWIRE_AVAIL (a group is pending)" (01, Registers and status), or a line waits (02, Q-4), channel 1 on or off; and so of the next GET_VWIRE
+  pub record WireBit : Type 0 where
+    pub pending : statusBit w 6 ≡ bit (somePending (w .state .wires))
+    pub gets : ShowsAvail w lent 6 0x05
+
+  -- each channel's (01, Registers and status: "Status bits")
   abbrev pub BitsOf : Channel → Type 0
   BitsOf peripheral = P.Bits w lent
-  BitsOf wires = ShowsAvail w lent 6 0x05
+  BitsOf wires = WireBit
 
   -- the whole word: "Status bits: .. the rest 0" (01, Registers and status)
   pub record StatusBits : Type 0 where

@@ -1,5 +1,5 @@
--- P23. Bench lines (01, Bench lines; outside vectors; 02, Q-1, Q-5, Q-6): one table, one statement. A row: the calls before it from a fresh world, the command,
--- its number and its whole reply. The set-ups are real commands; replies were made by hand and a CRC program that shares nothing with this repository.
+-- P23. Bench lines (01, Bench lines; outside vectors; 02, Q-1, Q-4, Q-5, Q-6): one table, one statement. A row: the calls before it from a fresh world, the
+-- command, its number and its whole reply. The set-ups are real commands; replies were made by hand and a CRC program that shares nothing with this repository.
 use Prim.Native.Nat.{ℕ, zero, suc}
 use mathlib.Core.List.{List, [], _∷_, _++_}
 use mathlib.Core.Path.{_≡_}
@@ -17,9 +17,13 @@ ramp a (suc n) = a ∷ ramp (suc a) n
 
 -- ---- commands
 
--- channel 1 on
-abbrev on1 : List ℕ
+-- channel 1 on (01, Bench lines: "channel 1 on")
+abbrev pub on1 : List ℕ
 on1 = 0x22 ∷ 0x00 ∷ 0x20 ∷ 0x01 ∷ 0x00 ∷ 0x00 ∷ 0x00 ∷ 0x6A ∷ []
+
+-- channel 1 on with an operating count of 2 (02, Q-4)
+abbrev pub on2 : List ℕ
+on2 = 0x22 ∷ 0x00 ∷ 0x20 ∷ 0x01 ∷ 0x00 ∷ 0x01 ∷ 0x00 ∷ 0x7F ∷ []
 
 -- channel 1 on with an operating count of 64
 abbrev on64 : List ℕ
@@ -108,16 +112,35 @@ ioRead = 0x40 ∷ 0x00 ∷ 0x64 ∷ 0xBD ∷ []
 
 -- ---- rows
 
-abbrev send : List ℕ → Call
+-- an exchange of these bytes, with a reply store that is long enough (01, Bench lines)
+abbrev pub send : List ℕ → Call
 send command = exchange command (replicate 263 0)
 
 abbrev answer : ℕ → ℕ → List ℕ → Call
 answer serial success bytes = board peripheral (P.answer serial success bytes)
 
-abbrev setWire : ℕ → ℕ → ℕ → Call
+-- "set a wire" (01, What the engine covers)
+abbrev pub setWire : ℕ → ℕ → ℕ → Call
 setWire index bit value = board wires (W.setWire index bit value)
 
-abbrev fresh : World
+-- "The board raises and lowers a line" (02, Q-4)
+abbrev pub setLine : ℕ → ℕ → Call
+setLine line level = board wires (W.setLine line level)
+
+-- "or asks for an edge" (02, Q-4)
+abbrev pub pulseLine : ℕ → Call
+pulseLine line = board wires (W.pulseLine line)
+
+-- an operating count of 2, line 1 raised, an edge of line 130, bit 0 of group 5 set (02, Q-4)
+abbrev pub threeWait : List Call → List Call
+threeWait cs = send on2 ∷ setLine 1 1 ∷ pulseLine 130 ∷ setWire 5 0 1 ∷ cs
+
+-- GET_VWIRE (01, Commands)
+abbrev pub getVwire : List ℕ
+getVwire = 0x05 ∷ 0x1B ∷ []
+
+-- "Fresh": after a start, with stores that are long enough (01, Bench lines)
+abbrev pub fresh : World
 fresh = record { state = freshState; write = replicate 256 0; read = replicate 4096 0 }
 
 -- a line: "Fresh, 25 FB gives 08 07 00 3A" (01, Bench lines)
@@ -247,6 +270,15 @@ rows =
     -- .. and what was held is gone
     ∷ row (send on4 ∷ send pltrstHigh ∷ send ioRead ∷ send pltrstHighLow ∷ []) getStatus 0
     (0x08 ∷ 0x07 ∷ 0x00 ∷ 0x3A ∷ [])
+    -- two entries fit: group 5, and line 1 behind it; the edge of line 130 takes two (02, Q-4)
+    ∷ row (threeWait []) getVwire 0
+    (0x08 ∷ 0x01 ∷ 0x05 ∷ 0xF1 ∷ 0x00 ∷ 0x81 ∷ 0x47 ∷ 0x00 ∷ 0xF1 ∷ [])
+    -- .. the edge: high, then low, which it holds
+    ∷ row (threeWait (send getVwire ∷ [])) getVwire 0
+    (0x08 ∷ 0x01 ∷ 0x01 ∷ 0x82 ∷ 0x01 ∷ 0x02 ∷ 0x07 ∷ 0x00 ∷ 0x96 ∷ [])
+    -- .. and nothing waits
+    ∷ row (threeWait (send getVwire ∷ send getVwire ∷ [])) getVwire 1
+    (0x03 ∷ 0x07 ∷ 0x00 ∷ 0xD6 ∷ [])
     ∷ []
 
 -- ---- the statement: each row's command gets the row's number and reply

@@ -5,8 +5,10 @@ use mathlib.Core.List.{List, [], _∷_}
 use lib.Dec.{eqb}
 use Rattle.base.specs.Pick.{pick}
 use Rattle.registers.specs.Registers.{operatingCount}
+use Rattle.wires.specs.Lines.{Lines}
+use Rattle.wires.specs.Senders.{AllWires}
 use Rattle.wires.specs.declared.Wires.{Wires}
-use Rattle.state.specs.declared.State.{State}
+use Rattle.state.specs.State.{State}
 use Rattle.rules.specs.Rules.Wires as W
 use Rattle.rules.specs.Rules.Channel.{Channel, peripheral, wires, Board, on}
 use Rattle.rules.specs.Rules.Step.{World, Call, reset, exchange, board, short, lend, Outcome, step}
@@ -15,9 +17,10 @@ use Rattle.rules.specs.Statements.Events.{accepted, enablesAt, endsWith}
 
 -- ---- events: refused calls are idle, what an accepted exchange was its bytes say
 
--- puts: PUT_VWIRE; gets: GET_VWIRE; sets: the board set a wire; enables: an enabling of channel 1; ends: "a start, such a reset or a disabling"
+-- puts: PUT_VWIRE; gets: GET_VWIRE; sets: the board set a wire; enables: an enabling of channel 1; ends: "a start, such a reset or a disabling" (01, Wires);
+-- raises: "The board raises and lowers a line"; pulses: "or asks for an edge" (02, Q-4)
 pub data WireEvent : Type 0 where
-  idle puts gets sets enables ends : WireEvent
+  idle puts gets sets raises pulses enables ends : WireEvent
 
 -- an enabling: SET_CONFIGURATION of 020h, bit 0 of the value being 1 while the register's is 0 ("Enabling it from disabled", 01, Wires)
 abbrev pub switchesOn : State → List ℕ → Bool
@@ -27,10 +30,12 @@ switchesOn s b = eqb (byte b 0) 0x22 && (enablesAt wires (registerAt b) && (not 
 abbrev pub commandWire : State → List ℕ → WireEvent
 commandWire s b = pick (eqb (byte b 0) 0x04) puts (pick (eqb (byte b 0) 0x05) gets (pick (switchesOn s b) enables idle))
 
--- an accepted call of the board: "The board sets one defined bit" (01, Wires), or a read
+-- an accepted call of the board: "The board sets one defined bit" (01, Wires), or a read; "raises and lowers a line, or asks for an edge" (02, Q-4)
 abbrev pub wiresBoard : W.Board → WireEvent
 wiresBoard (W.setWire index bit value) = sets
 wiresBoard (W.readWire index bit) = idle
+wiresBoard (W.setLine line level) = raises
+wiresBoard (W.pulseLine line) = pulses
 
 -- .. of any channel (01, What the engine covers: "set a wire, read a wire")
 abbrev pub boardWire : (k : Channel) → Board k → WireEvent
@@ -55,9 +60,17 @@ wireEvent w c = wireEventOf (w .state) c (step w c)
 
 -- ---- runs
 
--- "The state holds six wire groups" (01, Wires)
-abbrev pub wiresOf : World → Wires
+-- "The state holds six wire groups" (01, Wires), and "256 lines" (02, Q-4)
+abbrev pub wiresOf : World → AllWires
 wiresOf w = w .state .wires
+
+-- .. the groups (01, Wires)
+abbrev pub groupsOf : World → Wires
+groupsOf w = w .state .wires .groups
+
+-- .. the lines (02, Q-4)
+abbrev pub linesOf : World → Lines
+linesOf w = w .state .wires .lines
 
 -- "The operating wire count is bits 21:16 plus one" (01, Registers and status)
 abbrev pub countOf : World → ℕ
@@ -69,6 +82,8 @@ oneIfGets idle = 0
 oneIfGets puts = 0
 oneIfGets gets = 1
 oneIfGets sets = 0
+oneIfGets raises = 0
+oneIfGets pulses = 0
 oneIfGets enables = 0
 oneIfGets ends = 0
 

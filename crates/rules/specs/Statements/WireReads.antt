@@ -63,6 +63,8 @@ packetIn (lend write read) = []
 abbrev pub wiresSetting : (i bit : ℕ) → W.Board → List ℕ
 wiresSetting i bit (W.setWire index k value) = pick (eqb index i && eqb k bit) (value ∷ []) []
 wiresSetting i bit (W.readWire index k) = []
+wiresSetting i bit (W.setLine line level) = []
+wiresSetting i bit (W.pulseLine line) = []
 
 -- .. of any channel ("set a wire", 01, What the engine covers)
 abbrev pub boardSetting : (i bit : ℕ) → (k : Channel) → Board k → List ℕ

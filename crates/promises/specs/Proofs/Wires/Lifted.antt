@@ -33,6 +33,22 @@ module _ (v : ByteWorld) (h : Holding v) where
       rw (long v h, pass v h, none-kept (p .kept) (v .read))
       (board st (h .long) (v .write) (v .read) [] [] (p .number) (p .next) (small (unpacked st) wires o) (board-sound (good v h) wires o))
 
+  line-lifts : (line level : ℕ) → Agrees v (S.board wires (W.setLine line level))
+  unfolding byteStep step X.setLineCall S.served over
+  line-lifts line level =
+      let o = W.setLine line level in
+      let p = L.settled wires (unpacked st) o in
+      rw (long v h, pass v h, none-kept (p .kept) (v .read))
+      (board st (h .long) (v .write) (v .read) [] [] (p .number) (p .next) (small (unpacked st) wires o) (board-sound (good v h) wires o))
+
+  pulse-lifts : (line : ℕ) → Agrees v (S.board wires (W.pulseLine line))
+  unfolding byteStep step X.pulseLineCall S.served over
+  pulse-lifts line =
+      let o = W.pulseLine line in
+      let p = L.settled wires (unpacked st) o in
+      rw (long v h, pass v h, none-kept (p .kept) (v .read))
+      (board st (h .long) (v .write) (v .read) [] [] (p .number) (p .next) (small (unpacked st) wires o) (board-sound (good v h) wires o))
+
   read-lifts : (index bit : ℕ) → Agrees v (S.board wires (W.readWire index bit))
   unfolding byteStep step X.readWireCall S.served L.lift over
   read-lifts index bit =
@@ -47,9 +63,13 @@ module _ (v : ByteWorld) (h : Holding v) where
   pub wires-lifts : (o : W.Board) → Agrees v (S.board wires o)
   wires-lifts (W.setWire index bit value) = set-lifts index bit value
   wires-lifts (W.readWire index bit) = read-lifts index bit
+  wires-lifts (W.setLine line level) = line-lifts line level
+  wires-lifts (W.pulseLine line) = pulse-lifts line
 
 module _ (v : ByteWorld) (state : List ℕ) (few : ltb (length state) stateLength ≡ true) where
   pub short-wires : (o : W.Board) → Ten v (S.board wires o) (wiresBytes (lent v state) o)
-  unfolding X.setWireCall X.readWireCall
+  unfolding X.setWireCall X.readWireCall X.setLineCall X.pulseLineCall
   short-wires (W.setWire index bit value) = rw few (ten v)
   short-wires (W.readWire index bit) = rw few (ten v)
+  short-wires (W.setLine line level) = rw few (ten v)
+  short-wires (W.pulseLine line) = rw few (ten v)

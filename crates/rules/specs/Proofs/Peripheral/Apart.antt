@@ -6,7 +6,7 @@ use mathlib.Core.Path.{_≡_, refl, sym, ap, _∙_}
 use lib.Dec.{ltb}
 use lib.ListN.{getD, length}
 use Rattle.base.specs.Bytes.{over}
-use Rattle.wires.specs.declared.Wires.{Wires}
+use Rattle.wires.specs.Senders.{AllWires}
 use Rattle.peripheral.specs.declared.Peripheral.{Peripheral}
 use Rattle.rules.specs.Rules.Peripheral as P₀
 use Rattle.rules.specs.Rules.Channel.{peripheral, ownBody}
@@ -22,7 +22,7 @@ use Rattle.rules.specs.declared.Kept.the-variants as K
 use Rattle.rules.specs.declared.PeripheralChange.{PeripheralChange}
 
 -- its bodies read no wires
-own-bytes : (body : Body) (w w′ : Wires) (read : List ℕ) → ownBody peripheral body ≡ true → bodyBytes body w read ≡ bodyBytes body w′ read
+own-bytes : (body : Body) (w w′ : AllWires) (read : List ℕ) → ownBody peripheral body ≡ true → bodyBytes body w read ≡ bodyBytes body w′ read
 own-bytes B.Nothing w w′ read o = refl
 own-bytes (B.Word n) w w′ read o = refl
 own-bytes (B.Piece c) w w′ read o = refl

@@ -9,7 +9,7 @@ use borrow.Author.Tests.{leb-true}
 use Rattle.registers.specs.Registers.{payloadSize, reachable}
 use Rattle.registers.specs.Laws.{payload-legal, reachable-r010}
 use Rattle.registers.specs.declared.Config.{Config}
-use Rattle.wires.specs.declared.Wires.{Wires}
+use Rattle.wires.specs.Senders.{AllWires}
 use Rattle.peripheral.specs.Upward.{upward, successOf}
 use Rattle.peripheral.specs.Sound.{soundRequest}
 use Rattle.peripheral.specs.Facts.{ReadyRequest, legal-payload, ready-request, waiting-request}
@@ -50,7 +50,7 @@ data-there (F.posts e l) = l
 data-there (F.asks e) = tt
 data-there (F.Peripheral.gets e) = tt
 
-pub acts-fit : {c : Config} {p : Peripheral} {a : P₀.Act} {x : PeripheralChange} (m : ℕ) (w : Wires) → reachable c ≡ true → soundRequest (p .request) ≡ true
+pub acts-fit : {c : Config} {p : Peripheral} {a : P₀.Act} {x : PeripheralChange} (m : ℕ) (w : AllWires) → reachable c ≡ true → soundRequest (p .request) ≡ true
     → P.Did c p a x → DataThere m a → OutFits m w (x .out)
 acts-fit m w r h (P.writeHeld e) d = (tt, tt)
 acts-fit m w r h (P.writeLarge e f) d = (tt, tt)

@@ -14,10 +14,10 @@ use Rattle.base.specs.Pick.{pick, pick-ind, and-true}
 use Rattle.base.specs.Bytes.{low2, low4, number8}
 use Rattle.base.specs.Numbers.{back4, back8}
 use Rattle.base.specs.AllBytes.{AllBytes, all-none, all-cons, then4}
-use Rattle.registers.specs.Registers.{bits, sizeOf, fresh010, freshConfig, writeAt, forbidden010}
+use Rattle.registers.specs.Registers.{bits, sizeOf, fresh010, freshConfig, writeAt, forbidden010, operatingCount}
 use Rattle.registers.specs.Laws.{fits-fresh, reachable-fresh, reachable-write, fits-write, on0-written, payload-written, read-written}
 use Rattle.registers.specs.declared.Config.{Config}
-use Rattle.wires.specs.Groups.{freshWires}
+use Rattle.wires.specs.Senders.{freshAll}
 use Rattle.peripheral.specs.Queues.{idle}
 use Rattle.peripheral.specs.Facts.{MadeMemoryRead, MadeIo, MadeIoRead, MadeIoWrite, MadeRequest, request-made, MadeWrite, held-write}
 use Rattle.peripheral.specs.declared.Kind.{Kind}
@@ -28,7 +28,7 @@ use Rattle.peripheral.specs.declared.Np.the-variants.{Free, Waiting, Ready, Fai
 use Rattle.peripheral.specs.declared.Posted.{Posted}
 use Rattle.peripheral.specs.declared.Write.{Write}
 use Rattle.peripheral.specs.declared.Write.the-variants.{Empty, Held}
-use Rattle.state.specs.declared.State.{State}
+use Rattle.state.specs.State.{State}
 use Rattle.state.specs.Sound.{Sound}
 use Rattle.rules.specs.Rules.Peripheral.{requestOf}
 use Rattle.rules.specs.Rules.Channel.{Channel, peripheral, wires, part, on}
@@ -99,11 +99,11 @@ module _ (p m : ℕ) (h : Codes p m) where
 
   module _ (n : ℕ) (small : n < 2 ^ 32) where
     abbrev waitsFor : State
-    waitsFor = record { config = config; peripheral = idle n; wires = freshWires }
+    waitsFor = record { config = config; peripheral = idle n; wires = freshAll }
 
-    part-ok : (k : Channel) → PartOk k (on k config) (part k waitsFor)
+    part-ok : (k : Channel) → PartOk k config (part k waitsFor)
     part-ok peripheral = idle-ok (on peripheral config) small
-    part-ok wires = fresh-ok (on wires config)
+    part-ok wires = fresh-ok (on wires config) (operatingCount (config .r020))
 
     sound : Sound waitsFor
     sound =

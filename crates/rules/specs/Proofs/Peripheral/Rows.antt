@@ -23,7 +23,7 @@ use Rattle.peripheral.specs.declared.Write.{Write}
 use Rattle.peripheral.specs.declared.Write.the-variants.{Empty, Held}
 use Rattle.peripheral.specs.declared.Peripheral.{Peripheral}
 use Rattle.peripheral.specs.Sound.{within}
-use Rattle.state.specs.declared.State.{State}
+use Rattle.state.specs.State.{State}
 use Rattle.rules.specs.Rules.Peripheral.{Act, posts, asks, gets, Board, sizeFor, succeeded, answerLength, bytesFor}
 use Rattle.rules.specs.Statements.Fields.{byte, isPosted, isNonPosted, lengthField, shortSize, accessAddress, accessLength}
 use Rattle.rules.specs.Statements.Reads as Read

@@ -9,7 +9,7 @@ use Rattle.registers.specs.declared.Config.{Config}
 use Rattle.peripheral.specs.declared.Completion.{Completion}
 use Rattle.peripheral.specs.Sound.{soundRequest}
 use Rattle.state.specs.Status.{status}
-use Rattle.state.specs.declared.State.{State}
+use Rattle.state.specs.State.{State}
 use Rattle.rules.specs.Rules.Peripheral as P₀
 use Rattle.rules.specs.Rules.Channel.{peripheral, put}
 use Rattle.rules.specs.Rules.Lift.{lift}

@@ -16,7 +16,7 @@ use Rattle.peripheral.specs.declared.Np.{Np}
 use Rattle.peripheral.specs.declared.Write.{Write}
 use Rattle.peripheral.specs.declared.Peripheral.{Peripheral}
 use Rattle.state.specs.Status.{status}
-use Rattle.state.specs.declared.State.{State}
+use Rattle.state.specs.State.{State}
 use Rattle.state.specs.Facts.{sound-off}
 use Rattle.state.specs.Sound.{Sound}
 use Rattle.rules.specs.Rules.Channel.{peripheral}

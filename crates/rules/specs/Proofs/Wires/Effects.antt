@@ -7,8 +7,7 @@ use native.Mathlib.Omega.{arith}
 use Rattle.base.specs.Bytes.{over-none}
 use Rattle.registers.specs.Laws.{bit-zero}
 use Rattle.registers.specs.declared.Config.{Config}
-use Rattle.wires.specs.Groups.{afterSent}
-use Rattle.wires.specs.declared.Wires.{Wires}
+use Rattle.wires.specs.Senders.{AllWires, afterSent}
 use Rattle.rules.specs.Rules.Wires as W
 use Rattle.rules.specs.Rules.Channel.{wires}
 use Rattle.rules.specs.Statements.Fields.{byte, isChannel1}
@@ -17,11 +16,11 @@ use Rattle.rules.specs.Statements.Wires as L
 use Rattle.rules.specs.Statements.Wires.Effects.{commandPart, boardPart, switched}
 use Rattle.rules.specs.Statements.ConfigWrites.{turns}
 use Rattle.rules.specs.Proofs.Becomes.{Becomes}
-use Rattle.rules.specs.declared.WiresChange.{WiresChange}
+use Rattle.rules.specs.Rules.Plan.{WiresChange}
 
 -- ---- commands; no store is written
 
-pub command-row : {c : Config} {v : Wires} {b : List ℕ} {a : W.Act} {x : WiresChange} → L.Did c v a x → S.Wires b a
+pub command-row : {c : Config} {v : AllWires} {b : List ℕ} {a : W.Act} {x : WiresChange} → L.Did c v a x → S.Wires b a
     → Becomes wires (commandPart c v b) (λ l. l) b x
 command-row (L.overCount e) r z = absurd (omega arith)
 command-row (L.third e f) r z = absurd (omega arith)
@@ -35,26 +34,32 @@ command-own (S.Wires.gets h) = rw h
 
 -- ---- the board's calls
 
-pub board-row : {c : Config} {v : Wires} {o : W.Board} {x : WiresChange} → L.Settled c v o x → Becomes wires (boardPart c v o) (λ l. l) [] x
+pub board-row : {c : Config} {v : AllWires} {o : W.Board} {x : WiresChange} → L.Settled c v o x → Becomes wires (boardPart c v o) (λ l. l) [] x
 board-row (L.notBoards e) z = absurd (omega arith)
 board-row {c} (L.set e) z = (rw (bit-zero (c .r020 .value)), over-none)
 board-row (L.noWire e) z = absurd (omega arith)
 board-row (L.read e) z = (refl, over-none)
+board-row (L.noLine e) z = absurd (omega arith)
+board-row (L.edgeWaits e f) z = absurd (omega arith)
+board-row {c} (L.lineSet e f) z = (rw (bit-zero (c .r020 .value)), over-none)
+board-row (L.noLineToPulse e) z = absurd (omega arith)
+board-row (L.cannotPulse e f) z = absurd (omega arith)
+board-row (L.pulsed e f) z = (refl, over-none)
 
 -- ---- an edge of the enable bit
 
-pub edge-row : (was is : Bool) (v : Wires) → W.enableEdge was is v ≡ switched was is v
+pub edge-row : (was is : Bool) (v : AllWires) → W.enableEdge was is v ≡ switched was is v
 edge-row true true v = refl
 edge-row true false v = refl
 edge-row false true v = refl
 edge-row false false v = refl
 
-pub no-turn : (was is : Bool) (v : Wires) → turns wires was is ≡ false → switched was is v ≡ v
+pub no-turn : (was is : Bool) (v : AllWires) → turns wires was is ≡ false → switched was is v ≡ v
 no-turn true true v e = refl
 no-turn true false v e = absurd (true≢false e)
 no-turn false true v e = absurd (true≢false e)
 no-turn false false v e = refl
 
-pub switched-same : (t : Bool) (v : Wires) → switched t t v ≡ v
+pub switched-same : (t : Bool) (v : AllWires) → switched t t v ≡ v
 switched-same true v = refl
 switched-same false v = refl

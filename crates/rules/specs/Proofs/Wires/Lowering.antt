@@ -6,18 +6,19 @@ use mathlib.Core.Path.{_≡_, refl, ap, sym, _∙_}
 use lib.Dec.{eqb}
 use lib.ListN.{getD}
 use borrow.Author.Tests.{eq-eqb}
-use Rattle.base.specs.Pick.{and-true}
 use Rattle.base.specs.Bytes.{bit}
-use Rattle.wires.specs.Below.{some}
-use Rattle.wires.specs.Table.{senders, groupAt}
+use Rattle.base.specs.Pick.{pick, and-true}
+use Rattle.wires.specs.Below.{any}
+use Rattle.wires.specs.Table.{isLine, senders, groupAt}
 use Rattle.wires.specs.Groups.{putPairs}
 use Rattle.wires.specs.Changes.{put-marks}
 use Rattle.wires.specs.Transitions.{thirdTransition}
-use Rattle.wires.specs.declared.Wires.{Wires}
+use Rattle.wires.specs.Lines.{lineBit}
+use Rattle.wires.specs.Senders.{AllWires, withGroups, anyPending}
 use Rattle.registers.specs.declared.Config.{Config}
 use Rattle.peripheral.specs.Status.{peripheralStatus}
 use Rattle.state.specs.Status.{status}
-use Rattle.state.specs.declared.State.{State}
+use Rattle.state.specs.State.{State}
 use Rattle.rules.specs.Rules.Out.{accept}
 use Rattle.rules.specs.Rules.Wires as W₀
 use Rattle.rules.specs.Rules.Channel.{wires, put}
@@ -28,25 +29,27 @@ use Rattle.rules.specs.Statements.Reads as R
 use Rattle.rules.specs.Proofs.Events.{no-lowering}
 use Rattle.rules.specs.declared.Body.the-variants as B
 use Rattle.rules.specs.declared.Kept.the-variants as K
-use Rattle.rules.specs.declared.WiresChange.{WiresChange}
+use Rattle.rules.specs.Rules.Plan.{WiresChange}
 
-pub record Lowered (s : State) (b : List ℕ) (v : Wires) : Type 0 where
+pub record Lowered (s : State) (b : List ℕ) (v : AllWires) : Type 0 where
   pub opcode : byte b 0 ≡ 0x04
   pub lowers : lowersPltrst s b ≡ true
-  pub few : thirdTransition (s .wires) (pairs b) ≡ false
-  pub wires : v ≡ putPairs (s .wires) (pairs b)
+  pub few : thirdTransition (s .wires .groups) (pairs b) ≡ false
+  pub wires : v ≡ withGroups (s .wires) (putPairs (s .wires .groups) (pairs b))
 
 -- the pairs of a packet move no bit of the status
-pub status-put : (s : State) (ps : List ℕ) → status (put wires (putPairs (s .wires) ps) s) ≡ status s
-unfolding status
+pub status-put : (s : State) (ps : List ℕ) → status (put wires (withGroups (s .wires) (putPairs (s .wires .groups) ps)) s) ≡ status s
+unfolding status anyPending
 status-put s ps =
-    ap (λ (m : List Bool). peripheralStatus (s .peripheral) + (4 + bit (some senders (λ (k : ℕ). getD m (groupAt k - 2) false)) * 64)) (put-marks (s .wires) ps)
+    ap (λ (m : List Bool). peripheralStatus (s .peripheral)
+    + (4 + bit (any senders (λ (k : ℕ). pick (isLine k) (lineBit (s .wires .lines .waits) k) (getD m (groupAt k - 2) false))) * 64))
+    (put-marks (s .wires .groups) ps)
 
 -- it is put and accepted, as any other
-pub lowers-did : {c : Config} {w : Wires} {a : W₀.Act} {x : WiresChange} → W.Lowers c w a x → W.Did c w a x
+pub lowers-did : {c : Config} {w : AllWires} {a : W₀.Act} {x : WiresChange} → W.Lowers c w a x → W.Did c w a x
 lowers-did (W.lowered e f high low) = W.put e f
 
-pub lowers-accepts : {c : Config} {w : Wires} {a : W₀.Act} {x : WiresChange} → W.Lowers c w a x → x .out ≡ accept B.Nothing K.Nothing
+pub lowers-accepts : {c : Config} {w : AllWires} {a : W₀.Act} {x : WiresChange} → W.Lowers c w a x → x .out ≡ accept B.Nothing K.Nothing
 lowers-accepts (W.lowered e f high low) = refl
 
 module _ (s : State) (b : List ℕ) where
@@ -60,6 +63,6 @@ module _ (s : State) (b : List ℕ) where
   unlowered (W.overCount e) r f n = absurd (true≢false (sym n))
   unlowered (W.third e g) r f n = absurd (true≢false (sym n))
   unlowered (W.put e g) (R.Wires.puts h) f n =
-      ap (λ (op : ℕ). eqb op 0x04 && (eqb (W₀.pltrst (s .wires)) 1 && eqb (W₀.pltrst (putPairs (s .wires) (pairs b))) 0)) h ∙ f
+      ap (λ (op : ℕ). eqb op 0x04 && (eqb (W₀.pltrst (s .wires)) 1 && eqb (W₀.pltrst (withGroups (s .wires) (putPairs (s .wires .groups) (pairs b)))) 0)) h ∙ f
   unlowered (W.nonePending e) r f n = absurd (true≢false (sym n))
   unlowered (W.sentOff e) (R.Wires.gets h) f n = no-lowering s b (ap (λ (op : ℕ). eqb op 0x04) h)

@@ -1,13 +1,13 @@
 -- Replies of channel 1: a packet is its count and as many pairs.
-use Prim.Native.Nat.{ℕ, _-_, _≤_}
+use Prim.Native.Nat.{ℕ, _≤_}
 use mathlib.Core.List.{List, _∷_}
-use mathlib.Core.Path.{_≡_, refl, sym, ap, subst}
+use mathlib.Core.Path.{_≡_, refl, ap}
 use native.Mathlib.Omega.{arith}
 use lib.ListN.{length}
-use Rattle.wires.specs.Groups.{sent, packetOf, pairBytes, packetBytes}
-use Rattle.wires.specs.Sent.{sent-bytes, sent-most, pairs-length}
+use Rattle.wires.specs.Senders.{sent, packetOf, packetBytes}
+use Rattle.wires.specs.Sent.{entries-most, entries-some, pairs-length}
 use Rattle.state.specs.Status.{status}
-use Rattle.state.specs.declared.State.{State}
+use Rattle.state.specs.State.{State}
 use Rattle.rules.specs.Rules.Wires as W₀
 use Rattle.rules.specs.Rules.Channel.{wires, put}
 use Rattle.rules.specs.Rules.Lift.{lift}
@@ -17,7 +17,7 @@ use Rattle.rules.specs.Statements.Wires as W
 use Rattle.rules.specs.Statements.Reads as F
 use Rattle.rules.specs.Statements.Shape.{replyOf, AcceptedReply}
 use Rattle.rules.specs.Proofs.Replies.{ShapeOf, with-body, bare, at}
-use Rattle.rules.specs.declared.WiresChange.{WiresChange}
+use Rattle.rules.specs.Rules.Plan.{WiresChange}
 
 module _ (s : State) (reads : List ℕ) where
   abbrev pub WireOpcode : W₀.Act → ℕ → Type 0
@@ -29,15 +29,14 @@ module _ (s : State) (reads : List ℕ) where
   wire-opcode (F.Wires.gets e) = e
 
   packet-shape : (after : State) (count k : ℕ) (ks : List ℕ) → count ≤ 64 → sent (s .wires) count ≡ k ∷ ks
-      → AcceptedReply 0x05 after (replyOf 0x08 (packetBytes (s .wires) (packetOf (s .wires) (k ∷ ks))) (status after))
+      → AcceptedReply 0x05 after (replyOf 0x08 (packetBytes (s .wires) (packetOf (s .wires) count)) (status after))
   packet-shape after count k ks c e =
       let w = s .wires in
       let n = ap length e in
-      let l = sent-most w count in
+      let l = entries-most w (w .groups .place) count in
+      let m = entries-some w (sent w count) in
       let p = pairs-length w (sent w count) in
-      subst (λ (xs : List ℕ). AcceptedReply 0x05 after (replyOf 0x08 (packetBytes w (packetOf w xs)) (status after))) e
-      (subst (λ (xs : List ℕ). AcceptedReply 0x05 after (replyOf 0x08 xs (status after))) (sym (sent-bytes w count))
-      (with-body 0x05 after ((length (sent w count) - 1) ∷ pairBytes w (sent w count)) refl (omega (arith, n, l, p)) (omega (arith, l, p))))
+      with-body 0x05 after (packetBytes w (packetOf w count)) refl (omega (arith, n, l, m, p)) (omega (arith, l, p))
 
   pub acts-shape : (op : ℕ) {a : W₀.Act} {x : WiresChange} → W.Did (s .config) (s .wires) a x → WireOpcode a op
       → ShapeOf s reads op (put wires (x .next) s) (lift wires s x)

@@ -1,5 +1,5 @@
 -- The test of channel 1 says its clauses of "Sound state", both ways.
-use Prim.Native.Nat.{ℕ, _+_, _-_, _≤_, _<_}
+use Prim.Native.Nat.{ℕ, _-_, _≤_, _<_}
 use mathlib.Core.Bool.{Bool, true, false, _&&_, not, true≢false}
 use mathlib.Core.Path.{_≡_, refl, sym, ap, _∙_}
 use native.Mathlib.Omega.{arith}
@@ -9,8 +9,11 @@ use Rattle.base.specs.Pick.{and-right, and-true}
 use Rattle.wires.specs.Table.{isGroup, rowAt}
 use Rattle.wires.specs.Rows.{row-right, in-table}
 use Rattle.wires.specs.Nibbles.{bitOf, clean-view, clean-test}
-use Rattle.wires.specs.Groups.{levelAt, definedBit, onlyDefined, soundWires}
+use Rattle.wires.specs.Groups.{levelAt, definedBit, onlyDefined}
 use Rattle.wires.specs.Kept.{sound-view, sound-test}
+use Rattle.wires.specs.LinesKept.{lines-view, lines-test}
+use Rattle.wires.specs.Senders.{AllWires, soundAll}
+use Rattle.wires.specs.AllKept.{sound-groups, sound-lines}
 use Rattle.wires.specs.declared.Wires.{Wires}
 use Rattle.rules.specs.Statements.Wires.SoundMeans.{GroupRight, Clauses}
 
@@ -55,23 +58,27 @@ is-group i l u = and-true (le-leb 2 i l) (le-leb i 7 u)
 
 -- ---- the channel
 
-pub clauses : (on : Bool) (w : Wires) → soundWires on w ≡ true → Clauses on w
-clauses on w e =
-    let v = sound-view on w e in
+pub clauses : (on : Bool) (count : ℕ) (w : AllWires) → soundAll on count w ≡ true → Clauses on count w
+clauses on count w e =
+    let v = sound-view on (w .groups) (sound-groups on count w e) in
+    let l = lines-view on count (w .lines) (sound-lines on count w e) in
     record {
-      groups = λ i g. let r = in-table i g in group-right w i g (v .clean i (r .from) (r .upto));
+      groups = λ i g. let r = in-table i g in group-right (w .groups) i g (v .clean i (r .from) (r .upto));
       pendingUp = λ i g m. let r = in-table i g in not-true _ (and-right (isGroup i) _ (v .marks i (r .from) (r .upto) m .0));
       pendingOn = λ i g m. let r = in-table i g in v .marks i (r .from) (r .upto) m .1;
-      placeLeast = v .from;
-      placeMost = v .upto;
+      place = v .below;
+      edgeWaits = l .waits;
+      lineOn = l .while-on;
+      edgeRoom = l .room;
     }
 
-pub wires-clause : (on : Bool) (w : Wires) → Clauses on w → soundWires on w ≡ true
-wires-clause on w c =
-    sound-test on w
+pub wires-clause : (on : Bool) (count : ℕ) (w : AllWires) → Clauses on count w → soundAll on count w ≡ true
+wires-clause on count w c =
+    and-true
+    (sound-test on (w .groups)
     (record {
-      clean = λ i l u. let g = is-group i l u in group-test w i g (c .groups i g);
+      clean = λ i l u. let g = is-group i l u in group-test (w .groups) i g (c .groups i g);
       marks = λ i l u m. let g = is-group i l u in (and-true g (ap not (c .pendingUp i g m)), c .pendingOn i g m);
-      from = c .placeLeast;
-      upto = c .placeMost;
-    })
+      below = c .place;
+    }))
+    (lines-test on count (w .lines) (record { waits = c .edgeWaits; while-on = c .lineOn; room = c .edgeRoom }))

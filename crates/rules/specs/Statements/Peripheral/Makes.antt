@@ -11,7 +11,7 @@ use Rattle.peripheral.specs.declared.Np.the-variants.{Free, Waiting, Ready, Fai
 use Rattle.peripheral.specs.declared.Posted.{Posted}
 use Rattle.peripheral.specs.declared.Write.{Write}
 use Rattle.peripheral.specs.declared.Write.the-variants.{Empty, Held}
-use Rattle.state.specs.declared.State.{State}
+use Rattle.state.specs.State.{State}
 use Rattle.state.specs.Sound.{Sound}
 use Rattle.rules.specs.Rules.Step.{World, exchange, step, areBytes}
 use Rattle.rules.specs.Statements.Fields.{byte, isPosted, isNonPosted}

@@ -8,33 +8,38 @@ use lib.ListN.{getD, set}
 use Rattle.base.specs.Pick.{pick}
 use Rattle.registers.specs.Registers.{bits}
 use Rattle.registers.specs.declared.Config.{Config}
-use Rattle.wires.specs.Groups.{putPairs, sent, afterSent, setWire as withWire}
+use Rattle.wires.specs.Groups.{putPairs, setWire as withWire}
+use Rattle.wires.specs.Lines.{Lines, setLine as withLine, pulseLine as withEdge}
+use Rattle.wires.specs.Senders.{AllWires, withGroups, withLines, sent, afterSent}
 use Rattle.wires.specs.declared.Wires.{Wires}
 use Rattle.rules.specs.Rules.Reset.{Reset, start, espiReset, platformReset}
-use Rattle.rules.specs.Rules.Wires.{Board, setWire, readWire}
+use Rattle.rules.specs.Rules.Wires.{Board, setWire, readWire, setLine, pulseLine}
 use Rattle.rules.specs.Rules.Channel.{wires}
 use Rattle.rules.specs.Statements.Fields.{byte, pairs}
 use Rattle.rules.specs.Statements.Sizes.{isEnabled}
 
 -- ---- commands
 
--- the senders that go: "min(pending, operating count) groups" (01, Wires)
-abbrev pub groupsSent : Config → Wires → List ℕ
-groupsSent c v = sent v (bits 21 16 (c .r020 .value) + 1)
+-- the senders that go: "min(pending, operating count) groups" (01, Wires), lines too: "A packet closes at the first sender that does not fit" (02, Q-4)
+abbrev pub sendersSent : Config → AllWires → List ℕ
+sendersSent c v = sent v (bits 21 16 (c .r020 .value) + 1)
 
 -- "PUT_VWIRE applies pairs in order"; GET_VWIRE: "their pending marks go", and the place follows the last one sent (01, Wires)
-abbrev pub commandPart : Config → Wires → List ℕ → Wires
+abbrev pub commandPart : Config → AllWires → List ℕ → AllWires
 commandPart c v b =
-    pick (eqb (byte b 0) 0x04) (putPairs v (pairs b))
-    (pick (eqb (byte b 0) 0x05) (afterSent v (groupsSent c v))
+    pick (eqb (byte b 0) 0x04) (withGroups v (putPairs (v .groups) (pairs b)))
+    (pick (eqb (byte b 0) 0x05) (afterSent v (sendersSent c v))
     v)
 
 -- ---- the board's calls
 
--- "a real change while channel 1 is enabled makes it pending"; reading a wire changes nothing (01, Wires)
-abbrev pub boardPart : Config → Wires → Board → Wires
-boardPart c v (setWire index bit value) = withWire (isEnabled wires c) v index bit value
+-- "a real change while channel 1 is enabled makes it pending"; reading a wire changes nothing (01, Wires); "raises and lowers a line, or asks for an edge"
+-- (02, Q-4), line by line in Statements/Wires/LineEffects
+abbrev pub boardPart : Config → AllWires → Board → AllWires
+boardPart c v (setWire index bit value) = withGroups v (withWire (isEnabled wires c) (v .groups) index bit value)
 boardPart c v (readWire index bit) = v
+boardPart c v (setLine line level) = withLines v (withLine (isEnabled wires c) (v .lines) line level)
+boardPart c v (pulseLine line) = withLines v (withEdge (v .lines) line)
 
 -- ---- resets and configuration
 
@@ -42,16 +47,43 @@ boardPart c v (readWire index bit) = v
 abbrev pub noneMarked : List Bool
 noneMarked = false ∷ false ∷ false ∷ false ∷ false ∷ false ∷ []
 
+-- of no line: 32 bytes that are 0 (docs/STATE.md; 02, Q-4: "lower all lines and drop their waits and edges")
+abbrev pub ofNoLine : List ℕ
+ofNoLine =
+    0 ∷ 0 ∷ 0 ∷ 0 ∷ 0 ∷ 0 ∷ 0 ∷ 0 ∷ 0 ∷ 0 ∷ 0 ∷ 0 ∷ 0 ∷ 0 ∷ 0 ∷ 0
+    ∷ 0 ∷ 0 ∷ 0 ∷ 0 ∷ 0 ∷ 0 ∷ 0 ∷ 0 ∷ 0 ∷ 0 ∷ 0 ∷ 0 ∷ 0 ∷ 0 ∷ 0 ∷ 0 ∷ []
+
+-- "Both resets lower all lines and drop their waits and edges" (02, Q-4)
+abbrev pub loweredLines : Lines
+loweredLines = record { level = ofNoLine; waits = ofNoLine; edges = ofNoLine }
+
 -- groups 2 to 7: "Ch", "0h", "7h" and "6h" of 4 to 7 (01, Wires); 2 and 3 are 0 (004, tables 9 and 10)
 abbrev pub tableValues : List ℕ
 tableValues = 0x0 ∷ 0x0 ∷ 0xC ∷ 0x0 ∷ 0x7 ∷ 0x6 ∷ []
 
+-- group 4's turn, behind the 256 lines': turns "still begin at group 4" (02, Q-4; 01, Wires: "from 4 itself at first")
+abbrev pub groupFour : ℕ
+groupFour = 256
+
+-- all six groups at their reset values, none pending (01, Wires), no line high, waiting or an edge (02, Q-4)
+abbrev pub asAtFirst : AllWires
+asAtFirst = record { groups = record { level = tableValues; pending = noneMarked; place = groupFour }; lines = loweredLines }
+
 -- "eSPI reset also resets all .. groups"; "Platform reset also resets .. wire groups 6 and 7" (01, Requests, answers, pieces); "A reset group is not
--- pending" (01, Wires)
-abbrev pub resetPart : Reset → Wires → Wires
-resetPart start v = record { level = tableValues; pending = noneMarked; place = 4 }
-resetPart espiReset v = record { level = tableValues; pending = noneMarked; place = 4 }
-resetPart platformReset v = record { level = set (set (v .level) 4 0x7) 5 0x6; pending = set (set (v .pending) 4 false) 5 false; place = 4 }
+-- pending" (01, Wires); "Both resets lower all lines" (02, Q-4)
+abbrev pub resetPart : Reset → AllWires → AllWires
+resetPart start v = asAtFirst
+resetPart espiReset v = asAtFirst
+resetPart platformReset v =
+    record {
+      groups =
+          record {
+            level = set (set (v .groups .level) 4 0x7) 5 0x6;
+            pending = set (set (v .groups .pending) 4 false) 5 false;
+            place = groupFour;
+          };
+      lines = loweredLines;
+    }
 
 -- "makes each up group pending that differs from its reset value" (01, Wires)
 abbrev pub differing : Wires → List Bool
@@ -60,10 +92,18 @@ differing v =
     ∷ not (eqb (getD (v .level) 2 0) 0xC) ∷ not (eqb (getD (v .level) 3 0) 0x0) ∷ not (eqb (getD (v .level) 4 0) 0x7)
     ∷ false ∷ []
 
--- from enabled or not to enabled or not: "Disabling channel 1 drops pending marks and keeps values", and the place is 4; "Enabling it from disabled
--- makes .. pending"; 0 to 0 and 1 to 1 leave all
-abbrev pub switched : Bool → Bool → Wires → Wires
+-- from enabled or not to enabled or not: "Disabling channel 1 drops pending marks and keeps values", and the place is group 4's; "Enabling it from disabled
+-- makes .. pending" (01, Wires), and "every high line" (02, Q-4); 0 to 0 and 1 to 1 leave all
+abbrev pub switched : Bool → Bool → AllWires → AllWires
 switched true true v = v
-switched true false v = record { level = v .level; pending = noneMarked; place = 4 }
-switched false true v = record { level = v .level; pending = differing v; place = v .place }
+switched true false v =
+    record {
+      groups = record { level = v .groups .level; pending = noneMarked; place = groupFour };
+      lines = record { level = v .lines .level; waits = ofNoLine; edges = ofNoLine };
+    }
+switched false true v =
+    record {
+      groups = record { level = v .groups .level; pending = differing (v .groups); place = v .groups .place };
+      lines = record { level = v .lines .level; waits = v .lines .level; edges = ofNoLine };
+    }
 switched false false v = v
