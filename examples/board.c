@@ -1,4 +1,4 @@
-/* A small board on the engine: a keyboard controller at ports 60h and 64h, some memory, wires; and a host that plays a script against it. A board can
+/* A small board on the engine: a keyboard controller at ports 60h and 64h, a timer, some memory, wires; and a host that plays a script against it. A board can
  * start from the first part. What is called show_.. only prints (print.h), and the host stands for the bus: a board has neither. */
 #include <string.h>
 
@@ -14,12 +14,38 @@ static struct {
     uint8_t key;     /* what port 60h gives */
     uint8_t full;    /* a key is waiting */
     uint8_t command; /* the last byte written to port 64h */
+    uint8_t mode;    /* the last byte written to port 60h; bit 0: interrupt the host while a key is waiting */
+    uint8_t line;    /* the level of its line */
 } keyboard;
+
+/* Interrupt lines as the host expects them: the timer's is an edge line, the keyboard's a level line. */
+#define TIMER_LINE 0
+#define KEYBOARD_LINE 1
+
+static uint8_t tick_owed; /* a tick of the timer that was refused with 24 */
+
+/* The keyboard's line is high while a key is waiting, and low again when it has been read. No call reads a line: the board knows what it set. */
+static void keyboard_line(void)
+{
+    uint8_t level = keyboard.full && (keyboard.mode & 1);
+    if (level == keyboard.line)
+        return;
+    keyboard.line = level;
+    show_line(level ? "raises" : "lowers", KEYBOARD_LINE, espi_target_line(&target, KEYBOARD_LINE, level));
+}
+
+/* Number 24: channel 1 is off or takes one entry at a time, or the last tick still waits. The engine keeps no such pulse: the board asks again. */
+static void tick(void)
+{
+    uint32_t number = espi_target_pulse(&target, TIMER_LINE);
+    show_line("pulses", TIMER_LINE, number);
+    tick_owed = number == ESPI_NOT_NOW;
+}
 
 static uint8_t pltrst; /* the level of PLTRST# at the last look: low after espi_target_start, and after espi_target_reset */
 
-/* PLTRST# fell, and the engine has reset its part of the platform: 010h, what was held on channel 0, wire groups 6 and 7. The device does the same. An answer
- * that it still owes is refused with 20. */
+/* PLTRST# fell, and the engine has reset its part of the platform: 010h, what was held on channel 0, wire groups 6 and 7, and all lines are low. The device
+ * does the same. An answer that it still owes is refused with 20. A device that still wants the host would raise its line again here; this one has nothing. */
 static void platform_was_reset(void)
 {
     show_reset();
@@ -69,10 +95,15 @@ static void serve(const struct espi_request *request)
     if (request->kind == ESPI_IO_WRITE && request->address == 0x64) {
         keyboard.command = (uint8_t)request->value;
         answer(request, 0, 0);
+    } else if (request->kind == ESPI_IO_WRITE && request->address == 0x60) {
+        keyboard.mode = (uint8_t)request->value;
+        keyboard_line();
+        answer(request, 0, 0);
     } else if (request->kind == ESPI_IO_READ && request->address == 0x64 && request->length == 1) {
         answer(request, &keyboard.full, 1);
     } else if (request->kind == ESPI_IO_READ && request->address == 0x60 && request->length == 1) {
         keyboard.full = 0;
+        keyboard_line();
         answer(request, &keyboard.key, 1);
     } else if (request->kind == ESPI_MEMORY_READ && request->address >= 0x1000) {
         for (uint32_t i = 0; i < request->length; i++)
@@ -94,6 +125,8 @@ static void device(void)
     }
     if (espi_target_look(&target, &request) == ESPI_OK)
         serve(&request);
+    if (tick_owed)
+        tick();
 }
 
 static void press(uint8_t key)
@@ -101,6 +134,7 @@ static void press(uint8_t key)
     show_key(key);
     keyboard.key = key;
     keyboard.full = 1;
+    keyboard_line();
 }
 
 /* ---- the host, in place of a bus: its bytes with their CRC */
@@ -201,11 +235,30 @@ static void pltrst_by_wire(void)
     HOST(ESPI_OPCODE_GET_PC);
 }
 
+static void interrupts(void)
+{
+    show_part("Interrupts: the keyboard's line is raised, the timer's is pulsed once two entries fit a packet");
+    HOST(ESPI_OPCODE_SHORT_IO_WRITE + ESPI_SHORT_1, 0x00, 0x60, 0x01);
+    device();
+    HOST(ESPI_OPCODE_GET_PC);
+    tick();
+    press(0x15);
+    HOST(ESPI_OPCODE_GET_STATUS);
+    HOST(ESPI_OPCODE_SET_CONFIGURATION, 0x00, 0x20, 0x01, 0x00, 0x03, 0x00);
+    device();
+    HOST(ESPI_OPCODE_GET_VWIRE);
+    HOST(ESPI_OPCODE_SHORT_IO_READ + ESPI_SHORT_1, 0x00, 0x60);
+    device();
+    HOST(ESPI_OPCODE_GET_PC);
+    HOST(ESPI_OPCODE_GET_VWIRE);
+}
+
 int main(void)
 {
     espi_target_start(&target);
     everyday();
     customer();
     pltrst_by_wire();
+    interrupts();
     return 0;
 }

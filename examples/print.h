@@ -63,6 +63,15 @@ static void print_status(uint32_t status)
             printf(" %s", names[i] ? names[i] : "?");
 }
 
+/* An entry of a GET_VWIRE's packet: a line's level, or a group. */
+static void print_entry(uint8_t index, uint8_t data, const char *before)
+{
+    if (index < 2)
+        printf("%sline %d: level %d;", before, index * 128 + (data & 127), data >> 7);
+    else
+        printf("%sgroup %d: valid %X, level %X;", before, index, (unsigned)data >> 4, (unsigned)data & 15u);
+}
+
 static void show_part(const char *title) { printf("\n== %s\n", title); }
 
 static void show_command(const uint8_t *command, uint32_t n)
@@ -87,7 +96,7 @@ static void show_reply(uint8_t opcode, const uint8_t *reply, uint32_t word)
         printf("%s, tag %d, %d bytes;", cycle_name(reply[1]), reply[2] >> 4, (reply[2] & 15) * 256 + reply[3]);
     if (reply[0] == ESPI_RESPONSE_ACCEPT && opcode == ESPI_OPCODE_GET_VWIRE)
         for (uint32_t i = 2; i + 3 < n; i += 2)
-            printf("group %d: valid %X, level %X;", reply[i], (unsigned)reply[i + 1] >> 4, (unsigned)reply[i + 1] & 15u);
+            print_entry(reply[i], reply[i + 1], i > 2 ? " " : "");
     if (reply[0] == ESPI_RESPONSE_ACCEPT && opcode == ESPI_OPCODE_GET_CONFIGURATION)
         printf("register %02X%02X%02X%02Xh;", (unsigned)reply[4], (unsigned)reply[3], (unsigned)reply[2], (unsigned)reply[1]);
     printf(" status:");
@@ -112,6 +121,11 @@ static void show_write(const struct espi_write *taken, const uint8_t *data)
         printf("%lXh:", (unsigned long)taken->address);
     print_bytes(data, taken->length);
     printf("\n");
+}
+
+static void show_line(const char *how, uint32_t line, uint32_t number)
+{
+    printf("   device %s line %u: number %u\n", how, (unsigned)line, (unsigned)number);
 }
 
 static void show_key(uint8_t key) { printf("   a key is pressed: %02X\n", (unsigned)key); }

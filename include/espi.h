@@ -1,4 +1,4 @@
-/* The eSPI target engine: nine calls over bytes that the board lends.
+/* The eSPI target engine: eleven calls over bytes that the board lends.
  *
  * Every call takes any input at all, ends, and does nothing undefined. It returns a word: bits 7:0 are its number, bits 31:8 a value where the call has
  * one, else 0 (espi_number, espi_value). A call whose number is not 0 has changed nothing, but that an exchange with number 1 or 2 has written an error
@@ -8,7 +8,8 @@
  * - The slices of one call do not overlap.
  * - Each call gets the state bytes that the last one left, and no call is made during another: if an interrupt makes calls and the main loop too, one
  *   of them waits. The state bytes are opaque; copy them whole or not at all.
- * - State bytes belong to the engine that made them. After an update of the engine call espi_start: kept bytes of an engine before 2.0 are number 11.
+ * - State bytes belong to the engine that made them, and are longer since 4.0. After an update of the engine call espi_start; hand it no bytes that an older
+ *   one left.
  * - The read store is left alone from an accepted answer to its last piece (PC_AVAIL drops then), and every exchange in between is lent the same bytes.
  * - A taken write's data stands at the start of the write store: copy it out before the next exchange.
  * - A write is taken before a later read is answered: on the bus a read must not pass a write, and no number refuses it here.
@@ -16,14 +17,17 @@
  * - Wires set while channel 1 is off are not sent. When the host enables the channel, each up group that differs from its reset value is sent by itself.
  *   One that was set back to its reset value meanwhile is not, and the host goes on seeing the old level: set such a wire to its opposite and back once the
  *   channel is on.
+ * - Interrupt lines: see the section on them below. After every reset the board raises its level lines again, and a pulse that was refused with 24 or that
+ *   had not been fetched is the board's to ask for again.
  * - Channel 0 is switched off by a read-modify-write of register 010h that keeps its size fields, as 22 00 10 00 11 00 00 E3. A write of 00000000h has
  *   forbidden sizes: it gets NON_FATAL (number 2) and the channel stays on. Switching it off drops the held write, request and completions; a late answer
  *   is then refused with 20.
  * - A packet that lowers PLTRST# resets the platform, and only the wire tells: after every accepted exchange that begins 04h read ESPI_WIRE_PLTRST (group 3,
  *   bit 1) and compare it with the level before. Low and high again between two looks would hide a reset.
  *
- * What stands where: lengths and numbers; the nine calls; names of what goes over the bus; readers for the two reports; struct espi_target, the state and
- * the stores in one, with calls of two or three arguments. All but the nine calls is inline: what a board does not use costs it nothing.
+ * What stands where: lengths and numbers; the eleven calls, those of the interrupt lines last; names of what goes over the bus; readers for the two
+ * reports; struct espi_target, the state and the stores in one, with calls of two or three arguments. All but the eleven calls is inline: what a board does
+ * not use costs it nothing.
  */
 #ifndef ESPI_H
 #define ESPI_H
@@ -31,7 +35,7 @@
 #include <stdint.h>
 
 /* The major number goes up when a board has to change something, the minor one when something is added. ESPI_VERSION is their text, "major.minor". */
-#define ESPI_VERSION_MAJOR 3
+#define ESPI_VERSION_MAJOR 4
 #define ESPI_VERSION_MINOR 0
 #define ESPI_VERSION ESPI_TEXT_(ESPI_VERSION_MAJOR) "." ESPI_TEXT_(ESPI_VERSION_MINOR)
 #define ESPI_TEXT_(number) ESPI_TEXT_OF_(number)
@@ -50,7 +54,7 @@ extern "C" {
 #endif
 
 /* The least lengths of the lent slices, in bytes. Longer ones are fine: bytes past these are neither read nor written. */
-#define ESPI_STATE_LEN 77
+#define ESPI_STATE_LEN 174
 #define ESPI_REPLY_LEN 263
 #define ESPI_WRITE_STORE_LEN 256
 #define ESPI_READ_STORE_LEN 4096
@@ -60,7 +64,7 @@ extern "C" {
 /* Numbers. */
 #define ESPI_OK 0              /* accepted or deferred */
 #define ESPI_FATAL 1           /* exchange: no credit, too large, a boundary crossed, or a wire's third change in a packet; FATAL reply */
-#define ESPI_FORBIDDEN 2       /* exchange: forbidden configuration value; NON_FATAL reply */
+#define ESPI_FORBIDDEN 2       /* exchange: forbidden configuration value, or an operating count of 1 while a pulse waits; NON_FATAL reply */
 #define ESPI_SHORT_STORE 10    /* a lent slice is too short */
 #define ESPI_NOT_SOUND 11      /* the state bytes pack no sound state */
 #define ESPI_BAD_LENGTH 12     /* exchange: empty, cut short or too long; silent */
@@ -70,21 +74,23 @@ extern "C" {
 #define ESPI_BAD_CRC 16        /* exchange: wrong CRC while it is checked; silent */
 #define ESPI_NO_REQUEST 20     /* answer: no unanswered request with this serial */
 #define ESPI_BAD_COUNT 21      /* answer: byte count wrong */
-#define ESPI_BAD_WIRE 22       /* set: not the board's wire, or value above 1; read: no such defined wire */
+#define ESPI_BAD_WIRE 22       /* set: not the board's wire, or value above 1; read: no such defined wire; a line above 255, or its level above 1 */
 #define ESPI_NOTHING 23        /* take: no write held; look: no unanswered request */
+#define ESPI_NOT_NOW 24        /* pulse: channel 1 off, operating count 1, or the line waits already; set a line: its pulse waits */
 
 static inline uint32_t espi_number(uint32_t word) { return word & 0xFFu; }
 static inline uint32_t espi_value(uint32_t word) { return word >> 8; }
 
-/* ---- The nine calls */
+/* ---- The eleven calls */
 
 /* The fresh state, whatever the bytes held. Numbers: 0, 10. */
 uint32_t espi_start(uint8_t *state, espi_len state_len);
 
-/* eSPI reset (the pin): all registers and wire groups, all queues. The last serial given stays. Numbers: 0, 10, 11. */
+/* eSPI reset (the pin): all registers and wire groups, all lines low, all queues. The last serial given stays. Numbers: 0, 10, 11. */
 uint32_t espi_reset(uint8_t *state, espi_len state_len);
 
-/* Platform reset: register 010h, wire groups 6 and 7, channel 0's queues. An exchange makes it by itself where the host lowers PLTRST#. Numbers: 0, 10, 11. */
+/* Platform reset: register 010h, wire groups 6 and 7, all lines low, channel 0's queues. An exchange makes it by itself where the host lowers PLTRST#.
+ * Numbers: 0, 10, 11. */
 uint32_t espi_platform_reset(uint8_t *state, espi_len state_len);
 
 /* One exchange: `command` is the whole command phase of one Chip Select# assertion, its CRC byte included. The value is the reply's length; 0: do not
@@ -115,6 +121,33 @@ uint32_t espi_set_wire(uint8_t *state, espi_len state_len, uint32_t index, uint3
 
 /* One defined bit of any group (index 2 to 7); the value is the wire's. Numbers: 0, 10, 11, 22. */
 uint32_t espi_read_wire(const uint8_t *state, espi_len state_len, uint32_t index, uint32_t bit);
+
+/* ---- Interrupt lines
+ *
+ * 256 lines to the host's interrupts, 0 to 255. On the bus line n is index n / 128, with the level in data bit 7 and n mod 128 in bits 6:0. No call reads a
+ * line.
+ *
+ * A level line is raised while its device wants the host and lowered when it has been served: espi_set_line. Each real change is sent by a later GET_VWIRE,
+ * with the level of then; raised and lowered before that, the line is sent once, low. A level that the line has already is accepted and changes nothing.
+ *
+ * An edge line is pulsed: espi_pulse_line. The host gets the line's other level and then the level held, two entries of one packet, in this order; the
+ * level held stays. The pulse waits until it is sent whole. Meanwhile this line takes neither another pulse nor a level: 24.
+ *
+ * - A pulse is 24 besides while channel 1 is off and while the operating count is 1, where two entries do not fit. It is not kept: the board asks again.
+ * - While a pulse waits the host cannot lower the operating count to 1, but by a write that switches channel 1 off: else number 2, and nothing changes.
+ * - When the host enables channel 1 every high line is sent, and no low one. Switching it off keeps the levels and drops what waits, pulses too.
+ * - espi_start, espi_reset, espi_platform_reset and a packet that lowers PLTRST# lower every line and drop what waits; the host is sent nothing of it. The
+ *   board raises its level lines again after each of them.
+ * - Turns go over lines 0 to 255, then the wire groups 4, 5 and 6, and begin at group 4 after a start, a reset and a switching off. A packet goes on from
+ *   where the last one ended and closes at the first one waiting that does not fit: a pulse with one place left is the first in the next packet. With c the
+ *   least operating count meanwhile and h the larger of 1 and c / 2 rounded down, whatever waits has been sent after 259 / h accepted GET_VWIREs, rounded
+ *   up. */
+
+/* Raises (1) or lowers (0) a line. A real change while channel 1 is on is sent by a later GET_VWIRE. Numbers: 0, 10, 11, 22, 24. */
+uint32_t espi_set_line(uint8_t *state, espi_len state_len, uint32_t line, uint32_t level);
+
+/* Asks for an edge on a line: its other level and its level again in one packet. Numbers: 0, 10, 11, 22, 24. */
+uint32_t espi_pulse_line(uint8_t *state, espi_len state_len, uint32_t line);
 
 /* ---- Names of what goes over the bus */
 
@@ -200,7 +233,7 @@ static inline uint32_t espi_wire_bit(uint32_t wire) { return wire % 4u; }
 #define ESPI_STATUS_NP_FREE 0x0002u     /* no request held */
 #define ESPI_STATUS_VWIRE_FREE 0x0004u  /* always 1 */
 #define ESPI_STATUS_PC_AVAIL 0x0010u    /* a completion is ready */
-#define ESPI_STATUS_VWIRE_AVAIL 0x0040u /* a wire group is pending */
+#define ESPI_STATUS_VWIRE_AVAIL 0x0040u /* a wire group is pending or a line waits */
 
 /* The status in a reply of this length, the value of its exchange: the two bytes before the CRC, as it is after the command (in the reply to a
  * SET_CONFIGURATION: before it). 0 if there is no reply. */
@@ -255,7 +288,7 @@ static inline struct espi_write espi_write_of(const uint8_t report[ESPI_TAKE_REP
 
 /* ---- A target with its stores
  *
- * The nine calls over one struct: each does what its plain call does and returns the same word. The struct is 4.7 KB: make it static, not a local
+ * The eleven calls over one struct: each does what its plain call does and returns the same word. The struct is 4.8 KB: make it static, not a local
  * variable. What is handed in (command, data) lies outside it; the board reads `reply` after an exchange and `write_store` after a take, and leaves the
  * rest alone. Then no slices overlap, and every call gets the state and the stores that the last one left; the other duties above stay the board's. */
 struct espi_target {
@@ -319,6 +352,15 @@ static inline uint32_t espi_target_read(const struct espi_target *target, uint32
 {
     return espi_read_wire(target->state, ESPI_STATE_LEN, espi_wire_index(wire), espi_wire_bit(wire));
 }
+
+/* Raises or lowers a line: espi_target_line(&target, 1, 1). */
+static inline uint32_t espi_target_line(struct espi_target *target, uint32_t line, uint32_t level)
+{
+    return espi_set_line(target->state, ESPI_STATE_LEN, line, level);
+}
+
+/* Pulses a line: espi_target_pulse(&target, 0). 24 says that it could not be asked for now. */
+static inline uint32_t espi_target_pulse(struct espi_target *target, uint32_t line) { return espi_pulse_line(target->state, ESPI_STATE_LEN, line); }
 
 #ifdef __cplusplus
 }

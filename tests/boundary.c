@@ -1,6 +1,7 @@
 /* What the proof cannot see of the C boundary: the archive as linked, guard bytes round every slice, refusals that write nothing, silence where
- * silent; and the header: its names, its readers, its calls over one struct. Bench lines of document 01, packets of many groups, third transitions, the
- * customer's story, every name by what the engine does with it, and two seeded random runs. Exit status 0 and one line at the end if all is well. */
+ * silent; and the header: its names, its readers, its calls over one struct. Bench lines of document 01, packets of many groups, third transitions,
+ * interrupt lines, the customer's story, every name by what the engine does with it, and two seeded random runs. Exit status 0 and one line at the end if
+ * all is well. */
 #include <stdio.h>
 #include <stdlib.h>
 #include <string.h>
@@ -157,6 +158,24 @@ static uint32_t read_wire(uint32_t index, uint32_t bit)
     uint32_t word = espi_read_wire(bytes(&state), state.length, index, bit);
     check_short(word, is_short(&state, ESPI_STATE_LEN));
     check_same(&state, 0);
+    return word;
+}
+
+static uint32_t set_line(uint32_t number, uint32_t level)
+{
+    lend(&state, state.length);
+    uint32_t word = espi_set_line(bytes(&state), state.length, number, level);
+    check_short(word, is_short(&state, ESPI_STATE_LEN));
+    check_same(&state, word == ESPI_OK ? ESPI_STATE_LEN : 0);
+    return word;
+}
+
+static uint32_t pulse_line(uint32_t number)
+{
+    lend(&state, state.length);
+    uint32_t word = espi_pulse_line(bytes(&state), state.length, number);
+    check_short(word, is_short(&state, ESPI_STATE_LEN));
+    check_same(&state, word == ESPI_OK ? ESPI_STATE_LEN : 0);
     return word;
 }
 
@@ -446,6 +465,129 @@ static void pltrst_resets(void)
     answered(2, 1, ESPI_OK);
 }
 
+/* ---- interrupt lines (document 02, Q-4) */
+
+/* Channel 1 on or off with an operating count: accepted, or refused with number 2. */
+static void channel_1(uint8_t on, uint8_t count, uint32_t number)
+{
+    uint8_t b[8] = {0x22, 0x00, 0x20, on, 0x00, (uint8_t)(count - 1), 0x00};
+    b[7] = crc8(b, 7);
+    doing = "a write of 020h";
+    want(exchange(b, 8) == 4 * 256 + number, "wrong word");
+}
+
+/* GET_VWIRE sends these pairs of index and data; whether more waits. */
+static void sends(const char *pairs, int more)
+{
+    static const uint8_t get_vwire[2] = {0x05, 0x1B};
+    uint8_t is[140] = {0x08};
+    doing = pairs;
+    size_t n = from_hex(pairs, is + 2);
+    is[1] = (uint8_t)(n / 2 - 1);
+    is[n + 2] = more ? 0x47 : 0x07;
+    is[n + 3] = 0x00;
+    is[n + 4] = crc8(is, n + 4);
+    want(exchange(get_vwire, 2) == 256 * (n + 5) && memcmp(bytes(&reply), is, n + 5) == 0, "wrong packet");
+}
+
+static void done(uint32_t word) { want(word == ESPI_OK, "a call was refused"); }
+
+static void line_rows(void)
+{
+    fresh();
+    line("22 00 20 01 00 01 00 7F", 0, "08 07 00 3A");
+    done(set_line(1, 1));
+    done(pulse_line(130));
+    done(set_wire(5, 0, 1));
+    line("05 1B", 0, "08 01 05 F1 00 81 47 00 F1");
+    line("05 1B", 0, "08 01 01 82 01 02 07 00 96");
+    line("05 1B", 1, "03 07 00 D6");
+}
+
+/* 22 and 24 in each of their cases; 22 comes first. */
+static void lines_refused(void)
+{
+    doing = "lines that are refused";
+    fresh();
+    want(set_line(256, 1) == ESPI_BAD_WIRE && set_line(UINT32_MAX, 0) == ESPI_BAD_WIRE && set_line(0, 2) == ESPI_BAD_WIRE, "a line or level that is none");
+    want(pulse_line(256) == ESPI_BAD_WIRE && pulse_line(0) == ESPI_NOT_NOW, "a pulse while channel 1 is off");
+    channel_1(1, 1, ESPI_OK);
+    want(pulse_line(0) == ESPI_NOT_NOW && pulse_line(0x80000000u) == ESPI_BAD_WIRE, "a pulse at an operating count of 1");
+    channel_1(1, 2, ESPI_OK);
+    done(set_line(255, 1));
+    want(pulse_line(255) == ESPI_NOT_NOW, "a pulse on a line that waits");
+    done(set_line(255, 0));
+    done(set_line(255, 1));
+    sends("01 FF", 0);
+    done(set_line(255, 1));
+    line("25 FB", 0, "08 07 00 3A");
+    done(pulse_line(255));
+    want(pulse_line(255) == ESPI_NOT_NOW && set_line(255, 0) == ESPI_NOT_NOW && set_line(255, 1) == ESPI_NOT_NOW, "a line whose pulse waits");
+    want(set_line(255, 2) == ESPI_BAD_WIRE, "22 comes before 24");
+    sends("01 7F 01 FF", 0);
+}
+
+/* A pulse with one place left closes a packet and is first in the next; turns go from line 255 to group 4 and from group 6 to line 0. */
+static void line_turns(void)
+{
+    fresh();
+    channel_1(1, 4, ESPI_OK);
+    done(set_wire(4, 0, 1));
+    done(set_line(0, 1));
+    done(set_line(1, 1));
+    done(pulse_line(2));
+    done(set_line(3, 1));
+    sends("04 DD 00 80 00 81", 1);
+    sends("00 82 00 02 00 83", 0);
+    done(set_line(255, 1));
+    done(set_line(0, 0));
+    done(set_wire(4, 0, 0));
+    done(set_wire(6, 0, 0));
+    sends("01 FF 04 DC 06 F6 00 00", 0);
+}
+
+/* The operating count and a pulse that waits; enabling and disabling; both resets, and PLTRST#. */
+static void line_resets(void)
+{
+    char all[6 * 64 + 1];
+    fresh();
+    channel_1(1, 8, ESPI_OK);
+    done(set_line(9, 1));
+    channel_1(1, 1, ESPI_OK);
+    channel_1(1, 2, ESPI_OK);
+    done(pulse_line(10));
+    line("22 00 20 01 00 00 00 6A", 2, "02 47 00 E6");
+    channel_1(1, 3, ESPI_OK);
+    channel_1(0, 1, ESPI_OK);
+    line("25 FB", 0, "08 07 00 3A");
+    for (uint32_t number = 0; number < 256; number++)
+        done(set_line(number, 1));
+    channel_1(1, 64, ESPI_OK);
+    for (int packet_at = 0; packet_at < 4; packet_at++) {
+        for (int k = 0; k < 64; k++)
+            snprintf(all + 6 * k, sizeof all - 6u * (unsigned)k, "%02X %02X ", (unsigned)packet_at / 2, 0x80u + 64u * (packet_at % 2u) + (unsigned)k);
+        sends(all, packet_at < 3);
+    }
+    for (int reset = 0; reset < 3; reset++) {
+        done(set_line(200, 1));
+        done(set_line(7, 1));
+        if (reset == 1)
+            done(pulse_line(8));
+        if (reset == 2) {
+            done(pulse_line(8));
+            line("04 01 03 22 03 20 B6", 0, "08 47 00 61"); /* high and low again: no reset */
+            line("04 00 03 22 89", 0, "08 47 00 61");
+            line("04 00 03 20 87", 0, "08 47 00 61");
+        } else {
+            done(reset_by(reset == 0 ? espi_reset : espi_platform_reset));
+        }
+        line("25 FB", 0, "08 07 00 3A");
+        channel_1(0, 8, ESPI_OK);
+        channel_1(1, 8, ESPI_OK);
+        line("05 1B", 1, "03 07 00 D6");
+    }
+}
+
 /* ---- the customer's story: channel 0 off and on with an answer still open */
 
 static void customer(void)
@@ -536,7 +678,7 @@ static size_t some_command(uint8_t *b)
     return n;
 }
 
-static unsigned long seen[24], short_takes, short_looks;
+static unsigned long seen[25], short_takes, short_looks;
 
 /* Often enough, seldom too short. */
 static size_t some_length(size_t least) { return least + below(9) - (below(64) == 0 ? 9 : 0); }
@@ -574,7 +716,7 @@ static void some_call(void)
 {
     static uint8_t b[4200];
     uint32_t word = 0;
-    switch (below(12)) {
+    switch (below(14)) {
     case 0:
         word = set_wire(2 + below(7), below(5), below(3));
         break;
@@ -599,12 +741,18 @@ static void some_call(void)
         if (below(64) == 0)
             word = reset_by(below(2) ? espi_reset : espi_platform_reset);
         break;
+    case 7:
+        word = set_line(below(260), below(16) == 0 ? 2 : below(2));
+        break;
+    case 8:
+        word = pulse_line(below(8) == 0 ? below(300) : below(4));
+        break;
     default: {
         size_t n = some_command(b);
         word = exchange(b, n);
     }
     }
-    if (espi_number(word) > 23)
+    if (espi_number(word) > 24)
         fail("no number of the table");
     seen[espi_number(word)]++;
 }
@@ -628,7 +776,7 @@ static void random_run(unsigned long calls)
         if (damaged || state.length < ESPI_STATE_LEN)
             memcpy(bytes(&state), kept, sizeof kept);
     }
-    static const int all[] = {0, 1, 2, 10, 11, 12, 13, 14, 15, 16, 20, 21, 22, 23};
+    static const int all[] = {0, 1, 2, 10, 11, 12, 13, 14, 15, 16, 20, 21, 22, 23, 24};
     for (size_t k = 0; k < sizeof all / sizeof *all; k++)
         if (seen[all[k]] == 0)
             fail("a number that the run never reached");
@@ -782,7 +930,8 @@ static void refusals_by_name(void)
     HOST(ESPI_RESPONSE_DEFER, FREE - ESPI_STATUS_NP_FREE, ESPI_OPCODE_SHORT_IO_READ + ESPI_SHORT_1, 0x00, 0x64);
     want(espi_target_answer(&target, 2, with, 1) == ESPI_NO_REQUEST && espi_target_fail(&target, 2) == ESPI_NO_REQUEST, "a serial that was not given");
     want(espi_target_answer(&target, 1, with, 2) == ESPI_BAD_COUNT, "an answer of the wrong length");
-    target.state[ESPI_STATE_LEN - 1] = 7; /* the going-round place is 4 to 6 */
+    want(espi_target_pulse(&target, 0) == ESPI_NOT_NOW && espi_target_line(&target, 256, 1) == ESPI_BAD_WIRE, "a pulse while channel 1 is off");
+    target.state[ESPI_STATE_LEN - 1] = 0x80; /* an edge of a line that does not wait */
     want(espi_target_look(&target, &q) == ESPI_NOT_SOUND && espi_target_reset(&target) == ESPI_NOT_SOUND, "a state that is not sound");
 }
 
@@ -924,7 +1073,7 @@ static void twin_call(void)
     static uint8_t b[4200];
     uint32_t wire = below(36), value = below(3);
     report.length = ESPI_LOOK_REPORT_LEN;
-    switch (below(12)) {
+    switch (below(14)) {
     case 0:
         same_word(set_wire(wire / 4, wire % 4, value), espi_target_set(&twin.target, wire, value));
         break;
@@ -946,6 +1095,12 @@ static void twin_call(void)
             same_word(reset_by(espi_reset), espi_target_reset(&twin.target));
         else if (below(64) == 0)
             same_word(reset_by(espi_platform_reset), espi_target_platform_reset(&twin.target));
+        break;
+    case 7:
+        same_word(set_line(wire, value), espi_target_line(&twin.target, wire, value));
+        break;
+    case 8:
+        same_word(pulse_line(wire), espi_target_pulse(&twin.target, wire));
         break;
     default: {
         size_t n = some_command(b);
@@ -977,6 +1132,10 @@ int main(void)
     pltrst_falls();
     pltrst_packets();
     pltrst_resets();
+    line_rows();
+    lines_refused();
+    line_turns();
+    line_resets();
     customer();
     random_run(300000);
     readers();
@@ -986,7 +1145,7 @@ int main(void)
     refusals_by_name();
     wires_by_name();
     twin_run(100000);
-    printf("boundary: bench lines, packets of many groups, third transitions, PLTRST# by wire, the customer's story, 300000 random calls, "
-           "the header's names and readers, 100000 calls over a struct: ok\n");
+    printf("boundary: bench lines, packets of many groups, third transitions, PLTRST# by wire, interrupt lines, the customer's story, 300000 random "
+           "calls, the header's names and readers, 100000 calls over a struct: ok\n");
     return 0;
 }

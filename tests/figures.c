@@ -73,6 +73,20 @@ static size_t stage(const char *kind, uint8_t *c)
         espi_set_wire(state, sizeof state, 6, 0, 0);
         return c[0] = 0x05, 1;
     }
+    if (strcmp(kind, "GET_VWIRE of 1 line") == 0) {
+        HOST(0x22, 0x00, 0x20, 0x01, 0x00, 0x00, 0x00);
+        espi_set_line(state, sizeof state, 1, 1);
+        return c[0] = 0x05, 1;
+    }
+    uint32_t apart = strcmp(kind, "GET_VWIRE of 64 lines") == 0 ? 1 : strcmp(kind, "64 lines, 4 apart") == 0 ? 4 : 0;
+    if (apart > 0) {
+        HOST(0x22, 0x00, 0x20, 0x01, 0x00, 0x3F, 0x00);
+        for (uint32_t k = 0; k < 64; k++)
+            espi_set_line(state, sizeof state, k * apart, 1);
+        return c[0] = 0x05, 1;
+    }
+    if (strcmp(kind, "set line") == 0 || strcmp(kind, "pulse line") == 0)
+        HOST(0x22, 0x00, 0x20, 0x01, 0x00, 0x01, 0x00);
     if (strcmp(kind, "look") == 0 || strcmp(kind, "answer of 1 byte") == 0)
         HOST(0x40, 0x00, 0x64);
     if (strcmp(kind, "answer of 64 bytes") == 0)
@@ -106,6 +120,18 @@ static uint32_t set(const uint8_t *command, size_t n)
     return espi_set_wire(state, sizeof state, 6, 0, 0);
 }
 
+static uint32_t set_line(const uint8_t *command, size_t n)
+{
+    (void)command, (void)n;
+    return espi_set_line(state, sizeof state, 1, 1);
+}
+
+static uint32_t pulse_line(const uint8_t *command, size_t n)
+{
+    (void)command, (void)n;
+    return espi_pulse_line(state, sizeof state, 130);
+}
+
 static uint32_t look(const uint8_t *command, size_t n)
 {
     static uint8_t report[ESPI_LOOK_REPORT_LEN];
@@ -129,8 +155,8 @@ static turn *turn_of(const char *kind)
     static const struct {
         const char *kind;
         turn *turn;
-    } board[] = {{"set wire, refused", refused}, {"set wire", set}, {"look", look}, {"answer of 1 byte", answer_1}, {"answer of 64 bytes", answer_64},
-                 {"answer of 4096 bytes", answer_4096}, {"take a write", take}};
+    } board[] = {{"set wire, refused", refused}, {"set wire", set}, {"set line", set_line}, {"pulse line", pulse_line}, {"look", look},
+                 {"answer of 1 byte", answer_1}, {"answer of 64 bytes", answer_64}, {"answer of 4096 bytes", answer_4096}, {"take a write", take}};
     for (size_t k = 0; k < sizeof board / sizeof *board; k++)
         if (strcmp(kind, board[k].kind) == 0)
             return board[k].turn;

@@ -13,10 +13,10 @@ import sys
 import tempfile
 
 KINDS = ["GET_STATUS", "short I/O read", "its GET_PC", "64-byte piece", "256-byte piece", "PUT_PC of 64 bytes", "PUT_VWIRE",
-         "PUT_VWIRE, PLTRST# falls", "PUT_VWIRE of 64 pairs", "GET_VWIRE",
-         "GET_CONFIGURATION", "SET_CONFIGURATION", "a refusal (GET_PC, none ready)"]
+         "PUT_VWIRE, PLTRST# falls", "PUT_VWIRE of 64 pairs", "GET_VWIRE", "GET_VWIRE of 1 line", "GET_VWIRE of 64 lines",
+         "64 lines, 4 apart", "GET_CONFIGURATION", "SET_CONFIGURATION", "a refusal (GET_PC, none ready)"]
 # The first is the test of the bytes and little else; the second that, and a wire's channel changed and stored.
-BOARD = ["set wire, refused", "set wire", "look", "answer of 1 byte", "answer of 64 bytes", "answer of 4096 bytes", "take a write"]
+BOARD = ["set wire, refused", "set wire", "set line", "pulse line", "look", "answer of 1 byte", "answer of 64 bytes", "answer of 4096 bytes", "take a write"]
 SHAPES = ["bits", "table", "byte", "two", "three", "four", "eight", "lanes", "kept"]
 LENGTHS = [3, 7, 64, 256]
 LOAD = "state::holds"

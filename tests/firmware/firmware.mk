@@ -109,7 +109,7 @@ differential-firmware: $(BRIDGED:%=bridged-%)
 
 # ---- the figures of the boards
 
-WRAP = $(patsubst %,-Wl$(comma)--wrap=espi_%,start reset platform_reset exchange look answer take_write set_wire read_wire)
+WRAP = $(patsubst %,-Wl$(comma)--wrap=espi_%,start reset platform_reset exchange look answer take_write set_wire read_wire set_line pulse_line)
 comma = ,
 
 target/firmware/%/stack: tests/firmware/stack.c tests/boundary.c tests/crc8.h include/espi.h $(START) target/firmware/%/libespi.a

@@ -8,14 +8,14 @@
 #define ROOM 512 /* words */
 #define PAINT 0xC5A3965Au
 
-enum call { START, RESET, PLATFORM_RESET, EXCHANGE, LOOK, ANSWER, TAKE_WRITE, SET_WIRE, READ_WIRE, CALLS };
+enum call { START, RESET, PLATFORM_RESET, EXCHANGE, LOOK, ANSWER, TAKE_WRITE, SET_WIRE, READ_WIRE, SET_LINE, PULSE_LINE, CALLS };
 
 static unsigned deepest[CALLS];
 
 static void show(void)
 {
     static const char *const names[CALLS] = {"espi_start", "espi_reset", "espi_platform_reset", "espi_exchange", "espi_look",
-                                             "espi_answer", "espi_take_write", "espi_set_wire", "espi_read_wire"};
+                                             "espi_answer", "espi_take_write", "espi_set_wire", "espi_read_wire", "espi_set_line", "espi_pulse_line"};
     for (int call = 0; call < CALLS; call++)
         printf("stack %s %u\n", names[call], deepest[call]);
 }
@@ -73,3 +73,5 @@ WRAPPED(ANSWER, espi_answer, (uint8_t * s, espi_len n, uint8_t *d, espi_len dn, 
 WRAPPED(TAKE_WRITE, espi_take_write, (uint8_t * s, espi_len n, const uint8_t *w, espi_len wn, uint8_t *r, espi_len rn), (s, n, w, wn, r, rn))
 WRAPPED(SET_WIRE, espi_set_wire, (uint8_t * s, espi_len n, uint32_t index, uint32_t bit, uint32_t value), (s, n, index, bit, value))
 WRAPPED(READ_WIRE, espi_read_wire, (const uint8_t *s, espi_len n, uint32_t index, uint32_t bit), (s, n, index, bit))
+WRAPPED(SET_LINE, espi_set_line, (uint8_t * s, espi_len n, uint32_t line, uint32_t level), (s, n, line, level))
+WRAPPED(PULSE_LINE, espi_pulse_line, (uint8_t * s, espi_len n, uint32_t line), (s, n, line))
