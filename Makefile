@@ -119,6 +119,7 @@ CAPTURES = tests/differential/target/release/captures
 
 rust-test:
 	cd tests/differential && cargo test --release --lib
+	cd tests/plain && cargo test --release
 
 differential: rust-test $(NATIVE) $(CAPTURE)
 	$(BUILD_RUST)

@@ -40,6 +40,10 @@ static uint32_t make(uint32_t row, uint32_t first, uint32_t second, uint32_t thi
         return espi_set_wire(at(0), length(0), first, second, third);
     case 8:
         return espi_read_wire(at(0), length(0), first, second);
+    case 9:
+        return espi_set_line(at(0), length(0), first, second);
+    case 10:
+        return espi_pulse_line(at(0), length(0), first);
     default:
         _exit(2);
     }

@@ -39,11 +39,13 @@ struct Reached {
     pieces: [bool; 257],
     writes: [bool; 257],
     packets: [bool; 65],
+    sent: [bool; 65],
 }
 
 impl Reached {
     fn new() -> Reached {
-        Reached { kinds: [false; KINDS.len()], numbers: [false; 17], pieces: [false; 257], writes: [false; 257], packets: [false; 65] }
+        let (kinds, numbers) = ([false; KINDS.len()], [false; 17]);
+        Reached { kinds, numbers, pieces: [false; 257], writes: [false; 257], packets: [false; 65], sent: [false; 65] }
     }
 
     fn exchange(&mut self, kind: Kind, command: &[u8], word: u32) {
@@ -52,6 +54,7 @@ impl Reached {
             Kind::Piece16 | Kind::Piece64 | Kind::Piece256 => self.pieces[size(command, word)] = true,
             Kind::Write64 | Kind::Write256 => self.writes[size(command, word)] = true,
             Kind::PutVwire3 | Kind::PutVwire64 => self.packets[size(command, word)] = true,
+            Kind::GetVwire3 | Kind::GetVwire64 => self.sent[size(command, word)] = true,
             _ => {}
         }
     }
@@ -61,11 +64,12 @@ impl Reached {
         if let Some((_, name)) = KINDS.iter().find(|(kind, _)| exchanges >= ENOUGH && !self.kinds[kind.row()]) {
             return Some(format!("the mix has no {name}"));
         }
-        let wanted: [(usize, &str, &[bool], Vec<usize>); 4] = [
+        let wanted: [(usize, &str, &[bool], Vec<usize>); 5] = [
             (ENOUGH, "exchange with number", &self.numbers, vec![0, 1, 2, 12, 13, 14, 15, 16]),
             (ENOUGH_FOR_SIZES, "piece of bytes", &self.pieces, (0..=256).collect()),
             (ENOUGH_FOR_SIZES, "posted write of bytes", &self.writes, (1..=256).collect()),
             (ENOUGH_FOR_SIZES, "packet of pairs", &self.packets, (1..=64).collect()),
+            (ENOUGH_FOR_SIZES, "packet sent of entries", &self.sent, (1..=64).collect()),
         ];
         wanted.iter().filter(|row| exchanges >= row.0).find_map(|(_, what, reached, numbers)| {
             let missing = numbers.iter().find(|&&number| !reached[number])?;

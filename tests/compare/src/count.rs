@@ -48,7 +48,8 @@ callers! {
     Write256 calls_write_256
     PutVwire3 calls_put_vwire_3
     PutVwire64 calls_put_vwire_64
-    GetVwire calls_get_vwire
+    GetVwire3 calls_get_vwire_3
+    GetVwire64 calls_get_vwire_64
     Reset calls_reset
     Refused calls_refused
     NoReply calls_no_reply
@@ -58,6 +59,8 @@ callers! {
     Take calls_take
     SetWire calls_set_wire
     ReadWire calls_read_wire
+    SetLine calls_set_line
+    PulseLine calls_pulse_line
 }
 
 /// Plays the mix once.

@@ -16,7 +16,8 @@ pub enum Kind {
     Write256,
     PutVwire3,
     PutVwire64,
-    GetVwire,
+    GetVwire3,
+    GetVwire64,
     Reset,
     Refused,
     NoReply,
@@ -26,10 +27,12 @@ pub enum Kind {
     Take,
     SetWire,
     ReadWire,
+    SetLine,
+    PulseLine,
 }
 
 /// Every kind with its name in the report, in the order of their numbers; exchanges come first.
-pub const KINDS: [(Kind, &str); 23] = [
+pub const KINDS: [(Kind, &str); 26] = [
     (Kind::GetStatus, "GET_STATUS"),
     (Kind::GetConfiguration, "GET_CONFIGURATION"),
     (Kind::SetConfiguration, "SET_CONFIGURATION"),
@@ -43,7 +46,8 @@ pub const KINDS: [(Kind, &str); 23] = [
     (Kind::Write256, "posted write of 65 to 256 bytes"),
     (Kind::PutVwire3, "PUT_VWIRE of 1 to 3 pairs"),
     (Kind::PutVwire64, "PUT_VWIRE of 4 to 64 pairs"),
-    (Kind::GetVwire, "GET_VWIRE"),
+    (Kind::GetVwire3, "GET_VWIRE of 1 to 3 entries"),
+    (Kind::GetVwire64, "GET_VWIRE of 4 to 64 entries"),
     (Kind::Reset, "RESET"),
     (Kind::Refused, "refused with 1 or 2"),
     (Kind::NoReply, "no reply (12 to 16)"),
@@ -53,6 +57,8 @@ pub const KINDS: [(Kind, &str); 23] = [
     (Kind::Take, "take a write"),
     (Kind::SetWire, "set a wire"),
     (Kind::ReadWire, "read a wire"),
+    (Kind::SetLine, "raise or lower a line"),
+    (Kind::PulseLine, "pulse a line"),
 ];
 
 /// A number for each kind, by `Kind::row`.
@@ -89,7 +95,8 @@ impl Kind {
             (0x02, _) => Kind::LongRead,
             (0x04, 0..=3) => Kind::PutVwire3,
             (0x04, _) => Kind::PutVwire64,
-            (0x05, _) => Kind::GetVwire,
+            (0x05, 0..=3) => Kind::GetVwire3,
+            (0x05, _) => Kind::GetVwire64,
             (0x21, _) => Kind::GetConfiguration,
             (0x22, _) => Kind::SetConfiguration,
             (0x25, _) => Kind::GetStatus,
@@ -111,7 +118,7 @@ impl Kind {
 }
 
 /// The bytes of a piece or of a posted write, or the pairs of a packet, of an accepted command. It has the length that its header says
-/// and the CRC byte; a reply has seven bytes beside a piece.
+/// and the CRC byte; a reply has seven bytes beside a piece and five beside a packet's pairs.
 pub fn size(command: &[u8], word: u32) -> usize {
     let length = command.len();
     match command[0] {
@@ -119,6 +126,7 @@ pub fn size(command: &[u8], word: u32) -> usize {
         0x00 => length - 13,
         0x01 => (word >> 8) as usize - 7,
         0x04 => (length - 3) / 2,
+        0x05 => ((word >> 8) as usize - 5) / 2,
         0x4C..=0x4F => length - 6,
         _ => 0,
     }

@@ -7,7 +7,7 @@ use differential::state::{unpack, Phase, State, FIRST_GROUP, GROUPS, STATE_LEN};
 use differential::traffic::Random;
 
 /// What host or board begins; what belongs to it follows by itself: the answer and every completion of a request, the take of a write,
-/// the GET_VWIRE after wires were set.
+/// the GET_VWIRE after wires or lines were set.
 #[derive(Clone, Copy)]
 enum Begins {
     GetStatus,
@@ -26,6 +26,8 @@ enum Begins {
     PutVwire,
     /// The board sets one to three wires.
     SetWires,
+    /// The board raises, lowers or pulses one to three lines, often a timer's or the keyboard's; one time in ten up to 64 of them.
+    SetLines,
     /// FATAL: no credit, size, edge of a block, group count, third transition. NON_FATAL: a forbidden value.
     Refused,
     /// A wrong CRC, cut, too long, no such opcode or cycle type, empty.
@@ -34,8 +36,8 @@ enum Begins {
 }
 
 /// How often each is begun, of 1,000 times. Half as many exchanges again follow from them.
-const SHARES: [(Begins, usize); 13] = [
-    (Begins::GetStatus, 250),
+const SHARES: [(Begins, usize); 14] = [
+    (Begins::GetStatus, 240),
     (Begins::GetConfiguration, 30),
     (Begins::SetConfiguration, 30),
     (Begins::ShortRead, 200),
@@ -44,7 +46,8 @@ const SHARES: [(Begins, usize); 13] = [
     (Begins::PutPc, 60),
     (Begins::MemoryWrite, 40),
     (Begins::PutVwire, 80),
-    (Begins::SetWires, 70),
+    (Begins::SetWires, 50),
+    (Begins::SetLines, 30),
     (Begins::Refused, 40),
     (Begins::Damaged, 39),
     (Begins::Reset, 1),
@@ -65,6 +68,8 @@ pub enum Call {
     Take,
     SetWire { index: u8, bit: u8, value: u8 },
     ReadWire { index: u8, bit: u8 },
+    SetLine { line: u8, level: u8 },
+    PulseLine { line: u8 },
 }
 
 #[derive(Clone, Copy)]
@@ -208,6 +213,18 @@ impl Maker {
         self.event(Kind::ReadWire, Call::ReadWire { index, bit });
     }
 
+    /// The board turns a line or, one time in three, pulses it.
+    fn set_line(&mut self, line: u8) {
+        if self.once_in(3) {
+            self.engine.pulse_line(&mut self.state, line.into());
+            self.event(Kind::PulseLine, Call::PulseLine { line });
+        } else {
+            let level = u8::from(!self.now.lines[usize::from(line)].high);
+            self.engine.set_line(&mut self.state, line.into(), level.into());
+            self.event(Kind::SetLine, Call::SetLine { line, level });
+        }
+    }
+
     // ---- what is held
 
     fn is_open(&self) -> bool {
@@ -245,7 +262,7 @@ impl Maker {
             self.take();
         }
         self.set_right();
-        let pending = self.now.pending.contains(&true);
+        let pending = self.now.something_waits();
         if self.is_ready() && !self.once_in(4) {
             if self.once_in(4) {
                 self.send(vec![0x25]);
@@ -320,6 +337,15 @@ impl Maker {
             Begins::SetWires => {
                 for _ in 0..self.pick(&[1, 1, 2, 3]) {
                     self.set_wire();
+                }
+            }
+            Begins::SetLines => {
+                let many = self.once_in(10);
+                let count = if many { 1 + self.below(64) } else { self.pick(&[1, 1, 2, 3]) };
+                for _ in 0..count {
+                    let any = self.random.byte();
+                    let line = if many { any } else { self.pick(&[0, 1, 8, 12, any, any]) };
+                    self.set_line(line);
                 }
             }
             Begins::Refused => self.refused(),
@@ -521,7 +547,7 @@ impl Maker {
                 self.put_pc()
             }
             3 => {
-                while self.now.pending.contains(&true) {
+                while self.now.something_waits() {
                     self.send(vec![0x05]);
                 }
                 vec![0x05]

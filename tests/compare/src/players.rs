@@ -34,6 +34,8 @@ pub trait Player {
     fn take_write(&mut self) -> u32;
     fn set_wire(&mut self, index: u32, bit: u32, value: u32) -> u32;
     fn read_wire(&mut self, index: u32, bit: u32) -> u32;
+    fn set_line(&mut self, line: u32, level: u32) -> u32;
+    fn pulse_line(&mut self, line: u32) -> u32;
 
     fn state_of(bytes: &[u8; STATE_LEN]) -> Self::State;
     fn put(&mut self, state: &Self::State);
@@ -50,6 +52,8 @@ pub fn make<P: Player>(player: &mut P, mix: &Mix, event: &Event) -> u32 {
         Call::Take => player.take_write(),
         Call::SetWire { index, bit, value } => player.set_wire(index.into(), bit.into(), value.into()),
         Call::ReadWire { index, bit } => player.read_wire(index.into(), bit.into()),
+        Call::SetLine { line, level } => player.set_line(line.into(), level.into()),
+        Call::PulseLine { line } => player.pulse_line(line.into()),
     }
 }
 
@@ -100,6 +104,16 @@ impl Calls for Plain {
     #[inline(always)]
     fn read_wire(&mut self, state: &[u8], index: u32, bit: u32) -> u32 {
         lent::read_wire(state, index, bit)
+    }
+
+    #[inline(always)]
+    fn set_line(&mut self, state: &mut [u8], line: u32, level: u32) -> u32 {
+        lent::set_line(state, line, level)
+    }
+
+    #[inline(always)]
+    fn pulse_line(&mut self, state: &mut [u8], line: u32) -> u32 {
+        lent::pulse_line(state, line)
     }
 }
 
@@ -190,6 +204,16 @@ impl<C: Calls + Default> Player for Lent<C> {
         self.engine.read_wire(&self.state.0[..self.lengths.state], index, bit)
     }
 
+    #[inline(always)]
+    fn set_line(&mut self, line: u32, level: u32) -> u32 {
+        self.engine.set_line(&mut self.state.0[..self.lengths.state], line, level)
+    }
+
+    #[inline(always)]
+    fn pulse_line(&mut self, line: u32) -> u32 {
+        self.engine.pulse_line(&mut self.state.0[..self.lengths.state], line)
+    }
+
     fn state_of(bytes: &[u8; STATE_LEN]) -> [u8; STATE_LEN] {
         *bytes
     }
@@ -252,6 +276,16 @@ mod board {
         target.read_wire(index, bit).map_or_else(|number| number, |level| level << 8)
     }
 
+    #[inline(never)]
+    pub fn set_line(target: &mut Target, line: u32, level: u32) -> u32 {
+        number(target.set_line(line, level))
+    }
+
+    #[inline(never)]
+    pub fn pulse_line(target: &mut Target, line: u32) -> u32 {
+        number(target.pulse_line(line))
+    }
+
     fn number(done: Result<(), u32>) -> u32 {
         done.err().unwrap_or(0)
     }
@@ -310,6 +344,16 @@ impl Player for Kept {
     #[inline(always)]
     fn read_wire(&mut self, index: u32, bit: u32) -> u32 {
         board::read_wire(&self.target.0, index, bit)
+    }
+
+    #[inline(always)]
+    fn set_line(&mut self, line: u32, level: u32) -> u32 {
+        board::set_line(&mut self.target.0, line, level)
+    }
+
+    #[inline(always)]
+    fn pulse_line(&mut self, line: u32) -> u32 {
+        board::pulse_line(&mut self.target.0, line)
     }
 
     fn state_of(bytes: &[u8; STATE_LEN]) -> Target {

@@ -8,10 +8,12 @@ use std::process::Command;
 /// The engines by their names in the tables.
 pub const NAMES: [&str; 3] = ["archive", "(a)", "(b)"];
 
-/// At most so much of (a) over the mix, in instructions and in time; and of any kind, in either.
+/// At most so much of (a) over the mix, in instructions and in time; and of any kind, in either. A packet of many entries has a bar of its own: (a) finds the
+/// next line in a word at once, the archive asks line by line (docs/DECISIONS.md, 70).
 const INSTRUCTIONS_BAR: f64 = 1.0;
 const TIME_BAR: f64 = 1.1;
 const KIND_BAR: f64 = 1.25;
+const PACKET_BAR: f64 = 2.5;
 
 /// Instructions by engine, of the first exchanges of a mix.
 pub struct Counted {
@@ -63,9 +65,8 @@ impl Counted {
     /// What is over the bars.
     pub fn over(&self) -> Vec<String> {
         let mix = [("the mix, exchanges alone", self.of_exchange(false)), ("the mix, board calls with them", self.of_exchange(true))];
-        let kinds = KINDS.iter().enumerate().map(|(row, (_, name))| (*name, self.of_kind(row)));
         let over_mix = mix.into_iter().filter_map(|(name, numbers)| over(name, numbers, INSTRUCTIONS_BAR));
-        over_mix.chain(kinds.filter_map(|(name, numbers)| over(name, numbers, KIND_BAR))).collect()
+        over_mix.chain(kinds_over(|row| self.of_kind(row))).collect()
     }
 
     /// The mix in a line.
@@ -118,14 +119,13 @@ impl Measured<'_> {
 
     /// What is over the bars in time, by the medians.
     fn over_in_time(&self) -> Vec<String> {
-        let kinds = KINDS.iter().enumerate().map(|(row, (_, name))| (*name, self.by_kind[row].map(|time| time.median)));
         let mix = over("the mix", self.over_mix.times.map(|time| time.median), TIME_BAR);
-        mix.into_iter().chain(kinds.filter_map(|(name, numbers)| over(name, numbers, KIND_BAR))).collect()
+        mix.into_iter().chain(kinds_over(|row| self.by_kind[row].map(|time| time.median))).collect()
     }
 
     pub fn bars(&self) -> String {
         let mut text = format!(
-            "Bars, of (a): over the mix {INSTRUCTIONS_BAR} in instructions and {TIME_BAR} in time, {KIND_BAR} for any kind in either.\n"
+            "Bars, of (a): over the mix {INSTRUCTIONS_BAR} in instructions and {TIME_BAR} in time, {KIND_BAR} for any kind in either, a packet of many entries {PACKET_BAR}.\n"
         );
         let instructions = self.counted.as_ref().map(Counted::over);
         for (what, over) in [("instructions", instructions), ("time", Some(self.over_in_time()))] {
@@ -166,6 +166,14 @@ impl Measured<'_> {
         ];
         lines.join("\n") + "\n"
     }
+}
+
+/// The kinds that are over their bars, by the numbers of their rows.
+fn kinds_over<'a>(numbers: impl Fn(usize) -> [f64; 3] + 'a) -> impl Iterator<Item = String> + 'a {
+    KINDS.iter().enumerate().filter_map(move |(row, &(kind, name))| {
+        let bar = if kind == Kind::GetVwire64 { PACKET_BAR } else { KIND_BAR };
+        over(name, numbers(row), bar)
+    })
 }
 
 fn over(name: &str, numbers: [f64; 3], bar: f64) -> Option<String> {

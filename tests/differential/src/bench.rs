@@ -3,7 +3,7 @@
 use crate::engine::{crc, Calls, Engine};
 use crate::fault;
 use crate::run::run;
-use crate::state::{forbidden, pack, unpack, State, GENERAL, STATE_LEN};
+use crate::state::{forbidden, pack, unpack, Sender, State, GENERAL, STATE_LEN};
 use crate::traffic::Traffic;
 
 const RIGHT: Engine = Engine { fault: fault::NONE };
@@ -151,6 +151,158 @@ fn third_transition() {
     assert_eq!(high(&mut board), at_reset);
     board.line(&put("03 11"), 0, TAKEN);
     assert_eq!(high(&mut board), [(3, 0), (7, 1), (7, 2)]);
+}
+
+/// the calls over lines, and their numbers.
+impl Board {
+    /// Lines raised (1) or lowered (0).
+    fn level(&mut self, line: u32, level: u32, number: u32) -> &mut Board {
+        assert_eq!(self.engine.set_line(&mut self.state, line, level), number, "level {level} of line {line}");
+        self
+    }
+
+    fn pulse(&mut self, line: u32, number: u32) -> &mut Board {
+        assert_eq!(self.engine.pulse_line(&mut self.state, line), number, "pulse of line {line}");
+        self
+    }
+
+    fn wire(&mut self, index: u32, bit: u32, value: u32) -> &mut Board {
+        assert_eq!(self.engine.set_wire(&mut self.state, index, bit, value), 0);
+        self
+    }
+
+    /// Channel 1 on, or off, with so many entries in a packet; with this number.
+    fn channel_1(&mut self, on: u8, count: u8, number: u32) -> &mut Board {
+        let mut command = vec![0x22, 0x00, 0x20, on, 0x00, count - 1, 0x00];
+        command.push(crc(&command, 0));
+        let word = self.engine.exchange(&mut self.state, &command, &mut self.reply, &mut self.write_store, &self.read_store);
+        assert_eq!(word, 4 << 8 | number);
+        assert_eq!(self.reply[0], if number == 0 { 0x08 } else { 0x02 });
+        self
+    }
+
+    /// GET_VWIRE sends these pairs, and says whether more waits.
+    fn sends(&mut self, pairs: &str, more: bool) -> &mut Board {
+        let pairs = bytes(pairs);
+        let mut reply = vec![0x08, (pairs.len() / 2) as u8 - 1];
+        reply.extend(&pairs);
+        reply.extend([if more { 0x47 } else { 0x07 }, 0x00]);
+        reply.push(crc(&reply, 0));
+        let text: Vec<String> = reply.iter().map(|byte| format!("{byte:02X}")).collect();
+        self.line("05 1B", 0, &text.join(" "))
+    }
+}
+
+/// the rows of the request, at an operating count of 2.
+#[test]
+fn line_rows() {
+    let mut board = Board::fresh();
+    board.line("22 00 20 01 00 01 00 7F", 0, "08 07 00 3A").level(1, 1, 0).pulse(130, 0).wire(5, 0, 1);
+    board.line("05 1B", 0, "08 01 05 F1 00 81 47 00 F1").line("05 1B", 0, "08 01 01 82 01 02 07 00 96").line("05 1B", 1, "03 07 00 D6");
+}
+
+/// 22 and 24 in each of their cases; 22 comes first.
+#[test]
+fn lines_refused() {
+    let mut board = Board::fresh();
+    board.pulse(0, 24).pulse(256, 22).level(256, 1, 22).level(u32::MAX, 0, 22).level(0, 2, 22).level(255, 1, 0).level(255, 1, 0);
+    // At an operating count of 1, and on a line that waits by its level.
+    board.channel_1(1, 1, 0).pulse(0, 24).sends("01 FF", false).pulse(255, 24);
+    board.channel_1(1, 2, 0).level(255, 0, 0).pulse(255, 24).level(255, 1, 0).pulse(255, 24).sends("01 FF", false);
+    // While an edge waits, whatever the level; the level held stays.
+    board.pulse(255, 0).pulse(255, 24).level(255, 0, 24).level(255, 1, 24).level(255, 2, 22).level(0, 1, 0);
+    board.sends("00 80", true).sends("01 7F 01 FF", false).level(255, 0, 0).sends("01 7F", false);
+}
+
+/// an edge with one place left closes the packet, though another would fit behind it, and is the first of the next.
+#[test]
+fn edge_closes() {
+    let mut board = Board::fresh();
+    board.channel_1(1, 4, 0).wire(4, 0, 1).level(0, 1, 0).level(1, 1, 0).pulse(2, 0).level(3, 1, 0);
+    board.sends("04 DD 00 80 00 81", true).sends("00 82 00 02 00 83", false);
+    // One that fits fills it.
+    board.pulse(7, 0).level(4, 1, 0).level(5, 1, 0).pulse(8, 0).sends("00 84 00 85 00 87 00 07", true).sends("00 88 00 08", false);
+}
+
+/// the operating count stays above 1 while an edge waits, but for a write that disables the channel.
+#[test]
+fn count_with_edge() {
+    let mut board = Board::fresh();
+    board.channel_1(1, 8, 0).level(9, 1, 0).channel_1(1, 1, 0).channel_1(1, 2, 0).pulse(10, 0);
+    board.line("22 00 20 01 00 00 00 6A", 2, "02 47 00 E6").channel_1(1, 3, 0).channel_1(1, 1, 2);
+    board.channel_1(0, 1, 0).line("25 FB", 0, "08 07 00 3A").channel_1(1, 1, 0).sends("00 89", false);
+}
+
+/// enabling sends every high line; resets lower them all, and turns begin at group 4 again.
+#[test]
+fn lines_at_enabling() {
+    let mut board = Board::fresh();
+    for line in 0..256 {
+        board.level(line, 1, 0);
+    }
+    board.channel_1(1, 64, 0);
+    let lines = |from: usize| (from..from + 64).map(|line| format!("{:02X} {:02X} ", line / 128, 128 + line % 128)).collect::<String>();
+    board.sends(&lines(0), true).sends(&lines(64), true).sends(&lines(128), true).sends(&lines(192), false);
+    // After line 255 comes group 4, after group 6 line 0.
+    board.level(0, 0, 0).wire(6, 0, 0).wire(4, 0, 1).sends("04 DD 06 F6 00 00", false);
+    board.level(200, 0, 0);
+    assert_eq!(board.engine.platform_reset(&mut board.state), 0);
+    board.line("25 FB", 0, "08 07 00 3A").level(7, 1, 0).wire(5, 0, 1).sends("05 F1 00 87", false);
+    assert_eq!(board.engine.reset(&mut board.state), 0);
+    board.channel_1(1, 4, 0).line("05 1B", 1, "03 07 00 D6");
+}
+
+/// the lines' bits (STATE.md), and PUT_VWIRE passes over indexes 0 and 1.
+#[test]
+fn line_bits() {
+    let mut board = Board::fresh();
+    board.channel_1(1, 2, 0).level(8, 1, 0).pulse(255, 0).line("04 01 00 85 01 FF 00", 0, "08 47 00 61");
+    let set: Vec<(usize, u8)> = board.state.iter().copied().enumerate().skip(76).filter(|&(_, byte)| byte != 0).collect();
+    assert_eq!(set, [(77, 1), (79, 1), (111, 1), (141, 0x80), (173, 0x80)]);
+}
+
+/// who waits, d turns from the place, has been sent once the accepted GET_VWIREs have a sum of max(1, c / 2) above d, whatever else the
+/// board asks for and the host does to the operating count c meanwhile.
+#[test]
+fn waits_no_longer_than_its_bound() {
+    let mut traffic = Traffic::new(7);
+    let mut watched = 0;
+    while watched < 500 {
+        let state = traffic.sound_state();
+        let waiting: Vec<Sender> = (0..259).filter_map(Sender::of).filter(|&sender| state.waits(sender)).collect();
+        if waiting.is_empty() {
+            continue;
+        }
+        watched += 1;
+        let sender = traffic.random.pick(&waiting);
+        let turns = usize::from((sender.number() + 259 - state.place.number()) % 259);
+        let most = traffic.random.pick(&[1, 2, 3, 5, 64]);
+        let mut board = Board::fresh();
+        pack(&state, &mut board.state);
+        let mut sum = 0;
+        while sum <= turns {
+            for _ in 0..traffic.random.below(24) {
+                let line = traffic.random.below(256) as u32;
+                let level = traffic.random.below(2) as u32;
+                // Refused or not.
+                board.engine.set_line(&mut board.state, line, level);
+                board.engine.pulse_line(&mut board.state, line);
+            }
+            let mut command = vec![0x22, 0x00, 0x20, 0x01, 0x00, traffic.random.below(most) as u8, 0x00];
+            command.push(crc(&command, 0));
+            board.engine.exchange(&mut board.state, &command, &mut board.reply, &mut board.write_store, &board.read_store);
+            let now = unpack(&board.state, fault::NONE).expect("a sound state");
+            assert!(now.waits(sender));
+            let word = board.engine.exchange(&mut board.state, &[0x05, 0x1B], &mut board.reply, &mut board.write_store, &board.read_store);
+            assert_eq!(word & 0xFF, 0);
+            sum += (now.operating_count() / 2).max(1);
+            if !unpack(&board.state, fault::NONE).expect("a sound state").waits(sender) {
+                break;
+            }
+        }
+        let now = unpack(&board.state, fault::NONE).expect("a sound state");
+        assert!(!now.waits(sender), "{sender:?} waits on, {turns} turns from its place");
+    }
 }
 
 /// Channel 1 on for 4 groups and 010h with a payload size of 256 bytes and a read request size of 256; PLTRST# high, or low as at

@@ -148,4 +148,12 @@ impl Calls for Archive {
     fn read_wire(&mut self, state: &[u8], index: u32, bit: u32) -> u32 {
         self.call(8, [index, bit, 0], &mut [Only(state)])
     }
+
+    fn set_line(&mut self, state: &mut [u8], line: u32, level: u32) -> u32 {
+        self.call(9, [line, level, 0], &mut [Written(state)])
+    }
+
+    fn pulse_line(&mut self, state: &mut [u8], line: u32) -> u32 {
+        self.call(10, [line, 0, 0], &mut [Written(state)])
+    }
 }

@@ -70,7 +70,8 @@ pub fn raw(call: &Call) -> Option<Raw> {
         Call::PlatformReset => (4, vec![]),
         Call::Reset => (5, vec![]),
         Call::TakeWrite => (6, vec![]),
-        Call::Start | Call::Look | Call::ReadWire { .. } => return None,
+        // Lines have no kind in a capture (docs/CAPTURE.md).
+        Call::Start | Call::Look | Call::ReadWire { .. } | Call::SetLine { .. } | Call::PulseLine { .. } => return None,
     })
 }
 

@@ -1,11 +1,11 @@
 //! What a run has reached, and whether it is enough.
 use crate::engine::{after_pltrst, pltrst_values, Engine, OK, READ_STORE_LEN, WRITE_STORE_LEN};
 use crate::fault;
-use crate::state::{Phase, Request, State, CHANNEL_0, FIRST_GROUP, GROUPS};
+use crate::state::{Line, Phase, Request, Sender, State, Waits, CHANNEL_0, FIRST_GROUP, GROUPS};
 use crate::traffic::{Call, CALLS};
 
 /// The numbers that each call can give, in the order of `CALLS`.
-const NUMBERS: [&[u32]; 9] = [
+const NUMBERS: [&[u32]; 11] = [
     &[0, 10],
     &[0, 10, 11],
     &[0, 10, 11],
@@ -15,6 +15,8 @@ const NUMBERS: [&[u32]; 9] = [
     &[0, 10, 11, 23],
     &[0, 10, 11, 22],
     &[0, 10, 11, 22],
+    &[0, 10, 11, 22, 24],
+    &[0, 10, 11, 22, 24],
 ];
 
 /// How an exchange past 10 and 11 ended: its number, with the three conditions of number 1 apart.
@@ -82,17 +84,52 @@ const MARKS: [(u8, &str); 6] =
     [(0x0F, "0Fh only"), (0x0B, "0Bh first"), (0x09, "09h middle"), (0x0D, "0Dh last"), (0x06, "06h I/O write"), (0x0E, "0Eh failure")];
 
 /// The cases that a run must meet besides.
-const CASES: [&str; 45] = [
+const CASES: [&str; 82] = [
     "CRC checked",
     "CRC not checked",
     "channel 0 on",
     "channel 0 off",
     "channel 1 on",
     "channel 1 off",
-    "packet of 1 group",
-    "packet of 2 groups",
-    "packet of 3 groups",
+    "packet of 1 entry",
+    "packet of 2 entries",
+    "packet of 3 entries",
+    "packet of 64 entries",
     "packet that goes round from 6 to 4",
+    "packet that goes round from group 6 to line 0",
+    "packet from a line below 128 to one above",
+    "packet from a line to a group",
+    "packet that ends with group 6",
+    "packet that ends with line 255",
+    "packet with a line that is low",
+    "packet with the edge of a low line",
+    "packet with the edge of a high line",
+    "packet that an edge fills",
+    "packet closed by an edge with one place left",
+    "packet closed by an edge before a sender that would fit",
+    "packet that begins with the edge that closed the last one",
+    "packet of lines alone",
+    "GET_VWIRE refused with a line high",
+    "all 256 lines high at an enabling",
+    "256 lines that wait",
+    "count lowered to 1 with an edge waiting",
+    "count lowered to 1 with a level waiting",
+    "count lowered to 1 with an edge waiting, by a disabling",
+    "count kept above 1 with an edge waiting",
+    "disabling of channel 1 with an edge waiting",
+    "reset with a line waiting",
+    "platform reset with an edge waiting",
+    "line changed while channel 1 is off",
+    "line set to the level that it has",
+    "line set back before it was sent",
+    "level held, set while the edge waits",
+    "other level, set while the edge waits",
+    "level above 1 while the edge waits",
+    "edge refused while channel 1 is off",
+    "edge refused at an operating count of 1",
+    "edge refused while the level waits",
+    "edge refused while the edge waits",
+    "edge on no line while channel 1 is off",
     "64 groups put",
     "64 groups over a count of 63",
     "third transition in the last of 64 groups",
@@ -106,6 +143,8 @@ const CASES: [&str; 45] = [
     "PLTRST# falls with group 6 pending",
     "PLTRST# falls with group 6 alone pending",
     "PLTRST# falls with the place past 4",
+    "PLTRST# falls with a line high",
+    "PLTRST# falls with an edge waiting",
     "PLTRST# falls with 010h changed",
     "PLTRST# falls while channel 0 is off",
     "PLTRST# falls after a pair of group 7",
@@ -132,7 +171,7 @@ const CASES: [&str; 45] = [
 
 pub struct Coverage {
     calls: u64,
-    numbers: [[u64; 24]; 9],
+    numbers: [[u64; 25]; CALLS.len()],
     opcodes: [[u64; ENDS.len()]; OPCODES.len()],
     unknown_opcodes: [bool; 256],
     marks: [u64; 6],
@@ -140,19 +179,22 @@ pub struct Coverage {
     reads: [u64; 65],
     cases: [u64; CASES.len()],
     pieces_so_far: u64,
+    /// The line whose edge closed the last packet, if one did.
+    closed_by: Option<usize>,
 }
 
 impl Default for Coverage {
     fn default() -> Coverage {
         Coverage {
             calls: 0,
-            numbers: [[0; 24]; 9],
+            numbers: [[0; 25]; CALLS.len()],
             opcodes: [[0; ENDS.len()]; OPCODES.len()],
             unknown_opcodes: [false; 256],
             marks: [0; 6],
             reads: [0; 65],
             cases: [0; CASES.len()],
             pieces_so_far: 0,
+            closed_by: None,
         }
     }
 }
@@ -161,6 +203,14 @@ impl Default for Coverage {
 fn pieces(request: &Request) -> u64 {
     let (address, length, payload) = (u128::from(request.address), u128::from(request.length), u128::from(request.payload));
     ((address + length - 1) / payload - address / payload + 1) as u64
+}
+
+/// Whose an entry of a packet is.
+fn sender(index: u8, data: u8) -> Sender {
+    match index {
+        0 | 1 => Sender::Line(128 * usize::from(index) + usize::from(data & 0x7F)),
+        _ => Sender::Group(index),
+    }
 }
 
 impl Coverage {
@@ -194,6 +244,10 @@ impl Coverage {
                 self.case("late answer while a request is open", number == 20 && open && *serial != before.serial);
                 self.case("answer of 4,096 bytes", number == OK && data.len() == READ_STORE_LEN);
             }
+            Call::Reset => self.case("reset with a line waiting", number == OK && before.line_waits()),
+            Call::PlatformReset => self.case("platform reset with an edge waiting", number == OK && before.edge_waits()),
+            Call::SetLine { line, level } if number != 10 => self.record_level(before, *line, *level, number),
+            Call::PulseLine { line } if number != 10 => self.record_edge(before, *line, number),
             _ => {}
         }
     }
@@ -231,6 +285,10 @@ impl Coverage {
         if puts && matches!(end, Accepted | Size | Third) {
             self.record_packet(&command[2..2 + 2 * groups], before, end);
         }
+        let count_1 =
+            opcode == 0x22 && command.get(1).is_some_and(|high| high & 0x0F == 0) && command.get(2).is_some_and(|low| low & 0xFC == 0x20);
+        self.case("count lowered to 1 with an edge waiting", count_1 && end == Forbidden);
+        self.case("GET_VWIRE refused with a line high", opcode == 0x05 && end == Credit && before.lines.iter().any(|line| line.high));
         if end != Accepted {
             return;
         }
@@ -239,17 +297,115 @@ impl Coverage {
                 self.case("posted write of 256 bytes", after.write.as_ref().is_some_and(|write| write.length as usize == WRITE_STORE_LEN))
             }
             0x01 => self.record_completion(before, reply),
-            0x05 => {
-                let groups = usize::from(reply[1]) + 1;
-                self.case(["packet of 1 group", "packet of 2 groups", "packet of 3 groups"][groups - 1], true);
-                let indexes: Vec<u8> = (0..groups).map(|at| reply[2 + 2 * at]).collect();
-                self.case("packet that goes round from 6 to 4", indexes.windows(2).any(|pair| pair == [6, 4]));
-            }
-            0x22 => self.case("disabling of channel 0 with a request held", before.request.is_some() && before.on0() && !after.on0()),
+            0x05 => self.record_sent(before, reply, after),
+            0x22 => self.record_write(command, before, after),
             _ => {}
         }
         let asked = before.request.is_none() && after.request.is_some();
         self.case("serial that wraps to 0", asked && after.serial == 0);
+    }
+
+    /// A line raised or lowered.
+    fn record_level(&mut self, before: &State, line: u32, level: u32, number: u32) {
+        let Some(line) = before.lines.get(line as usize) else { return };
+        let equal = level == u32::from(line.high);
+        let edge = line.waits == Waits::Edge;
+        for (name, met) in [
+            ("line changed while channel 1 is off", number == OK && !equal && !before.on1()),
+            ("line set to the level that it has", number == OK && equal && before.on1() && line.waits == Waits::Not),
+            ("line set back before it was sent", number == OK && !equal && line.waits == Waits::Level),
+            ("level held, set while the edge waits", edge && equal && number == 24),
+            ("other level, set while the edge waits", edge && !equal && number == 24),
+            ("level above 1 while the edge waits", edge && number == 22),
+        ] {
+            self.case(name, met);
+        }
+    }
+
+    /// An edge asked for.
+    fn record_edge(&mut self, before: &State, line: u32, number: u32) {
+        let on = before.on1();
+        let refused = number == 24;
+        let waits = before.lines.get(line as usize).map(|line| line.waits);
+        let counts = on && before.operating_count() > 1;
+        for (name, met) in [
+            ("edge refused while channel 1 is off", refused && !on && before.operating_count() > 1),
+            ("edge refused at an operating count of 1", refused && on && waits == Some(Waits::Not)),
+            ("edge refused while the level waits", refused && counts && waits == Some(Waits::Level)),
+            ("edge refused while the edge waits", refused && counts && waits == Some(Waits::Edge)),
+            ("edge on no line while channel 1 is off", number == 22 && !on),
+        ] {
+            self.case(name, met);
+        }
+    }
+
+    /// What an accepted GET_VWIRE sent.
+    fn record_sent(&mut self, before: &State, reply: &[u8], after: &State) {
+        let entries = usize::from(reply[1]) + 1;
+        let pairs: Vec<[u8; 2]> = reply[2..2 + 2 * entries].chunks_exact(2).map(|pair| [pair[0], pair[1]]).collect();
+        let senders: Vec<Sender> = pairs.iter().map(|&[index, data]| sender(index, data)).collect();
+        let stepped = |met: fn(Sender, Sender) -> bool| senders.windows(2).any(|two| met(two[0], two[1]));
+        let edge = |line: usize| before.lines[line].waits == Waits::Edge;
+        let sent_edge = |high: bool| {
+            senders.iter().any(|&sender| matches!(sender, Sender::Line(line) if edge(line) && before.lines[line].high == high))
+        };
+        let sent_low = senders
+            .iter()
+            .any(|&sender| matches!(sender, Sender::Line(line) if before.lines[line] == Line { high: false, waits: Waits::Level }));
+        let room = before.operating_count() - entries;
+        let last = senders[entries - 1];
+        // The next that waits, and whether one behind it would fit.
+        let rest: Vec<Sender> = std::iter::successors(Some(last.next()), |sender| Some(sender.next()))
+            .take(258)
+            .filter(|&sender| after.waits(sender))
+            .collect();
+        let is_edge = |sender: &Sender| matches!(sender, &Sender::Line(line) if after.lines[line].waits == Waits::Edge);
+        let closing = rest.first().filter(|first| room == 1 && is_edge(first));
+        let begun = self.closed_by.is_some_and(|line| senders[0] == Sender::Line(line) && edge(line));
+        for (name, met) in [
+            ("packet of 1 entry", entries == 1),
+            ("packet of 2 entries", entries == 2),
+            ("packet of 3 entries", entries == 3),
+            ("packet of 64 entries", entries == 64),
+            ("packet that goes round from 6 to 4", stepped(|one, two| (one, two) == (Sender::Group(6), Sender::Group(4)))),
+            ("packet that goes round from group 6 to line 0", stepped(|one, two| (one, two) == (Sender::Group(6), Sender::Line(0)))),
+            (
+                "packet from a line below 128 to one above",
+                stepped(|one, two| matches!((one, two), (Sender::Line(0..=127), Sender::Line(128..)))),
+            ),
+            ("packet from a line to a group", stepped(|one, two| matches!((one, two), (Sender::Line(_), Sender::Group(_))))),
+            ("packet that ends with group 6", last == Sender::Group(6) && after.place == Sender::Line(0)),
+            ("packet that ends with line 255", last == Sender::Line(255) && after.place == Sender::Group(4)),
+            ("packet with a line that is low", sent_low),
+            ("packet with the edge of a low line", sent_edge(false)),
+            ("packet with the edge of a high line", sent_edge(true)),
+            ("packet that an edge fills", room == 0 && matches!(last, Sender::Line(line) if edge(line))),
+            ("packet closed by an edge with one place left", closing.is_some()),
+            ("packet closed by an edge before a sender that would fit", closing.is_some() && !rest.iter().all(is_edge)),
+            ("packet that begins with the edge that closed the last one", begun),
+            ("packet of lines alone", senders.iter().all(|sender| matches!(sender, Sender::Line(_)))),
+            ("256 lines that wait", before.lines.iter().all(|line| line.waits != Waits::Not)),
+        ] {
+            self.case(name, met);
+        }
+        self.closed_by = closing.and_then(|sender| if let &Sender::Line(line) = sender { Some(line) } else { None });
+    }
+
+    /// An accepted write of a register.
+    fn record_write(&mut self, command: &[u8], before: &State, after: &State) {
+        let off = before.on1() && !after.on1();
+        let of_020 = before.on1() && command[1] & 0x0F == 0 && command[2] & 0xFC == 0x20;
+        let count = command[5] & 0x3F;
+        for (name, met) in [
+            ("disabling of channel 0 with a request held", before.request.is_some() && before.on0() && !after.on0()),
+            ("all 256 lines high at an enabling", !before.on1() && after.on1() && before.lines.iter().all(|line| line.high)),
+            ("count lowered to 1 with a level waiting", of_020 && count == 0 && before.operating_count() > 1 && after.line_waits()),
+            ("count lowered to 1 with an edge waiting, by a disabling", of_020 && count == 0 && off && before.edge_waits()),
+            ("count kept above 1 with an edge waiting", of_020 && count == 1 && !off && before.edge_waits()),
+            ("disabling of channel 1 with an edge waiting", off && before.edge_waits()),
+        ] {
+            self.case(name, met);
+        }
     }
 
     /// A packet of these pairs, accepted or refused by number 1.
@@ -304,7 +460,9 @@ impl Coverage {
             ("PLTRST# falls with group 5 pending", pending(5)),
             ("PLTRST# falls with group 6 pending", pending(6)),
             ("PLTRST# falls with group 6 alone pending", pending(6) && !pending(4) && !pending(5)),
-            ("PLTRST# falls with the place past 4", before.place != 4),
+            ("PLTRST# falls with the place past 4", before.place != Sender::FIRST),
+            ("PLTRST# falls with a line high", before.lines.iter().any(|line| line.high)),
+            ("PLTRST# falls with an edge waiting", before.edge_waits()),
             ("PLTRST# falls with 010h changed", before.on0() && before.channel0 != CHANNEL_0.reset),
             ("PLTRST# falls while channel 0 is off", !before.on0()),
             ("PLTRST# falls after a pair of group 7", until.chunks_exact(2).any(puts_7)),

@@ -1,8 +1,8 @@
-//! Document 01 as nine calls over byte slices, as include/espi.h describes them.
+//! Document 01 as eleven calls over byte slices, as include/espi.h describes them.
 use crate::fault;
 use crate::state::{
-    forbidden, pack, unpack, within, Kind, Phase, Register, Request, State, Write, CHANNEL_0, CHANNEL_1, ENABLE, FIRST_GROUP, GENERAL,
-    GROUPS, IDENTIFICATION, READY, STATE_LEN,
+    forbidden, pack, unpack, within, Kind, Line, Phase, Register, Request, Sender, State, Waits, Write, CHANNEL_0, CHANNEL_1, ENABLE,
+    FIRST_GROUP, GENERAL, GROUPS, IDENTIFICATION, LINES, READY, STATE_LEN,
 };
 
 pub const REPLY_LEN: usize = 263;
@@ -26,8 +26,9 @@ pub const NO_REQUEST: u32 = 20;
 pub const BAD_COUNT: u32 = 21;
 pub const BAD_WIRE: u32 = 22;
 pub const NOTHING: u32 = 23;
+pub const NOT_NOW: u32 = 24;
 
-/// The nine calls. Each returns a word: bits 7:0 its number, bits 31:8 its value.
+/// The eleven calls. Each returns a word: bits 7:0 its number, bits 31:8 its value.
 pub trait Calls {
     fn start(&mut self, state: &mut [u8]) -> u32;
     fn reset(&mut self, state: &mut [u8]) -> u32;
@@ -38,6 +39,8 @@ pub trait Calls {
     fn take_write(&mut self, state: &mut [u8], write_store: &[u8], report: &mut [u8]) -> u32;
     fn set_wire(&mut self, state: &mut [u8], index: u32, bit: u32, value: u32) -> u32;
     fn read_wire(&mut self, state: &[u8], index: u32, bit: u32) -> u32;
+    fn set_line(&mut self, state: &mut [u8], line: u32, level: u32) -> u32;
+    fn pulse_line(&mut self, state: &mut [u8], line: u32) -> u32;
 }
 
 /// CRC-8, polynomial 07h, bit 7 first (01, Commands). The seed is 00h.
@@ -355,11 +358,12 @@ impl Engine {
             pc_avail = now.request.as_ref().is_some_and(|request| request.phase == Phase::Success);
         }
         let vwire_free = !self.wrong(fault::VWIRE_FREE_OFF) || now.on1();
+        let vwire_avail = now.pending.contains(&true) || now.line_waits() && !self.wrong(fault::VWIRE_AVAIL_GROUPS);
         u16::from(now.write.is_none())
             | u16::from(np_free) << 1
             | u16::from(vwire_free) << 2
             | u16::from(pc_avail) << 4
-            | u16::from(now.pending.contains(&true)) << 6
+            | u16::from(vwire_avail) << 6
     }
 
     /// Completes a reply whose body of `body` bytes already stands from the second byte on. Gives the reply's length.
@@ -481,7 +485,7 @@ impl Engine {
                 (ACCEPT, 4)
             }
             Command::SetConfiguration { address, data } => {
-                if forbidden(address, data, self.fault) {
+                if forbidden(address, data, self.fault) || self.edge_forbids(now, address, data) {
                     return Err(Refusal::Error(FORBIDDEN));
                 }
                 // The write takes effect after its own reply, whose status is the old one.
@@ -595,12 +599,20 @@ impl Engine {
                     self.disable_wires(now);
                 }
                 if self.wrong(fault::ZERO_TO_ZERO) && !was_on1 && !is_on {
-                    now.place = 4;
+                    now.place = Sender::FIRST;
                 }
             }
             // Other addresses take writes without effect.
             _ => {}
         }
+    }
+
+    /// A write of 020h that leaves channel 1 on with an operating count of 1 while an edge waits (02, Q-4).
+    fn edge_forbids(&self, now: &State, address: u16, data: u32) -> bool {
+        let on = data & ENABLE != 0 || self.wrong(fault::COUNT_1_WHEN_DISABLING);
+        let waits = if self.wrong(fault::COUNT_1_LINE_WAITS) { now.line_waits() } else { now.edge_waits() };
+        let low = if self.wrong(fault::COUNT_2_FORBIDDEN) { data >> 16 & 0x3F <= 1 } else { data >> 16 & 0x3F == 0 };
+        address == 0x020 && on && low && waits && !self.wrong(fault::COUNT_1_WITH_EDGE)
     }
 
     /// Held write, request and completions go; store bytes stay.
@@ -614,13 +626,24 @@ impl Engine {
         now.pending[index - FIRST_GROUP] = false;
     }
 
-    /// Platform reset, by the board's call or by wire (02, Q-1): 010h, wire groups 6 and 7, the queues and the going-round place.
+    /// Where the going round begins.
+    fn first(&self) -> Sender {
+        if self.wrong(fault::PLACE_LINE_0) {
+            Sender::Line(0)
+        } else {
+            Sender::FIRST
+        }
+    }
+
+    /// Platform reset, by the board's call or by wire (02, Q-1): 010h, wire groups 6 and 7, the queues, the going-round place and,
+    /// lowered, the lines (02, Q-4).
     fn reset_platform(&self, now: &mut State) {
         self.drop_queues(now);
         now.channel0 = CHANNEL_0.reset;
         self.reset_group(now, 6);
         self.reset_group(now, 7);
-        now.place = 4;
+        now.place = self.first();
+        now.lines = [Line::LOW; LINES];
     }
 
     // ---- wires (01, Wires)
@@ -715,6 +738,8 @@ impl Engine {
             fault::FALL_KEEPS_MARK_6 => now.pending[4] = put.pending[4],
             fault::FALL_KEEPS_7 => now.levels[5] = put.levels[5],
             fault::FALL_KEEPS_PLACE => now.place = put.place,
+            fault::FALL_KEEPS_LINES => keep_levels(now, &put),
+            fault::FALL_KEEPS_WAITS => keep_waits(now, &put),
             _ => {}
         }
     }
@@ -757,6 +782,9 @@ impl Engine {
         for at in 0..applied {
             let at = if self.wrong(fault::PAIRS_REVERSED) { count - 1 - at } else { at };
             let (index, data) = (usize::from(pairs[2 * at]), pairs[2 * at + 1]);
+            if self.wrong(fault::PUT_LINE) && index <= 1 {
+                now.lines[128 * index + usize::from(data & 0x7F)].high = data >> 7 == 1;
+            }
             let Some(group) = index.checked_sub(FIRST_GROUP).and_then(|row| GROUPS.get(row)) else {
                 continue;
             };
@@ -771,34 +799,113 @@ impl Engine {
         }
     }
 
-    /// The next packet in the reply: pending groups going round from the place, at most the operating count; or `None`.
+    /// The next packet in the reply: what waits, going round from the place, up to the first that does not fit the operating count
+    /// (02, Q-4); or `None`.
     fn wire_packet(&self, now: &mut State, reply: &mut [u8]) -> Option<usize> {
-        let limit = if self.wrong(fault::PACKET_ALL) { 3 } else { now.operating_count() };
-        let next = |index: u8| if index >= 6 { 4 } else { index + 1 };
-        let second = next(now.place);
-        let round = [now.place, second, next(second)];
-        let mut groups: Vec<u8> = round.into_iter().filter(|&index| now.pending[usize::from(index) - FIRST_GROUP]).take(limit).collect();
-        let &last = groups.last()?;
-        if self.wrong(fault::PACKET_IN_ORDER) {
-            groups.sort_unstable();
+        if self.wrong(fault::CREDIT_GROUPS) && !now.pending.contains(&true) {
+            return None;
         }
-        reply[1] = groups.len() as u8 - 1;
-        for (at, &index) in groups.iter().enumerate() {
-            let row = usize::from(index) - FIRST_GROUP;
-            let valid = if self.wrong(fault::UNDEFINED_SENT) { 0xF } else { GROUPS[row].defined };
-            reply[2 + 2 * at] = index;
-            reply[3 + 2 * at] = valid << 4 | now.levels[row];
-            if !self.wrong(fault::MARK_KEPT) {
-                now.pending[row] = false;
+        let most = match self.fault {
+            fault::PACKET_ALL => 64,
+            fault::PACKET_63 => now.operating_count().min(63),
+            _ => now.operating_count(),
+        };
+        let mut sent: Vec<(Sender, Vec<[u8; 2]>)> = Vec::new();
+        let mut room = most;
+        for sender in self.turns(now.place) {
+            let entries = self.entries(now, sender);
+            let taken = if self.wrong(fault::EDGE_ONE_PLACE) { entries.len().min(1) } else { entries.len() };
+            if taken == 0 {
+                continue;
             }
+            if taken > room {
+                if room == 1 && self.wrong(fault::EDGE_SPLIT) {
+                    sent.push((sender, entries[..1].to_vec()));
+                }
+                if self.wrong(fault::PACKET_GOES_ON) {
+                    continue;
+                }
+                break;
+            }
+            room -= taken;
+            sent.push((sender, entries));
         }
-        if !self.wrong(fault::PLACE_NOT_ADVANCED) {
-            now.place = if self.wrong(fault::PLACE_AT_LAST) { last } else { next(last) };
+        let last = sent.last()?.0;
+        if self.wrong(fault::PACKET_IN_ORDER) {
+            sent.sort_by_key(|(sender, _)| sender.number());
         }
-        Some(1 + 2 * groups.len())
+        let pairs: Vec<u8> = sent.iter().flat_map(|(_, entries)| entries.concat()).collect();
+        reply[1] = (pairs.len() / 2) as u8 - 1;
+        reply[2..2 + pairs.len()].copy_from_slice(&pairs);
+        for &(sender, ref entries) in &sent {
+            self.is_sent(now, sender, entries.len());
+        }
+        let next = |sender: Sender| match sender {
+            Sender::Group(6) if self.wrong(fault::AFTER_6_GROUP_4) => Sender::Group(4),
+            sender => sender.next(),
+        };
+        match self.fault {
+            fault::PLACE_NOT_ADVANCED => {}
+            fault::PLACE_AT_LAST => now.place = last,
+            _ => now.place = next(last),
+        }
+        Some(1 + pairs.len())
     }
 
-    /// Each up group becomes pending that differs from its reset value.
+    /// Every sender once, from a place on.
+    fn turns(&self, place: Sender) -> Vec<Sender> {
+        let mut turns: Vec<Sender> = std::iter::successors(Some(place), |sender| Some(sender.next())).take(LINES + 3).collect();
+        if self.wrong(fault::GROUPS_FIRST) {
+            turns.sort_by_key(|sender| matches!(sender, Sender::Line(_)));
+        }
+        turns
+    }
+
+    /// The index and data of what a sender has to say, nothing if it does not wait: a group all its defined bits, a line its level, an
+    /// edge the other level and then the level.
+    fn entries(&self, now: &State, sender: Sender) -> Vec<[u8; 2]> {
+        let line = match sender {
+            Sender::Group(index) => {
+                let row = usize::from(index) - FIRST_GROUP;
+                let valid = if self.wrong(fault::UNDEFINED_SENT) { 0xF } else { GROUPS[row].defined };
+                return if now.pending[row] { vec![[index, valid << 4 | now.levels[row]]] } else { vec![] };
+            }
+            Sender::Line(line) => line,
+        };
+        let Line { high, waits } = now.lines[line];
+        let index = if self.wrong(fault::LINE_INDEX_0) { 0 } else { (line / 128) as u8 };
+        let shown = if self.wrong(fault::LINE_8_BITS) { line as u8 } else { (line % 128) as u8 };
+        let entry = |high: bool| [index, if high { shown | 0x80 } else { shown }];
+        match waits {
+            Waits::Not => vec![],
+            Waits::Level if self.wrong(fault::LEVEL_SENT_HIGH) => vec![entry(true)],
+            Waits::Level => vec![entry(high)],
+            Waits::Edge if self.wrong(fault::EDGE_REVERSED) => vec![entry(high), entry(!high)],
+            Waits::Edge if self.wrong(fault::EDGE_RISES) => vec![entry(true), entry(false)],
+            Waits::Edge => vec![entry(!high), entry(high)],
+        }
+    }
+
+    /// What was sent waits no more, and levels stay.
+    fn is_sent(&self, now: &mut State, sender: Sender, entries: usize) {
+        match sender {
+            Sender::Group(index) if !self.wrong(fault::MARK_KEPT) => now.pending[usize::from(index) - FIRST_GROUP] = false,
+            Sender::Line(line) if !self.wrong(fault::LINE_KEPT) => {
+                let line = &mut now.lines[line];
+                let edge = line.waits == Waits::Edge;
+                line.waits = Waits::Not;
+                if edge && (self.wrong(fault::EDGE_KEPT) || entries == 1) {
+                    line.waits = Waits::Level;
+                }
+                if edge && self.wrong(fault::EDGE_TURNS) {
+                    line.high = !line.high;
+                }
+            }
+            _ => {}
+        }
+    }
+
+    /// Each up group becomes pending that differs from its reset value, and every high line waits.
     fn enable_wires(&self, now: &mut State) {
         for (row, group) in GROUPS.iter().enumerate() {
             let differs = now.levels[row] != group.reset || self.wrong(fault::ENABLE_ALL);
@@ -806,24 +913,41 @@ impl Engine {
                 now.pending[row] = true;
             }
         }
+        for line in now.lines.iter_mut().filter(|line| line.high || self.wrong(fault::ENABLE_LOW_LINES)) {
+            if line.waits == Waits::Not && !self.wrong(fault::ENABLE_NO_LINES) {
+                line.waits = Waits::Level;
+            }
+        }
         if self.wrong(fault::ENABLE_PLACE) {
-            now.place = 4;
+            now.place = Sender::FIRST;
         }
     }
 
-    /// Pending marks go, values stay, and the going round begins with 4 again.
+    /// What waits does so no more, values and levels stay, and the going round begins with group 4 again.
     fn disable_wires(&self, now: &mut State) {
         if !self.wrong(fault::DISABLE_KEEPS_MARKS) {
             now.pending = [false; 6];
         }
         if !self.wrong(fault::DISABLE_KEEPS_PLACE) {
-            now.place = 4;
+            now.place = self.first();
         }
         if self.wrong(fault::DISABLE_RESETS_VALUES) {
             for index in 4..=6 {
                 self.reset_group(now, index);
             }
         }
+        for line in &mut now.lines {
+            if !self.wrong(fault::DISABLE_KEEPS_WAITS) {
+                line.waits = Waits::Not;
+            }
+            line.high &= !self.wrong(fault::DISABLE_LOWERS);
+        }
+    }
+
+    /// Which line a number names (any may come).
+    fn line(&self, line: u32) -> Option<usize> {
+        let line = if self.wrong(fault::LINE_LOW_BYTE) { line & 0xFF } else { line };
+        usize::try_from(line).ok().filter(|&line| line < LINES && !(line == 255 && self.wrong(fault::LINES_255)))
     }
 
     /// The row and bit mask of a defined wire (any numbers may come).
@@ -855,6 +979,19 @@ pub fn after_pltrst(pairs: &[u8]) -> &[u8] {
     &pairs[2 * until..]
 }
 
+/// Faults of the resets: the levels stay, or what waits does.
+fn keep_levels(now: &mut State, old: &State) {
+    for (line, kept) in now.lines.iter_mut().zip(&old.lines) {
+        line.high = kept.high;
+    }
+}
+
+fn keep_waits(now: &mut State, old: &State) {
+    for (line, kept) in now.lines.iter_mut().zip(&old.lines) {
+        line.waits = kept.waits;
+    }
+}
+
 /// Stores a changed state.
 fn done(now: &State, state: &mut [u8]) -> u32 {
     pack(now, state);
@@ -872,16 +1009,19 @@ impl Calls for Engine {
         if state.len() < STATE_LEN {
             return SHORT_STORE;
         }
-        done(&State::fresh(), state)
+        done(&State { place: self.first(), ..State::fresh() }, state)
     }
 
     /// eSPI reset: all registers and groups, and the queues. No reset touches the serial.
     fn reset(&mut self, state: &mut [u8]) -> u32 {
         word(self.open(state, &[]).map(|old| {
-            let mut now = State::fresh();
+            let mut now = State { place: self.first(), ..State::fresh() };
             now.serial = if self.wrong(fault::SERIAL_RESET) { 0 } else { old.serial };
             if self.wrong(fault::RESET_KEEPS_GROUP_2) {
                 now.levels[0] = old.levels[0];
+            }
+            if self.wrong(fault::RESET_KEEPS_LINES) {
+                keep_levels(&mut now, &old);
             }
             done(&now, state)
         }))
@@ -899,6 +1039,8 @@ impl Calls for Engine {
                 fault::PLATFORM_KEEPS_MARK_6 => now.pending[4] = old.pending[4],
                 fault::PLATFORM_RESETS_5 => self.reset_group(&mut now, 5),
                 fault::PLATFORM_KEEPS_PLACE => now.place = old.place,
+                fault::PLATFORM_KEEPS_LINES => keep_levels(&mut now, &old),
+                fault::PLATFORM_KEEPS_WAITS => keep_waits(&mut now, &old),
                 fault::PLATFORM_KEEPS_QUEUES => (now.write, now.request) = (old.write, old.request),
                 _ => {}
             }
@@ -907,8 +1049,14 @@ impl Calls for Engine {
     }
 
     fn exchange(&mut self, state: &mut [u8], command: &[u8], reply: &mut [u8], write_store: &mut [u8], read_store: &[u8]) -> u32 {
-        let reply_len = if self.wrong(fault::REPLY_262) { REPLY_LEN - 1 } else { REPLY_LEN };
-        let stores = [(reply.len(), reply_len), (write_store.len(), WRITE_STORE_LEN), (read_store.len(), READ_STORE_LEN)];
+        if self.wrong(fault::REPLY_262) && reply.len() == REPLY_LEN - 1 {
+            // The longest reply has one byte more: it is cut.
+            let mut longer = [&reply[..], &[0]].concat();
+            let word = self.exchange(state, command, &mut longer, write_store, read_store);
+            reply.copy_from_slice(&longer[..REPLY_LEN - 1]);
+            return word;
+        }
+        let stores = [(reply.len(), REPLY_LEN), (write_store.len(), WRITE_STORE_LEN), (read_store.len(), READ_STORE_LEN)];
         let mut now = match self.open(state, &stores) {
             Ok(now) => now,
             Err(number) => return number,
@@ -1044,5 +1192,74 @@ impl Calls for Engine {
             None if self.wrong(fault::READ_UNDEFINED) && (2..=7).contains(&index) && bit <= 3 => OK,
             None => BAD_WIRE,
         }
+    }
+
+    /// Raises or lowers a line (02, Q-4): 22 for no such line or level, then 24 while its edge waits; a real change while channel 1 is
+    /// enabled makes it wait.
+    fn set_line(&mut self, state: &mut [u8], line: u32, level: u32) -> u32 {
+        let mut now = match self.open(state, &[]) {
+            Ok(now) => now,
+            Err(number) => return number,
+        };
+        let on = now.on1() || self.wrong(fault::LINE_WAITS_OFF);
+        let Some(line) = self.line(line).map(|line| &mut now.lines[line]) else {
+            return BAD_WIRE;
+        };
+        let (edge, equal) = (line.waits == Waits::Edge, u32::from(line.high) == level);
+        let refused = match self.fault {
+            fault::SET_WHILE_EDGE => false,
+            fault::SET_EQUAL_WHILE_EDGE => edge && !equal,
+            fault::SET_WHILE_LINE_WAITS => line.waits != Waits::Not,
+            _ => edge,
+        };
+        if refused && self.wrong(fault::EDGE_BEFORE_LEVEL) {
+            return NOT_NOW;
+        }
+        if level > 1 && !self.wrong(fault::LINE_ANY_LEVEL) {
+            return BAD_WIRE;
+        }
+        if refused {
+            return NOT_NOW;
+        }
+        let high = level != 0;
+        let changed = line.high != high || self.wrong(fault::LINE_EQUAL_CHANGES);
+        line.high = high;
+        if changed && on && !edge {
+            line.waits = Waits::Level;
+        }
+        if changed && !high && self.wrong(fault::LOWERED_NOT_SENT) {
+            line.waits = Waits::Not;
+        }
+        done(&now, state)
+    }
+
+    /// Asks for an edge (02, Q-4): 22 for no such line, then 24 while channel 1 is disabled, the operating count is 1 or the line waits.
+    fn pulse_line(&mut self, state: &mut [u8], line: u32) -> u32 {
+        let mut now = match self.open(state, &[]) {
+            Ok(now) => now,
+            Err(number) => return number,
+        };
+        let off = !now.on1() && !self.wrong(fault::PULSE_OFF);
+        let one = now.operating_count() == 1 && !self.wrong(fault::PULSE_COUNT_1);
+        if off && self.wrong(fault::OFF_BEFORE_LINE) {
+            return NOT_NOW;
+        }
+        let Some(line) = self.line(line).map(|line| &mut now.lines[line]) else {
+            return BAD_WIRE;
+        };
+        let waits = match self.fault {
+            fault::PULSE_LEVEL_WAITS => line.waits == Waits::Edge,
+            fault::PULSE_AGAIN => line.waits == Waits::Level,
+            fault::PULSE_HIGH => line.waits != Waits::Not || line.high,
+            _ => line.waits != Waits::Not,
+        };
+        if off || one || waits {
+            return NOT_NOW;
+        }
+        line.waits = Waits::Edge;
+        if self.wrong(fault::PULSE_RAISES) {
+            line.high = true;
+        }
+        done(&now, state)
     }
 }

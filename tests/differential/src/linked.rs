@@ -40,6 +40,8 @@ mod c {
         ) -> u32;
         pub fn espi_set_wire(state: *mut u8, state_len: usize, index: u32, bit: u32, value: u32) -> u32;
         pub fn espi_read_wire(state: *const u8, state_len: usize, index: u32, bit: u32) -> u32;
+        pub fn espi_set_line(state: *mut u8, state_len: usize, line: u32, level: u32) -> u32;
+        pub fn espi_pulse_line(state: *mut u8, state_len: usize, line: u32) -> u32;
     }
 }
 
@@ -118,5 +120,13 @@ impl Calls for Archive {
 
     fn read_wire(&mut self, state: &[u8], index: u32, bit: u32) -> u32 {
         unsafe { c::espi_read_wire(state.as_ptr(), state.len(), index, bit) }
+    }
+
+    fn set_line(&mut self, state: &mut [u8], line: u32, level: u32) -> u32 {
+        unsafe { c::espi_set_line(state.as_mut_ptr(), state.len(), line, level) }
+    }
+
+    fn pulse_line(&mut self, state: &mut [u8], line: u32) -> u32 {
+        unsafe { c::espi_pulse_line(state.as_mut_ptr(), state.len(), line) }
     }
 }

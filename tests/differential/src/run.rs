@@ -82,6 +82,8 @@ pub fn make(engine: &mut impl Calls, lent: Lent, call: &Call) -> u32 {
         Call::TakeWrite => engine.take_write(state, write_store, report),
         Call::SetWire { index, bit, value } => engine.set_wire(state, *index, *bit, *value),
         Call::ReadWire { index, bit } => engine.read_wire(state, *index, *bit),
+        Call::SetLine { line, level } => engine.set_line(state, *line, *level),
+        Call::PulseLine { line } => engine.pulse_line(state, *line),
     }
 }
 

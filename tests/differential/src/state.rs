@@ -1,7 +1,7 @@
-//! The engine's state, its 77 bytes (STATE.md), and which bytes pack a sound state (01, "Sound state").
+//! The engine's state, its 174 bytes (STATE.md), and which bytes pack a sound state (01, "Sound state").
 use crate::fault;
 
-pub const STATE_LEN: usize = 77;
+pub const STATE_LEN: usize = 174;
 
 /// A register: its value at reset and the bits that a command can write (01, Registers and status).
 pub struct Register {
@@ -34,6 +34,66 @@ pub const GROUPS: [Group; 6] = [
     Group { up: false, defined: 0x7, reset: 0x6 },
 ];
 pub const FIRST_GROUP: usize = 2;
+
+/// Interrupt lines (02, Q-4), and where their bits stand (STATE.md): line n in byte n / 8, bit n mod 8.
+pub const LINES: usize = 256;
+pub const LINE_LEVELS: usize = 78;
+pub const LINE_WAITS: usize = 110;
+pub const LINE_EDGES: usize = 142;
+
+/// What of a line the host has still to fetch.
+#[derive(Clone, Copy, Debug, PartialEq, Eq)]
+pub enum Waits {
+    Not,
+    Level,
+    Edge,
+}
+
+#[derive(Clone, Copy, Debug, PartialEq, Eq)]
+pub struct Line {
+    pub high: bool,
+    pub waits: Waits,
+}
+
+impl Line {
+    pub const LOW: Line = Line { high: false, waits: Waits::Not };
+}
+
+/// Who takes part in the going round: the lines, then groups 4 to 6 (02, Q-4).
+#[derive(Clone, Copy, Debug, PartialEq, Eq)]
+pub enum Sender {
+    Line(usize),
+    Group(u8),
+}
+
+impl Sender {
+    /// Where it begins.
+    pub const FIRST: Sender = Sender::Group(4);
+
+    pub fn next(self) -> Sender {
+        match self {
+            Sender::Line(255) => Sender::Group(4),
+            Sender::Line(line) => Sender::Line(line + 1),
+            Sender::Group(6) => Sender::Line(0),
+            Sender::Group(index) => Sender::Group(index + 1),
+        }
+    }
+
+    pub fn number(self) -> u16 {
+        match self {
+            Sender::Line(line) => line as u16,
+            Sender::Group(index) => 252 + u16::from(index),
+        }
+    }
+
+    pub fn of(number: u16) -> Option<Sender> {
+        match number {
+            0..=255 => Some(Sender::Line(usize::from(number))),
+            256..=258 => Some(Sender::Group((number - 252) as u8)),
+            _ => None,
+        }
+    }
+}
 
 #[derive(Clone, Copy, Debug, PartialEq, Eq)]
 pub struct Write {
@@ -81,7 +141,9 @@ pub struct State {
     pub serial: u32,
     pub levels: [u8; 6],
     pub pending: [bool; 6],
-    pub place: u8,
+    /// The sender that the next GET_VWIRE asks first.
+    pub place: Sender,
+    pub lines: [Line; LINES],
 }
 
 impl State {
@@ -95,7 +157,8 @@ impl State {
             serial: 0,
             levels: GROUPS.map(|group| group.reset),
             pending: [false; 6],
-            place: 4,
+            place: Sender::FIRST,
+            lines: [Line::LOW; LINES],
         }
     }
 
@@ -122,6 +185,28 @@ impl State {
 
     pub fn operating_count(&self) -> usize {
         (self.channel1 >> 16 & 0x3F) as usize + 1
+    }
+
+    // Both are asked with every call: all lines are looked at, which the compiler makes quicker than an end at the first.
+    pub fn edge_waits(&self) -> bool {
+        self.lines.iter().fold(false, |any, line| any | (line.waits == Waits::Edge))
+    }
+
+    pub fn line_waits(&self) -> bool {
+        self.lines.iter().fold(false, |any, line| any | (line.waits != Waits::Not))
+    }
+
+    /// Whether a sender has something to send.
+    pub fn waits(&self, sender: Sender) -> bool {
+        match sender {
+            Sender::Line(line) => self.lines[line].waits != Waits::Not,
+            Sender::Group(index) => self.pending[usize::from(index) - FIRST_GROUP],
+        }
+    }
+
+    /// Whether a GET_VWIRE has something to send.
+    pub fn something_waits(&self) -> bool {
+        self.pending.contains(&true) || self.line_waits()
     }
 }
 
@@ -169,7 +254,7 @@ fn all(clauses: &[Clause], fault: u32) -> bool {
     clauses.iter().all(|&(forgotten, holds)| holds || (forgotten == fault && fault != fault::NONE))
 }
 
-/// The state that the first 77 bytes pack, if they are the canonical form of a sound state.
+/// The state that the first 174 bytes pack, if they are the canonical form of a sound state.
 pub fn unpack(bytes: &[u8], fault: u32) -> Option<State> {
     let general = word(bytes, 0);
     let channel0 = word(bytes, 4);
@@ -197,7 +282,7 @@ pub fn unpack(bytes: &[u8], fault: u32) -> Option<State> {
     let request = unpack_request(bytes, on0, fault)?;
     let serial = word(bytes, 60);
 
-    // Undefined wire bits are 0; up groups alone are pending, and none while channel 1 is off; the place is 4 to 6.
+    // Undefined wire bits are 0; up groups alone are pending, and none while channel 1 is off; the place is one of the senders.
     let mut levels = [0; 6];
     let mut pending = [false; 6];
     for (at, group) in GROUPS.iter().enumerate() {
@@ -214,16 +299,16 @@ pub fn unpack(bytes: &[u8], fault: u32) -> Option<State> {
         levels[at] = level;
         pending[at] = mark != 0;
     }
-    let place = bytes[76];
-    let last = if fault == fault::SOUND_PLACE { 7 } else { 6 };
-    if !(4..=last).contains(&place) {
-        return None;
-    }
+    let place = Sender::of(number(bytes, 76, 2) as u16);
+    let place = place.or((fault == fault::SOUND_PLACE && bytes[76..78] == [3, 1]).then_some(Sender::Group(4)))?;
+    let lines = unpack_lines(bytes, on1, field(channel1, 21, 16) > 0, fault)?;
 
-    let state = State { general, channel0, channel1, write, request, serial, levels, pending, place };
+    let state = State { general, channel0, channel1, write, request, serial, levels, pending, place, lines };
     let too_strict = match fault {
         fault::STRICT_COUNT => field(channel1, 21, 16) > 7,
-        fault::STRICT_PLACE => !on1 && place != 4,
+        fault::STRICT_PLACE => !on1 && place != Sender::FIRST,
+        fault::STRICT_LINES_OFF => !on1 && lines.iter().any(|line| line.high),
+        fault::STRICT_EDGE_LOW => lines.iter().any(|line| line.high && line.waits == Waits::Edge),
         fault::STRICT_SERIAL => request.is_some() && serial == 0,
         fault::STRICT_ADDRESS => request.is_some_and(|held| held.address.checked_add(u64::from(held.length)).is_none()),
         fault::STRICT_TODAY => request.is_some_and(|held| (held.payload, held.read_size) != (state.payload(), state.read_size())),
@@ -232,6 +317,35 @@ pub fn unpack(bytes: &[u8], fault: u32) -> Option<State> {
         _ => false,
     };
     (!too_strict).then_some(state)
+}
+
+/// The lines: an edge is one that waits, none waits while channel 1 is off, and no edge while the operating count is 1 (02, Q-4).
+fn unpack_lines(bytes: &[u8], on1: bool, two_fit: bool, fault: u32) -> Option<[Line; LINES]> {
+    let mut lines = [Line::LOW; LINES];
+    for (at, eight) in lines.chunks_exact_mut(8).enumerate() {
+        let (high, waits, edges) = (bytes[LINE_LEVELS + at], bytes[LINE_WAITS + at], bytes[LINE_EDGES + at]);
+        if high | waits | edges == 0 {
+            continue;
+        }
+        let clauses = [
+            (fault::SOUND_EDGE_ALONE, edges & !waits == 0),
+            (fault::SOUND_LINE_OFF, on1 || waits == 0),
+            (fault::SOUND_EDGE_COUNT, two_fit || edges == 0),
+        ];
+        if !all(&clauses, fault) {
+            return None;
+        }
+        for (bit, line) in eight.iter_mut().enumerate() {
+            let has = |map: u8| map >> bit & 1 == 1;
+            let waits = match (has(waits), has(edges)) {
+                (_, true) => Waits::Edge,
+                (true, false) => Waits::Level,
+                (false, false) => Waits::Not,
+            };
+            *line = Line { high: has(high), waits };
+        }
+    }
+    Some(lines)
 }
 
 const PAYLOAD_SIZES: [u32; 3] = [64, 128, 256];
@@ -320,7 +434,7 @@ fn unpack_request(bytes: &[u8], on0: bool, fault: u32) -> Option<Option<Request>
     all(&clauses, fault).then_some(Some(request))
 }
 
-/// Packs a state into the first 77 bytes, in the one canonical form.
+/// Packs a state into the first 174 bytes, in the one canonical form.
 pub fn pack(state: &State, bytes: &mut [u8]) {
     let bytes = &mut bytes[..STATE_LEN];
     bytes.fill(0);
@@ -353,5 +467,12 @@ pub fn pack(state: &State, bytes: &mut [u8]) {
     for (at, &mark) in state.pending.iter().enumerate() {
         bytes[70 + at] = u8::from(mark);
     }
-    bytes[76] = state.place;
+    bytes[76..78].copy_from_slice(&state.place.number().to_le_bytes());
+    for (at, eight) in state.lines.chunks_exact(8).enumerate().filter(|(_, eight)| *eight != [Line::LOW; 8]) {
+        for (bit, line) in eight.iter().enumerate() {
+            bytes[LINE_LEVELS + at] |= u8::from(line.high) << bit;
+            bytes[LINE_WAITS + at] |= u8::from(line.waits != Waits::Not) << bit;
+            bytes[LINE_EDGES + at] |= u8::from(line.waits == Waits::Edge) << bit;
+        }
+    }
 }

@@ -2,8 +2,8 @@
 //! shown, and bent at the edges of every rule.
 use crate::engine::{crc, LOOK_REPORT_LEN, READ_STORE_LEN, REPLY_LEN, TAKE_REPORT_LEN, WRITE_STORE_LEN};
 use crate::state::{
-    forbidden, pack, within, Kind, Phase, Request, State, Write, CHANNEL_0, CHANNEL_1, ENABLE, FIRST_GROUP, GENERAL, GROUPS, READY,
-    STATE_LEN,
+    forbidden, pack, within, Kind, Line, Phase, Request, Sender, State, Waits, Write, CHANNEL_0, CHANNEL_1, ENABLE, FIRST_GROUP, GENERAL,
+    GROUPS, LINES, LINE_EDGES, LINE_LEVELS, LINE_WAITS, READY, STATE_LEN,
 };
 
 /// Random numbers by xorshift with a multiplication at the end.
@@ -71,10 +71,13 @@ pub enum Call {
     TakeWrite,
     SetWire { index: u32, bit: u32, value: u32 },
     ReadWire { index: u32, bit: u32 },
+    SetLine { line: u32, level: u32 },
+    PulseLine { line: u32 },
 }
 
 /// The names of the calls, in the order of `Call::row`.
-pub const CALLS: [&str; 9] = ["start", "reset", "platform_reset", "exchange", "look", "answer", "take_write", "set_wire", "read_wire"];
+pub const CALLS: [&str; 11] =
+    ["start", "reset", "platform_reset", "exchange", "look", "answer", "take_write", "set_wire", "read_wire", "set_line", "pulse_line"];
 
 impl Call {
     pub fn row(&self) -> usize {
@@ -88,6 +91,8 @@ impl Call {
             Call::TakeWrite => 6,
             Call::SetWire { .. } => 7,
             Call::ReadWire { .. } => 8,
+            Call::SetLine { .. } => 9,
+            Call::PulseLine { .. } => 10,
         }
     }
 }
@@ -229,8 +234,10 @@ impl Traffic {
             9..=24 if open => self.answer(now),
             9..=11 => Call::TakeWrite,
             12..=24 if now.write.is_some() => Call::TakeWrite,
-            25..=32 => self.set_wire(),
-            33..=36 => self.read_wire(),
+            25..=30 => self.set_wire(),
+            31..=33 => self.read_wire(),
+            34..=38 => self.set_line(now),
+            39..=41 => Call::PulseLine { line: self.line(now) },
             _ => Call::Exchange { command: self.command(now) },
         }
     }
@@ -255,6 +262,29 @@ impl Traffic {
             _ => 2 + self.below(6) as u32,
         };
         Call::ReadWire { index, bit: self.wire_bit() }
+    }
+
+    /// A line's number: a few lines at the edges come again and again, and those that wait; one in twelve is none.
+    fn line(&mut self, now: &State) -> u32 {
+        let waiting: Vec<usize> = (0..LINES).filter(|&line| now.lines[line].waits != Waits::Not).collect();
+        match self.below(12) {
+            0 => self.pick(&[256, 257, 511, 0x101, 0x8000_0001, u32::MAX]),
+            1..=3 if !waiting.is_empty() => self.pick(&waiting) as u32,
+            4..=8 => self.pick(&[0, 1, 7, 8, 127, 128, 130, 254, 255, 255]),
+            _ => self.below(LINES) as u32,
+        }
+    }
+
+    /// Mostly the other level.
+    fn set_line(&mut self, now: &State) -> Call {
+        let line = self.line(now);
+        let high = now.lines.get(line as usize).is_some_and(|line| line.high);
+        let level = match self.below(16) {
+            0 => self.pick(&[2, 3, 0x100, 0x101, 0x8000_0001, u32::MAX]),
+            1..=3 => u32::from(high),
+            _ => u32::from(!high),
+        };
+        Call::SetLine { line, level }
     }
 
     fn wire_bit(&mut self) -> u32 {
@@ -301,10 +331,11 @@ impl Traffic {
     /// A command with its CRC byte, mostly well formed.
     fn command(&mut self, now: &State) -> Vec<u8> {
         let ready = now.request.as_ref().is_some_and(|request| request.phase != Phase::Open);
-        let pending = now.pending.contains(&true);
+        let pending = now.something_waits();
         let likely = match self.below(10) {
             0..=4 if ready => Some(0x01),
-            5 if pending => Some(0x05),
+            4 if now.edge_waits() => Some(0x22),
+            5 | 9 if pending => Some(0x05),
             6 if !now.on0() => Some(0x22),
             7 if !now.on0() && now.on1() => Some(0x04),
             _ => None,
@@ -609,6 +640,11 @@ impl Traffic {
         if !now.on0() && self.once_in(2) {
             address = 0x010;
         }
+        // With lines waiting 020h is asked for a count of 1 more often.
+        let lines_wait = now.line_waits() && self.once_in(3);
+        if lines_wait {
+            address = 0x020;
+        }
         let other = match self.below(3) {
             0 => 0,
             1 => u32::MAX,
@@ -627,7 +663,7 @@ impl Traffic {
                 other & !0x7701 | read << 12 | payload << 8 | enable
             }
             0x020 => {
-                let count = self.count_code();
+                let count = if lines_wait && self.once_in(2) { 0 } else { self.count_code() };
                 let enable = u32::from(if now.on1() { !self.once_in(6) } else { self.once_in(2) });
                 other & !0x003F_0001 | count << 16 | enable
             }
@@ -665,7 +701,7 @@ impl Traffic {
             state.levels[row] = if self.once_in(3) { group.reset } else { self.random.byte() & group.defined };
             state.pending[row] = group.up && state.on1() && self.once_in(2);
         }
-        state.place = self.pick(&[4, 5, 6]);
+        self.put_lines(&mut state);
         if state.on0() {
             if self.once_in(2) {
                 state.write = Some(self.held_write());
@@ -675,6 +711,31 @@ impl Traffic {
             }
         }
         state
+    }
+
+    /// Lines and a place: in half of the states no line is high or waits; else a few are, or all, or any.
+    fn put_lines(&mut self, state: &mut State) {
+        let (on, two_fit) = (state.on1(), state.operating_count() > 1);
+        let one_in = self.pick(&[0, 0, 0, 0, 1, 2, 16, 64, 128]);
+        let all_high = self.once_in(if on { 4 } else { 2 });
+        let waits = self.pick(&[&[Waits::Level][..], &[Waits::Edge], &[Waits::Not, Waits::Level, Waits::Edge]]);
+        for line in &mut state.lines {
+            let taken = one_in > 0 && self.random.once_in(one_in);
+            let waits = match self.random.pick(waits) {
+                Waits::Edge if on && !two_fit => Waits::Level,
+                waits if on => waits,
+                _ => Waits::Not,
+            };
+            if taken {
+                *line = Line { high: self.random.once_in(2), waits };
+            }
+            line.high |= all_high && one_in > 0;
+        }
+        state.place = match self.below(4) {
+            0 => Sender::Line(self.below(LINES)),
+            1 => self.pick(&[Sender::Line(0), Sender::Line(127), Sender::Line(128), Sender::Line(254), Sender::Line(255)]),
+            _ => self.pick(&[Sender::Group(4), Sender::Group(5), Sender::Group(6), Sender::Group(6)]),
+        };
     }
 
     fn held_write(&mut self) -> Write {
@@ -746,13 +807,13 @@ impl Traffic {
 
     /// A change of one field of the state's bytes.
     fn bend_bytes(&mut self, bytes: &mut [u8; STATE_LEN]) {
-        match self.below(12) {
+        match self.below(14) {
             0 | 1 => {
-                let at = self.below(STATE_LEN);
+                let at = self.below(LINE_LEVELS);
                 bytes[at] ^= 1 << self.below(8);
             }
             2 => {
-                let at = self.below(STATE_LEN);
+                let at = self.below(LINE_LEVELS);
                 bytes[at] = self.random.byte();
             }
             3 => bytes[12] = self.pick(&[0, 1, 2, 0x81, 0xFF]),
@@ -774,7 +835,16 @@ impl Traffic {
                 let at = 70 + self.below(6);
                 bytes[at] = self.pick(&[0, 1, 2, 0xFF]);
             }
-            10 => bytes[76] = self.pick(&[0, 2, 3, 4, 5, 6, 7, 0x84, 0xFF]),
+            10 => {
+                let place = self.pick(&[0_u16, 1, 255, 256, 257, 258, 259, 259, 260, 0x204, 0xFF00, u16::MAX]);
+                bytes[76..78].copy_from_slice(&place.to_le_bytes());
+            }
+            11 | 12 => {
+                // One line's bit of the levels, what waits or the edges; the first and the last byte of a map more often.
+                let map = self.pick(&[LINE_LEVELS, LINE_WAITS, LINE_WAITS, LINE_EDGES, LINE_EDGES]);
+                let at = if self.once_in(2) { self.pick(&[0, 7, 8, 31]) } else { self.below(LINES / 8) };
+                bytes[map + at] ^= 1 << self.below(8);
+            }
             _ => {
                 let at = self.below(12);
                 bytes[at] ^= 1 << self.below(8);
@@ -793,7 +863,7 @@ impl Traffic {
     }
 
     fn bend_registers(&mut self, state: &mut State) {
-        match self.below(11) {
+        match self.below(12) {
             0 => state.channel0 ^= ENABLE,
             1 => state.channel0 ^= READY,
             2 => state.channel0 ^= ENABLE | READY,
@@ -804,7 +874,8 @@ impl Traffic {
             7 => state.channel0 = state.channel0 & !0x0700 | self.pick(&[0, 1, 3, 4, 7]) << 8,
             // What an engine packed that advertised 8 groups.
             8 => state.channel1 &= !0x3800,
-            9 => state.general = state.general & !0x0C00_0000 | self.pick(&[2, 3]) << 26,
+            9 => state.channel1 = state.channel1 & !0x003F_0000 | self.pick(&[0, 0, 1]) << 16,
+            10 => state.general = state.general & !0x0C00_0000 | self.pick(&[2, 3]) << 26,
             _ => state.general = state.general & !0x0070_0000 | self.pick(&[4, 5, 6, 7]) << 20,
         }
     }

@@ -1,4 +1,4 @@
-//! The nine calls of include/espi.h over lent bytes. Each returns a word: bits 7:0 its number, bits 31:8 its value. The state's
+//! The eleven calls of include/espi.h over lent bytes. Each returns a word: bits 7:0 its number, bits 31:8 its value. The state's
 //! bytes are unpacked and tested by every call but start, and packed again where the call has changed something.
 use crate::number::{BAD_WIRE, NOTHING, NOT_SOUND, OK, SHORT_STORE};
 use crate::state::{pack, pack_part, unpack};
@@ -123,4 +123,14 @@ pub fn read_wire(state: &[u8], index: u32, bit: u32) -> u32 {
         return NOT_SOUND;
     };
     target.read_wire(index, bit).map_or(BAD_WIRE, |level| level << 8 | OK)
+}
+
+#[inline(never)]
+pub fn set_line(state: &mut [u8], line: u32, level: u32) -> u32 {
+    changed(state, |target| part_if_done(target.set_line(line, level), Part::Lines))
+}
+
+#[inline(never)]
+pub fn pulse_line(state: &mut [u8], line: u32) -> u32 {
+    changed(state, |target| part_if_done(target.pulse_line(line), Part::Lines))
 }

@@ -1,5 +1,5 @@
 //! The eSPI target engine in ordinary Rust, to hold the proved one's speed against: document 01 with what document 02 has changed
-//! in it, no unsafe code, no outside crate. `target` keeps the state as a struct that nobody checks; `lent` has the nine calls of
+//! in it, no unsafe code, no outside crate. `target` keeps the state as a struct that nobody checks; `lent` has the eleven calls of
 //! include/espi.h over lent bytes, which refuse any bytes that pack no sound state.
 //!
 //! "01" in a comment is document 01, with the name of its section; "02" is document 02, with the number of its request.
@@ -7,13 +7,14 @@
 pub mod command;
 pub mod crc;
 pub mod lent;
+pub mod lines;
 pub mod peripheral;
 pub mod registers;
 pub mod state;
 pub mod target;
 pub mod wires;
 
-pub const STATE_LEN: usize = 77;
+pub const STATE_LEN: usize = 174;
 pub const REPLY_LEN: usize = 263;
 pub const WRITE_STORE_LEN: usize = 256;
 pub const READ_STORE_LEN: usize = 4096;
@@ -36,4 +37,5 @@ pub mod number {
     pub const BAD_COUNT: u32 = 21;
     pub const BAD_WIRE: u32 = 22;
     pub const NOTHING: u32 = 23;
+    pub const NOT_NOW: u32 = 24;
 }

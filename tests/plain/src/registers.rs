@@ -89,6 +89,11 @@ fn readied(value: u32) -> u32 {
     value & !READY | (value & ENABLE) << 1
 }
 
+/// Whether this write leaves channel 1 on with an operating count of 1, where no edge fits (02, Q-4).
+pub fn leaves_one(address: u16, value: u32) -> bool {
+    address == 0x020 && value & (0x3F << 16 | ENABLE) == ENABLE
+}
+
 /// Whether the register at this address refuses the value (02, Q-5: 020h refuses none).
 pub fn forbidden(address: u16, value: u32) -> bool {
     match address {

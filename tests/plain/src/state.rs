@@ -1,8 +1,9 @@
-//! The target in 77 bytes (docs/STATE.md), and which bytes pack a sound one (01, Wires, "Sound state").
+//! The target in 174 bytes (docs/STATE.md), and which bytes pack a sound one (01, Wires, "Sound state").
+use crate::lines::{Lines, Map};
 use crate::peripheral::{within, Kind, Phase, Request, Write};
 use crate::registers::Registers;
 use crate::target::{Part, Target};
-use crate::wires::{Wires, GROUPS};
+use crate::wires::{Wires, GROUPS, SENDERS};
 use crate::STATE_LEN;
 
 fn word(bytes: &[u8; STATE_LEN], at: usize) -> u32 {
@@ -19,10 +20,20 @@ pub fn unpack(bytes: &[u8; STATE_LEN]) -> Option<Target> {
     let registers = Registers { general: word(bytes, 0), channel_0: word(bytes, 4), channel_1: word(bytes, 8) };
     let write = unpack_write(bytes)?;
     let request = unpack_request(bytes)?;
-    let wires = unpack_wires(bytes, registers.on_1())?;
+    let (on, two_fit) = (registers.on_1(), registers.operating_count() > 1);
+    let lines = Lines { levels: map(bytes, LEVELS), waits: map(bytes, WAITS), edges: map(bytes, EDGES) };
     let idle = write.is_none() && request.is_none();
-    let sound = registers.reachable() && (registers.on_0() || idle);
-    sound.then_some(Target { registers, write, request, serial: word(bytes, 60), wires })
+    let sound = registers.reachable() && (registers.on_0() || idle) && sound_wires(bytes, on) && lines.sound(on, two_fit);
+    if !sound {
+        return None;
+    }
+    let wires = Wires {
+        levels: bytes[64..70].try_into().expect("six bytes"),
+        pending: [bytes[72] == 1, bytes[73] == 1, bytes[74] == 1],
+        place: place(bytes),
+        lines,
+    };
+    Some(Target { registers, write, request, serial: word(bytes, 60), wires })
 }
 
 fn is_payload(size: u32) -> bool {
@@ -105,15 +116,23 @@ const NEVER_SET: u64 = {
     bits
 };
 
-/// Undefined wire bits are 0; up groups alone are pending, and none while channel 1 is off; the place is 4 to 6.
-fn unpack_wires(bytes: &[u8; STATE_LEN], on: bool) -> Option<Wires> {
+fn place(bytes: &[u8; STATE_LEN]) -> u16 {
+    u16::from_le_bytes([bytes[76], bytes[77]])
+}
+
+/// Undefined wire bits are 0; up groups alone are pending, and none while channel 1 is off; the place is a sender.
+fn sound_wires(bytes: &[u8; STATE_LEN], on: bool) -> bool {
     let may_wait = if on { 0x0001_0101 } else { 0 };
-    let sound = long(bytes, 64) & NEVER_SET == 0 && word(bytes, 72) & !may_wait == 0 && (4..=6).contains(&bytes[76]);
-    sound.then(|| Wires {
-        levels: bytes[64..70].try_into().expect("six bytes"),
-        pending: [bytes[72] == 1, bytes[73] == 1, bytes[74] == 1],
-        place: bytes[76],
-    })
+    long(bytes, 64) & NEVER_SET == 0 && word(bytes, 72) & !may_wait == 0 && usize::from(place(bytes)) < SENDERS
+}
+
+/// Where the lines' maps stand.
+const LEVELS: usize = 78;
+const WAITS: usize = 110;
+const EDGES: usize = 142;
+
+fn map(bytes: &[u8; STATE_LEN], at: usize) -> Map {
+    [long(bytes, at), long(bytes, at + 8), long(bytes, at + 16), long(bytes, at + 24)]
 }
 
 /// Packs a target in the one form.
@@ -122,6 +141,7 @@ pub fn pack(target: &Target, bytes: &mut [u8; STATE_LEN]) {
 }
 
 /// Packs what a call has changed.
+#[inline(always)]
 pub fn pack_part(target: &Target, part: Part, bytes: &mut [u8; STATE_LEN]) {
     if matches!(part, Part::Registers | Part::All) {
         pack_registers(&target.registers, bytes);
@@ -129,8 +149,11 @@ pub fn pack_part(target: &Target, part: Part, bytes: &mut [u8; STATE_LEN]) {
     if matches!(part, Part::Peripheral | Part::All) {
         pack_peripheral(target, bytes);
     }
-    if matches!(part, Part::Wires | Part::All) {
+    if matches!(part, Part::Wires | Part::Packet | Part::All) {
         pack_wires(&target.wires, bytes);
+    }
+    if matches!(part, Part::Lines | Part::Packet | Part::All) {
+        pack_lines(&target.wires.lines, bytes);
     }
 }
 
@@ -172,5 +195,13 @@ fn pack_wires(wires: &Wires, bytes: &mut [u8; STATE_LEN]) {
     bytes[70..72].fill(0);
     bytes[72..75].copy_from_slice(&wires.pending.map(u8::from));
     bytes[75] = 0;
-    bytes[76] = wires.place;
+    bytes[76..78].copy_from_slice(&wires.place.to_le_bytes());
+}
+
+fn pack_lines(lines: &Lines, bytes: &mut [u8; STATE_LEN]) {
+    for (at, map) in [(LEVELS, &lines.levels), (WAITS, &lines.waits), (EDGES, &lines.edges)] {
+        for (eight, word) in bytes[at..at + 32].chunks_exact_mut(8).zip(map) {
+            eight.copy_from_slice(&word.to_le_bytes());
+        }
+    }
 }

@@ -1,10 +1,10 @@
 //! The target as a struct that its caller keeps, and nobody checks.
 use crate::command::{decode, Command};
 use crate::crc::crc;
-use crate::number::{BAD_COUNT, BAD_WIRE, FATAL, FORBIDDEN, NO_REQUEST, OK};
+use crate::number::{BAD_COUNT, BAD_WIRE, FATAL, FORBIDDEN, NOT_NOW, NO_REQUEST, OK};
 use crate::peripheral::{within, Kind, Phase, Request, Write};
-use crate::registers::{forbidden, Registers, CHANNEL_0, GENERAL};
-use crate::wires::{defined, Wires, GROUPS};
+use crate::registers::{forbidden, leaves_one, Registers, CHANNEL_0, GENERAL};
+use crate::wires::{defined, Wires, BODY_LEN, GROUPS};
 use crate::{READ_STORE_LEN, REPLY_LEN, WRITE_STORE_LEN};
 
 #[derive(Clone, Debug, PartialEq, Eq)]
@@ -23,7 +23,12 @@ pub enum Part {
     Nothing,
     Registers,
     Peripheral,
+    /// The groups of channel 1.
     Wires,
+    /// The lines of channel 1.
+    Lines,
+    /// Both, after a packet.
+    Packet,
     All,
 }
 
@@ -129,7 +134,7 @@ impl Target {
             }
             Command::GetPc => self.hand_over(reply, read_store).map(|body| (Response::Accept, body, Part::Peripheral)),
             Command::PutVwire { pairs } => return self.put_wires(pairs, reply),
-            Command::GetVwire => self.send_wires(reply).map(|body| (Response::Accept, body, Part::Wires)),
+            Command::GetVwire => self.send_wires(reply).map(|body| (Response::Accept, body, Part::Packet)),
             Command::GetConfiguration { address } => {
                 reply[1..5].copy_from_slice(&self.registers.read(address).to_le_bytes());
                 Ok((Response::Accept, 4, Part::Nothing))
@@ -186,7 +191,7 @@ impl Target {
     }
 
     fn send_wires(&mut self, reply: &mut [u8; REPLY_LEN]) -> Result<usize, u32> {
-        let body = (&mut reply[1..8]).try_into().expect("seven bytes");
+        let body = (&mut reply[1..1 + BODY_LEN]).try_into().expect("the body's bytes");
         match self.wires.send(self.registers.operating_count(), body) {
             0 => Err(FATAL),
             length => Ok(length),
@@ -213,7 +218,7 @@ impl Target {
     /// The write takes effect after its own reply, which shows the status before it.
     #[inline(always)]
     fn configure(&mut self, address: u16, value: u32, reply: &mut [u8; REPLY_LEN]) -> Outcome {
-        if forbidden(address, value) {
+        if forbidden(address, value) || self.wires.lines.edge_waits() && leaves_one(address, value) {
             let length = reply_with(reply, Response::NonFatal, 0, self.status());
             return Outcome { number: FORBIDDEN, length, changed: Part::Nothing };
         }
@@ -273,5 +278,20 @@ impl Target {
     pub fn read_wire(&self, index: u32, bit: u32) -> Result<u32, u32> {
         let (row, mask) = defined(index, bit).ok_or(BAD_WIRE)?;
         Ok(u32::from(self.wires.levels[row] & mask != 0))
+    }
+
+    /// Raises or lowers a line (02, Q-4).
+    pub fn set_line(&mut self, line: u32, level: u32) -> Result<(), u32> {
+        let line = u8::try_from(line).ok().filter(|_| level <= 1).ok_or(BAD_WIRE)?;
+        let done = self.wires.lines.set(line, level == 1, self.registers.on_1());
+        done.then_some(()).ok_or(NOT_NOW)
+    }
+
+    /// Asks for an edge on a line (02, Q-4): it needs two places of a packet.
+    pub fn pulse_line(&mut self, line: u32) -> Result<(), u32> {
+        let line = u8::try_from(line).map_err(|_| BAD_WIRE)?;
+        let can = self.registers.on_1() && self.registers.operating_count() > 1;
+        let done = can && self.wires.lines.pulse(line);
+        done.then_some(()).ok_or(NOT_NOW)
     }
 }

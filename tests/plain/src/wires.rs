@@ -1,4 +1,5 @@
-//! Channel 1 (01, Wires): six groups, indexes 2 to 7.
+//! Channel 1 (01, Wires): six groups, indexes 2 to 7, and the lines (02, Q-4), and the packets of both.
+use crate::lines::{Lines, LINES};
 
 /// A row of the wire table; groups 2 and 3 have the reset values of source 004, tables 9 and 10.
 pub struct Group {
@@ -18,17 +19,42 @@ pub const GROUPS: [Group; 6] = [
 
 const FIRST_INDEX: u8 = 2;
 /// The up groups: 4, 5 and 6.
-const FIRST_PLACE: u8 = 4;
-const LAST_PLACE: u8 = 6;
-const FIRST_UP: usize = (FIRST_PLACE - FIRST_INDEX) as usize;
+const UPS: usize = 3;
+const FIRST_UP: usize = 2;
+/// The senders of a going round: the lines, then the up groups. It begins with group 4.
+pub const SENDERS: usize = LINES + UPS;
+const FIRST_PLACE: u16 = LINES as u16;
+
+/// The longest body of a GET_VWIRE's reply.
+pub const BODY_LEN: usize = 1 + 2 * 64;
 
 #[derive(Clone, Copy, Debug, PartialEq, Eq)]
 pub struct Wires {
     pub levels: [u8; 6],
     /// The marks of the up groups.
-    pub pending: [bool; 3],
-    /// The index that the next GET_VWIRE begins with.
-    pub place: u8,
+    pub pending: [bool; UPS],
+    /// The sender that the next GET_VWIRE begins with.
+    pub place: u16,
+    pub lines: Lines,
+}
+
+/// A packet that is being filled.
+struct Packet<'a> {
+    body: &'a mut [u8; BODY_LEN],
+    entries: usize,
+    count: usize,
+}
+
+impl Packet<'_> {
+    fn fits(&self, entries: usize) -> bool {
+        self.entries + entries <= self.count
+    }
+
+    fn put(&mut self, index: u8, data: u8) {
+        self.body[1 + 2 * self.entries] = index;
+        self.body[2 + 2 * self.entries] = data;
+        self.entries += 1;
+    }
 }
 
 impl Wires {
@@ -39,11 +65,11 @@ impl Wires {
             levels[row] = GROUPS[row].reset;
             row += 1;
         }
-        Wires { levels, pending: [false; 3], place: FIRST_PLACE }
+        Wires { levels, pending: [false; UPS], place: FIRST_PLACE, lines: Lines::RESET }
     };
 
     pub fn any_pending(&self) -> bool {
-        self.pending.contains(&true)
+        self.pending.contains(&true) || self.lines.any_waits()
     }
 
     /// PLTRST#, bit 1 of group 3 (source 004, table 10).
@@ -70,40 +96,83 @@ impl Wires {
         (third == 0).then_some(levels)
     }
 
-    /// The body of a GET_VWIRE's reply, its length; 0 if nothing is pending.
-    pub fn send(&mut self, count: usize, body: &mut [u8; 7]) -> usize {
-        let mut groups = 0;
-        let mut index = self.place;
-        for _ in FIRST_PLACE..=LAST_PLACE {
-            let up = usize::from(index - FIRST_PLACE);
-            let next = if index == LAST_PLACE { FIRST_PLACE } else { index + 1 };
-            if self.pending[up] && groups < count {
-                body[1 + 2 * groups] = index;
-                body[2 + 2 * groups] = GROUPS[FIRST_UP + up].defined << 4 | self.levels[FIRST_UP + up];
-                groups += 1;
-                self.pending[up] = false;
-                self.place = next;
-            }
-            index = next;
+    /// The body of a GET_VWIRE's reply, its length; 0 if nothing waits. It goes round from the place and ends at the first that does not
+    /// fit.
+    pub fn send(&mut self, count: usize, body: &mut [u8; BODY_LEN]) -> usize {
+        let mut packet = Packet { body, entries: 0, count: count.min(64) };
+        let place = usize::from(self.place);
+        if place < LINES {
+            let _ = self.send_lines(place, LINES, &mut packet)
+                && self.send_groups(0, UPS, &mut packet)
+                && self.send_lines(0, place, &mut packet);
+        } else {
+            let up = place - LINES;
+            let _ =
+                self.send_groups(up, UPS, &mut packet) && self.send_lines(0, LINES, &mut packet) && self.send_groups(0, up, &mut packet);
         }
-        if groups == 0 {
+        if packet.entries == 0 {
             return 0;
         }
-        body[0] = groups as u8 - 1;
-        1 + 2 * groups
+        packet.body[0] = packet.entries as u8 - 1;
+        1 + 2 * packet.entries
     }
 
-    /// Channel 1 switched on: each up group becomes pending that differs from its reset value.
+    /// The lines from one on and below another; false: the packet is closed.
+    fn send_lines(&mut self, from: usize, below: usize, packet: &mut Packet) -> bool {
+        for word in from / 64..below.div_ceil(64) {
+            let mut waiting = self.lines.waiting(word, from, below);
+            while waiting != 0 {
+                let bit = waiting & waiting.wrapping_neg();
+                let line = 64 * word + waiting.trailing_zeros() as usize;
+                let edge = self.lines.edges[word] & bit != 0;
+                if !packet.fits(1 + usize::from(edge)) {
+                    return false;
+                }
+                let level = u8::from(self.lines.levels[word] & bit != 0) << 7;
+                let (index, data) = ((line >> 7) as u8, level | line as u8 & 0x7F);
+                if edge {
+                    packet.put(index, data ^ 0x80);
+                }
+                packet.put(index, data);
+                self.lines.waits[word] ^= bit;
+                self.lines.edges[word] &= !bit;
+                self.place = line as u16 + 1;
+                waiting ^= bit;
+            }
+        }
+        true
+    }
+
+    /// The up groups from one on and below another, counted from group 4; false: the packet is closed.
+    fn send_groups(&mut self, from: usize, below: usize, packet: &mut Packet) -> bool {
+        for up in from..below {
+            if !self.pending[up] {
+                continue;
+            }
+            if !packet.fits(1) {
+                return false;
+            }
+            let row = FIRST_UP + up;
+            packet.put(FIRST_INDEX + row as u8, GROUPS[row].defined << 4 | self.levels[row]);
+            self.pending[up] = false;
+            self.place = if up + 1 == UPS { 0 } else { (LINES + up + 1) as u16 };
+        }
+        true
+    }
+
+    /// Channel 1 switched on: each up group becomes pending that differs from its reset value, and the high lines wait.
     pub fn enable(&mut self) {
         for (up, mark) in self.pending.iter_mut().enumerate() {
             *mark = self.levels[FIRST_UP + up] != GROUPS[FIRST_UP + up].reset;
         }
+        self.lines.enable();
     }
 
     /// Channel 1 switched off: marks go, values stay.
     pub fn disable(&mut self) {
-        self.pending = [false; 3];
+        self.pending = [false; UPS];
         self.place = FIRST_PLACE;
+        self.lines.disable();
     }
 
     pub fn platform_reset(&mut self) {
@@ -111,6 +180,7 @@ impl Wires {
         self.levels[5] = GROUPS[5].reset;
         self.pending[2] = false;
         self.place = FIRST_PLACE;
+        self.lines = Lines::RESET;
     }
 
     /// Sets the wire of an up group; a real change while channel 1 is on makes the group pending.
