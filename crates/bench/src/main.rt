@@ -1,4 +1,6 @@
 // Plays the script on standard input through the exported functions: a line for each call, with its number, command and reply.
+#![tactic(auto)]
+
 mod calls;
 mod narrow;
 mod print;

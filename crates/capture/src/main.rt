@@ -1,4 +1,6 @@
 // Plays the capture on standard input and writes a line for each entry (02, Q-2). What is said stands in `playback`; here it is read, looped and written.
+#![tactic(auto)]
+
 ghost use Rattle.std.specs.Prelude.{◌≡◌, ◌+◌, ◌≤◌, leb, length};
 ghost use Rattle.base.specs.Pick.{pick};
 ghost use Rattle.playback.specs.Lines.{line_length};

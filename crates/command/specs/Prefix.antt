@@ -12,9 +12,11 @@ use Rattle.command.specs.Needs.{channel_on, cycle_listed, all_ff, need_data, nee
 use Rattle.command.specs.Decode.{crc_good, checked_as, read_off_value, admit_listed, admit}
 use Rattle.command.specs.Facts.{IsBytes, SizeFits, length-fits, by_row, cycle_wrong, Passes, need_is, passes_tells, ListedTells, row_tells}
 use Rattle.command.specs.declared.Opcode.{Opcode}
+use Rattle.command.specs.declared.Opcode.TheVariants as O
 use Rattle.command.specs.declared.Channels.{Channels}
 use Rattle.command.specs.declared.Channel.{Channel}
-use Rattle.command.specs.declared.Cycle.TheVariants.{Types}
+use Rattle.command.specs.declared.Channel.TheVariants.{Independent}
+use Rattle.command.specs.declared.Cycle.TheVariants.{Types, Absent}
 use Rattle.command.specs.declared.Data.{Data}
 use Rattle.command.specs.declared.Data.TheVariants.{Fixed, Length, Pairs, Ones}
 use Rattle.command.specs.declared.Row.{Row}
@@ -303,10 +305,14 @@ module _ (checked : Bool) (b : List ℕ) where
   reset_says r true e = ap (pick (not (leb 2 (length b))) (Refused 13)) e
   reset_says r false e = refl
 
+  -- the row of RESET, as `resets` has it
+  abbrev reset_row : Row
+  reset_row = record { opcode = O.Reset; channel = Independent; cycle = Absent; told = 1; from = 1; address = 0; carries = Ones; crc = false }
+
   row_says : (op : ℕ) → Says (row_of op)
   row_says =
       by_row Says (_, refl) (_, refl) (_, refl) (_, refl) (_, refl) (_, refl) (_, refl) (_, refl)
-      (reset_says _ (all_ff b) (sym (passed _ _ (and-false checked) refl)))
+      (reset_says reset_row (all_ff b) (sym (passed _ _ (and-false checked) refl)))
       (λ n _. (_, refl)) (λ n _. (_, refl)) (λ n _. (_, refl)) (λ n _. (_, refl)) tt
 
   module _ (on : Channels) where

@@ -1,4 +1,6 @@
 // Commands: a row an opcode, what a command's bytes need, and the decoder.
+#![tactic(auto)]
+
 ghost use Rattle.std.specs.Prelude.{◌≡◌, true, ◌+◌, ◌^◌, ◌≤◌, ◌<◌, length, get_or};
 ghost use Rattle.command.specs.Rows.{plain, headed, size_of_code, short, row_of};
 ghost use Rattle.command.specs.Needs.{channel_on, cycle_listed, wide_cycle, address_bytes, length_of, group_count, all_ff, whole_with_value, need_data, need_row, need_in};
@@ -17,7 +19,7 @@ const CYCLE_UNLISTED: u8 = 15;
 
 const CRC_REFUSED: u8 = 16;
 
-#[derive(Drop)]
+#[derive(Clone, Copy)]
 pub enum Access {
     IoRead,
     IoWrite,
@@ -26,7 +28,7 @@ pub enum Access {
 }
 
 // Which command an opcode byte is; a short access has its size in bytes.
-#[derive(Drop)]
+#[derive(Clone, Copy)]
 pub enum Opcode {
     PutPc,
     GetPc,
@@ -41,14 +43,14 @@ pub enum Opcode {
 }
 
 // Which channels are on.
-#[derive(Drop)]
+#[derive(Clone, Copy)]
 pub struct Channels {
     pub peripheral: bool,
     pub wires: bool,
 }
 
 // The channel that a command is for.
-#[derive(Drop)]
+#[derive(Clone, Copy)]
 pub enum Channel {
     Peripheral,
     Wires,
@@ -56,14 +58,14 @@ pub enum Channel {
 }
 
 // The cycle types that a command takes: with as many address bytes as its row says, and with 8.
-#[derive(Drop)]
+#[derive(Clone, Copy)]
 pub enum Cycle {
     Absent,
     Types(u8, u8),
 }
 
 // How many bytes there are between address and CRC.
-#[derive(Drop)]
+#[derive(Clone, Copy)]
 pub enum Data {
     Fixed(u8),
     // As many as the length in bytes 2 and 3.
@@ -75,7 +77,7 @@ pub enum Data {
 }
 
 // How the bytes of a command stand: a header, an address, data, a CRC byte.
-#[derive(Drop)]
+#[derive(Clone, Copy)]
 pub struct Row {
     pub opcode: Opcode,
     pub channel: Channel,
@@ -90,14 +92,14 @@ pub struct Row {
 }
 
 // The row of an opcode byte, if it has one.
-#[derive(Drop)]
+#[derive(Clone, Copy)]
 pub enum Listed {
     As(Row),
     Unlisted,
 }
 
 // What the first bytes of a command need.
-#[derive(Drop)]
+#[derive(Clone, Copy)]
 pub enum Need {
     // So many bytes in all.
     Whole(u32),
@@ -110,7 +112,7 @@ pub enum Need {
 }
 
 // The header of PUT_PC and PUT_NP; wide: 8 address bytes, not 4.
-#[derive(Drop)]
+#[derive(Clone, Copy)]
 pub struct Head {
     pub wide: bool,
     pub tag: u8,
@@ -119,14 +121,14 @@ pub struct Head {
 }
 
 // Where a short access goes, and its size in bytes.
-#[derive(Drop)]
+#[derive(Clone, Copy)]
 pub struct Span {
     pub address: u64,
     pub size: u8,
 }
 
 // A command for the peripheral channel; the data of a write stay in the command's bytes.
-#[derive(Drop)]
+#[derive(Clone, Copy)]
 pub enum PeripheralCommand {
     PutPc(Head),
     GetPc,
@@ -135,7 +137,7 @@ pub enum PeripheralCommand {
 }
 
 // A command for the wires; the pairs of PUT_VWIRE stay in the command's bytes.
-#[derive(Drop)]
+#[derive(Clone, Copy)]
 pub enum WiresCommand {
     // The group count.
     PutVwire(u32),
@@ -143,7 +145,7 @@ pub enum WiresCommand {
 }
 
 // A decoded command, under the channel that it is for; the last four are for none.
-#[derive(Drop)]
+#[derive(Clone, Copy)]
 pub enum Command {
     Peripheral(PeripheralCommand),
     Wires(WiresCommand),
@@ -154,7 +156,7 @@ pub enum Command {
 }
 
 // The command, or the number of the refusal.
-#[derive(Drop)]
+#[derive(Clone, Copy)]
 pub enum Decoded {
     Known(Command),
     Refused(u8),

@@ -7,7 +7,7 @@ use Rattle.std.specs.Int.Bits.{bit_xor, xor_lt, xor_comm}
 use Rattle.std.proofs.Math.Pow.{split}
 use Rattle.crc.specs.Crc.{crc_bit, shifts}
 use Rattle.crc.specs.Each.{same_bytes}
-use Rattle.crc.specs.Residue.{residue, residue_lt, residue_xor, residue_shift, residue-split, bit_xor, shifts_lt, shifts-last}
+use Rattle.crc.specs.Residue.{residue, residue_lt, residue_xor, residue_shift, residue-split, crc_bit_xor, shifts_lt, shifts-last}
 use Rattle.crc.specs.Table18.{table18, equations_shift}
 
 -- a number times x^i + x^j + x^k
@@ -118,7 +118,7 @@ doubled_parts q m hq hm =
     ∙ ap₂ bit_xor (residue_shift 1 m (omega (arith, hm))) (times-residue power64 q (omega (arith, hq)))
     ∙ xor_comm (crc_bit (residue m)) (shifts 64 (residue q))
     ∙ ap (λ (x : ℕ). bit_xor x (crc_bit (residue m))) (shifts-last 63 (residue q))
-    ∙ sym (bit_xor (shifts 63 (residue q)) (residue m) (shifts_lt 63 (residue q) rq) rm)
+    ∙ sym (crc_bit_xor (shifts 63 (residue q)) (residue m) (shifts_lt 63 (residue q) rq) rm)
     ∙ ap crc_bit (sym (residue-split 63 q m hm (omega (arith, hq)) (omega (arith, hm))))
 
 pub doubled-residue : (t : ℕ) → t < 2 ^ 64 → residue (doubled t) ≡ crc_bit (residue t)

@@ -31,9 +31,9 @@ sevens (suc zero) (suc (suc y)) hx hy = absurd (omega arith)
 sevens (suc (suc x)) y hx hy = absurd (omega arith)
 
 -- a sum is shifted term by term
-pub bit_xor : (a b : ℕ) → a < 256 → b < 256 → crc_bit (bit_xor a b) ≡ bit_xor (crc_bit a) (crc_bit b)
+pub crc_bit_xor : (a b : ℕ) → a < 256 → b < 256 → crc_bit (bit_xor a b) ≡ bit_xor (crc_bit a) (crc_bit b)
 unfolding parted
-bit_xor a b ha hb =
+crc_bit_xor a b ha hb =
     bit-parted (bit_xor a b) (xor_lt 8 a b ha hb)
     ∙ ap₂ (λ (x y : ℕ). bit_xor (x * 7) (y * 2)) (xor_shr a b 7) (xor_mod a b 7)
     ∙ ap₂ bit_xor (sevens (a / 128) (b / 128) (omega arith) (omega arith)) (xor_shift 1 (a % 128) (b % 128))
@@ -48,7 +48,7 @@ shifts_lt (suc n) r h = shifts_lt n (crc_bit r) (bit_lt r h)
 pub shifts_xor : (n a b : ℕ) → a < 256 → b < 256 → shifts n (bit_xor a b) ≡ bit_xor (shifts n a) (shifts n b)
 unfolding shifts
 shifts_xor zero a b ha hb = refl
-shifts_xor (suc n) a b ha hb = ap (shifts n) (bit_xor a b ha hb) ∙ shifts_xor n (crc_bit a) (crc_bit b) (bit_lt a ha) (bit_lt b hb)
+shifts_xor (suc n) a b ha hb = ap (shifts n) (crc_bit_xor a b ha hb) ∙ shifts_xor n (crc_bit a) (crc_bit b) (bit_lt a ha) (bit_lt b hb)
 
 pub shifts-last : (n r : ℕ) → shifts n (crc_bit r) ≡ crc_bit (shifts n r)
 unfolding shifts
@@ -84,7 +84,7 @@ divided_xor (suc k) s t hs ht =
     let q = halved k t ht in
     ap₂ (λ (x y : ℕ). bit_xor (crc_bit (divided k x)) y) (xor_shr s t 1) (xor_mod s t 1)
     ∙ ap (λ (x : ℕ). bit_xor (crc_bit x) (bit_xor (s % 2) (t % 2))) (divided_xor k (s / 2) (t / 2) p q)
-    ∙ ap (λ (x : ℕ). bit_xor x (bit_xor (s % 2) (t % 2))) (bit_xor (divided k (s / 2)) (divided k (t / 2)) (divided_lt k (s / 2) p) (divided_lt k (t / 2) q))
+    ∙ ap (λ (x : ℕ). bit_xor x (bit_xor (s % 2) (t % 2))) (crc_bit_xor (divided k (s / 2)) (divided k (t / 2)) (divided_lt k (s / 2) p) (divided_lt k (t / 2) q))
     ∙ xor_swap (crc_bit (divided k (s / 2))) (crc_bit (divided k (t / 2))) (s % 2) (t % 2)
 
 -- a byte's own digits

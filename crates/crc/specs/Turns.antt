@@ -9,7 +9,7 @@ use Rattle.std.specs.Int.Bits.{bit_xor, xor_lt}
 use Rattle.std.proofs.Math.Pow.{high}
 use Rattle.crc.specs.Crc.{crc_bit, shifts, crc_byte, crc_from, crc, crc_from_next}
 use Rattle.base.specs.Bytes.{joined4}
-use Rattle.crc.specs.Residue.{residue, residue_lt, residue-byte, residue_xor, residue-split, bit_lt, bit_xor, shifts_lt, shifts_xor, shifts-last, shifts_add}
+use Rattle.crc.specs.Residue.{residue, residue_lt, residue-byte, residue_xor, residue-split, bit_lt, crc_bit_xor, shifts_lt, shifts_xor, shifts-last, shifts_add}
 use Rattle.crc.specs.Powers.{doubled, doubled_lt, doubled-residue, power128}
 use Rattle.crc.specs.Xor.{xor_assoc, xor_swap}
 
@@ -116,7 +116,7 @@ twice x y u v hx hy hu =
     ap (λ (z : ℕ). bit_xor z v)
     (shifts_xor 64 (shifts 64 p) u (shifts_lt 64 p hp) hu
     ∙ ap (λ (z : ℕ). bit_xor z (shifts 64 u))
-    (shifts_add 64 64 p ∙ sym (power128 p hp) ∙ bit_xor (shifts 64 x) y sx hy ∙ ap (λ (z : ℕ). bit_xor z (crc_bit y)) (sym (shifts-last 64 x))))
+    (shifts_add 64 64 p ∙ sym (power128 p hp) ∙ crc_bit_xor (shifts 64 x) y sx hy ∙ ap (λ (z : ℕ). bit_xor z (crc_bit y)) (sym (shifts-last 64 x))))
     ∙ xor_assoc (bit_xor (shifts 64 (crc_bit x)) (crc_bit y)) (shifts 64 u) v
     ∙ xor_swap (shifts 64 (crc_bit x)) (crc_bit y) (shifts 64 u) v
     ∙ ap (λ (z : ℕ). bit_xor z (bit_xor (crc_bit y) v)) (sym (shifts_xor 64 (crc_bit x) u (bit_lt x hx) hu))

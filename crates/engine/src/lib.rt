@@ -1,4 +1,6 @@
 // Every command and board call on the bytes of a sound state: a channel reads its own part where it stands and stores what it touches.
+#![tactic(auto)]
+
 mod configuration;
 mod out;
 mod peripheral_channel;
@@ -27,7 +29,7 @@ use wires::Wires;
 
 // A plan without its next state, which stands in the state's bytes; or a packet of wires in the place of a reply. It is made where it is written, from the
 // place and with the capacity that the state's bytes have, and the wires among them change then.
-#[derive(Drop)]
+#[derive(Clone, Copy)]
 pub struct Outgoing {
     pub number: u8,
     pub reply: Reply,

@@ -1,4 +1,6 @@
 // The C boundary: the eleven calls over lent bytes, and nothing else.
+#![tactic(auto)]
+
 ghost use Rattle.std.specs.Prelude.{◌≡◌, ◌≤◌, length};
 ghost use Rattle.rules.specs.Rules.Fits.{KeptFits};
 ghost use Rattle.rules.specs.Rules.Step.{reply_length, write_length, read_length};

@@ -1,6 +1,6 @@
 -- The first rows of a table, row after row: what the loops of the reader and the writer keep.
 use Rattle.std.specs.Prelude.{ℕ, zero, suc, ◌+◌, ◌*◌, ◌<◌, ◌≤◌, Bool, true, false, ◌&&◌, List, [], ◌∷◌, ◌++◌, ◌≡◌, refl, length, get_or, take, drop}
-use Rattle.std.proofs.Math.Bool.{and_true}
+use Rattle.std.proofs.Math.Bool.{and-true}
 use Rattle.std.proofs.Common.{append-nil, sym, ap, ◌∙◌, zero-add, add-one, arith, take-append-drop, ne_eqb}
 use Rattle.base.specs.Bytes.{low2, over, put, put-over, put_first, put-put}
 use Rattle.housefile.specs.Kinds.{kind_of, row_fits_value}
@@ -51,7 +51,7 @@ and_assoc false b d = refl
 
 fit_next : (rows : ℕ → Row) (n i : ℕ) → all_fit rows (suc n) i ≡ (all_fit rows n i && row_fits_value (rows (i + n)))
 unfolding all_fit
-fit_next rows zero i = and_true (row_fits_value (rows i)) ∙ ap (λ (k : ℕ). row_fits_value (rows k)) (omega arith)
+fit_next rows zero i = and-true (row_fits_value (rows i)) ∙ ap (λ (k : ℕ). row_fits_value (rows k)) (omega arith)
 fit_next rows (suc n) i =
     ap (λ (b : Bool). row_fits_value (rows i) && b)
     (fit_next rows n (suc i) ∙ ap (λ (k : ℕ). all_fit rows n (suc i) && row_fits_value (rows k)) (omega arith))

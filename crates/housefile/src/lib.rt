@@ -1,4 +1,6 @@
 // The house file of a capture (02, Q-2): a contents table, then the bodies that it names.
+#![tactic(auto)]
+
 ghost use Rattle.std.specs.Prelude.{◌≡◌, ◌∷◌, ◌+◌, ◌*◌, ◌<◌, ◌≤◌, length};
 ghost use Rattle.base.specs.Bytes.{over, low2};
 ghost use Rattle.housefile.specs.Kinds.{kind_of, body_fits, row_fits_value};
@@ -9,7 +11,7 @@ ghost use Rattle.housefile.specs.Tables.{table_with, table_of, contents_bytes};
 const LONGEST: usize = 65536;
 
 // What an entry is.
-#[derive(Drop)]
+#[derive(Clone, Copy)]
 pub enum Kind {
     Command,
     Success,
@@ -21,21 +23,21 @@ pub enum Kind {
 }
 
 // A row of the contents table: an entry's kind byte, and its body's length.
-#[derive(Drop)]
+#[derive(Clone, Copy)]
 pub struct Row {
     pub kind: u8,
     pub length: usize,
 }
 
 // What reading a file gives: nothing, or so many entries.
-#[derive(Drop)]
+#[derive(Clone, Copy)]
 pub enum Found {
     Bad,
     Entries(usize),
 }
 
 // Some first rows of a table: whether each has a known kind and a body of its length, and how long the bodies are together.
-#[derive(Drop)]
+#[derive(Clone, Copy)]
 struct Table {
     fit: bool,
     total: usize,

@@ -1,4 +1,6 @@
 // Channel 0: the held write and request, what GET_PC hands over of them. A status bit is computed from its queue, never stored beside it.
+#![tactic(auto)]
+
 ghost use Rattle.std.specs.Prelude.{◌≡◌, ◌+◌, ◌*◌, ◌%◌, ◌^◌, ◌<◌, ◌≤◌, true, ◌++◌, length, nat_lt};
 ghost use Rattle.base.specs.Bytes.{put, low4, number4};
 ghost use Rattle.registers.specs.Registers.{payload_legal, read_legal};
@@ -13,7 +15,7 @@ ghost use Rattle.peripheral.specs.Sound.{within, short_size, io_made, made_as_va
 ghost use Rattle.peripheral.specs.Coded.{held_right};
 ghost use Rattle.peripheral.specs.Layout.{handed_bytes, write_bytes_value, kind_number, number_bytes, request_bytes, np_bytes, peripheral_bytes, posted_in, write_in, kind_of, request_in, np_in, peripheral_in, holds_write, blank_in, holds_request, holds_peripheral};
 
-#[derive(Drop)]
+#[derive(Clone, Copy)]
 pub enum Kind {
     MemoryRead,
     IoRead,
@@ -21,7 +23,7 @@ pub enum Kind {
 }
 
 // A non-posted request, with the sizes in force when it was accepted; `bytes`: those of an I/O write, low byte first.
-#[derive(Drop)]
+#[derive(Clone, Copy)]
 pub struct Request {
     pub kind: Kind,
     pub address: u64,
@@ -33,7 +35,7 @@ pub struct Request {
 }
 
 // The held request by phase: unanswered; answered with success, and so many bytes sent; answered with failure.
-#[derive(Drop)]
+#[derive(Clone, Copy)]
 pub enum Np {
     Free,
     Waiting(Request),
@@ -42,21 +44,21 @@ pub enum Np {
 }
 
 // A posted write, with the payload size in force when it was accepted.
-#[derive(Drop)]
+#[derive(Clone, Copy)]
 pub struct Posted {
     pub address: u64,
     pub length: u32,
     pub payload: u32,
 }
 
-#[derive(Drop)]
+#[derive(Clone, Copy)]
 pub enum Write {
     Empty,
     Held(Posted),
 }
 
 // `serial`: the last one given, so that of the held request.
-#[derive(Drop)]
+#[derive(Clone, Copy)]
 pub struct Peripheral {
     pub write: Write,
     pub request: Np,
@@ -64,7 +66,7 @@ pub struct Peripheral {
 }
 
 // A completion: its header, and where in the read store its data begins.
-#[derive(Drop)]
+#[derive(Clone, Copy)]
 pub struct Completion {
     pub cycle: u8,
     pub tag: u8,
@@ -73,7 +75,7 @@ pub struct Completion {
 }
 
 // What GET_PC hands over next.
-#[derive(Drop)]
+#[derive(Clone, Copy)]
 pub enum Next {
     Nothing,
     One(Completion),

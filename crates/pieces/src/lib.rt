@@ -1,10 +1,12 @@
 // The cutting of an answer into pieces at blocks of the payload size, and the pieces' marks.
+#![tactic(auto)]
+
 ghost use Rattle.std.specs.Prelude.{◌≡◌, ◌%◌, ◌≤◌, ◌<◌};
 ghost use Rattle.pieces.specs.Blocks.{Block};
 ghost use Rattle.pieces.specs.Marks.{mark_of, mark_type};
 ghost use Rattle.pieces.specs.Pieces.{next_size};
 
-#[derive(Drop)]
+#[derive(Clone, Copy)]
 pub enum Mark {
     Only,
     First,

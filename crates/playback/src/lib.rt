@@ -1,4 +1,6 @@
 // Plays a capture (02, Q-2), an entry at a time: the entry's call, and the line that tells it.
+#![tactic(auto)]
+
 ghost use Rattle.std.specs.Prelude.{◌≡◌, true, ◌+◌, ◌<◌, ◌≤◌, length, get_or, drop};
 ghost use Rattle.base.specs.Bytes.{put, over, number4};
 ghost use Rattle.rules.specs.Rules.Calls.{done, stored, answer_call, set_wire_call};
@@ -10,7 +12,7 @@ ghost use Rattle.playback.specs.Places.{Stands};
 use housefile::{Found, Kind};
 
 // Where play stands: the entries before it, those to come, and where the next one's body begins.
-#[derive(Drop)]
+#[derive(Clone, Copy)]
 pub struct Place {
     pub number: usize,
     pub left: usize,
@@ -18,7 +20,7 @@ pub struct Place {
 }
 
 // What is said, so many bytes at the start of the lent line, and where play goes on.
-#[derive(Drop)]
+#[derive(Clone, Copy)]
 pub struct Said {
     pub size: usize,
     pub next: Place,

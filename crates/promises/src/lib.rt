@@ -1,1 +1,2 @@
 // The promises over bytes stand in specs/; there is no code here.
+#![tactic(auto)]

@@ -1,35 +1,37 @@
 // The configuration registers: each a type of its own with its reset value and its writable bits.
+#![tactic(auto)]
+
 ghost use Rattle.std.specs.Prelude.{◌≡◌, ◌%◌, ◌<◌, ◌≤◌, eqb, length};
 ghost use Rattle.base.specs.Bytes.{put};
 ghost use Rattle.registers.specs.Registers.{masked, forbidden008, forbidden010, write008, write010, write020, readied, fresh004, fresh008, fresh010, fresh020, size_of, crc_checked, on0, on1, payload_size, read_size, operating_count, fresh_config, read_at_value, forbidden_at, write_at, reachable008, reachable010, reachable020, reachable};
 ghost use Rattle.registers.specs.Layout.{config_bytes, config_in};
 
 // Device identification.
-#[derive(Drop)]
+#[derive(Clone, Copy)]
 pub struct Reg004 {
     pub value: u32,
 }
 
 // General capabilities and configurations.
-#[derive(Drop)]
+#[derive(Clone, Copy)]
 pub struct Reg008 {
     pub value: u32,
 }
 
 // Channel 0 (peripheral).
-#[derive(Drop)]
+#[derive(Clone, Copy)]
 pub struct Reg010 {
     pub value: u32,
 }
 
 // Channel 1 (virtual wires).
-#[derive(Drop)]
+#[derive(Clone, Copy)]
 pub struct Reg020 {
     pub value: u32,
 }
 
 // The registers that hold state.
-#[derive(Drop)]
+#[derive(Clone, Copy)]
 pub struct Config {
     pub r008: Reg008,
     pub r010: Reg010,

@@ -1,4 +1,6 @@
 // What an exchange or a board call does, as data: it names bytes by place and count only.
+#![tactic(auto)]
+
 use peripheral::{Completion, Peripheral};
 use wires::{Packet, Wires};
 
@@ -22,7 +24,7 @@ pub const NOTHING_THERE: u8 = 23;
 pub const LINE_BUSY: u8 = 24;
 
 // The response byte.
-#[derive(Drop)]
+#[derive(Clone, Copy)]
 pub enum Response {
     Accept,
     Defer,
@@ -31,7 +33,7 @@ pub enum Response {
 }
 
 // What stands between the response byte and the status.
-#[derive(Drop)]
+#[derive(Clone, Copy)]
 pub enum Body {
     Nothing,
     Word(u32),
@@ -40,20 +42,20 @@ pub enum Body {
 }
 
 // What a channel says: nothing, or response and body. The status, which is all channels', is added above them.
-#[derive(Drop)]
+#[derive(Clone, Copy)]
 pub enum Say {
     Silent,
     Said(Response, Body),
 }
 
 // Data of the call that goes to the start of a store: from where, and how many bytes.
-#[derive(Drop)]
+#[derive(Clone, Copy)]
 pub enum Kept {
     Nothing,
     Data(u32, u32),
 }
 
-#[derive(Drop)]
+#[derive(Clone, Copy)]
 pub struct Out {
     pub number: u8,
     pub say: Say,
@@ -61,21 +63,21 @@ pub struct Out {
 }
 
 // A channel's change: its own next part, and what goes out.
-#[derive(Drop)]
+#[derive(Clone, Copy)]
 pub struct PeripheralChange {
     pub next: Peripheral,
     pub out: Out,
 }
 
 // Of channel 1 the six groups alone: the lines stand in the state's bytes.
-#[derive(Drop)]
+#[derive(Clone, Copy)]
 pub struct GroupsChange {
     pub next: Wires,
     pub out: Out,
 }
 
 // The reply: none, or response, body and status.
-#[derive(Drop)]
+#[derive(Clone, Copy)]
 pub enum Reply {
     Silent,
     Said(Response, Body, u32),

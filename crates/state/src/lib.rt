@@ -1,4 +1,6 @@
 // The state: the registers and each channel; its status, its soundness, its bytes (docs/STATE.md).
+#![tactic(auto)]
+
 ghost use Rattle.std.specs.Prelude.{◌≡◌, ◌≤◌, length};
 ghost use Rattle.base.specs.Bytes.{over};
 ghost use Rattle.state.specs.Core.{core_of, quiet_state, fresh_core};
@@ -10,7 +12,7 @@ use registers::Config;
 use wires::Wires;
 
 // All of the state but the lines, which stand in its bytes alone.
-#[derive(Drop)]
+#[derive(Clone, Copy)]
 pub struct Core {
     pub config: Config,
     pub peripheral: Peripheral,

@@ -196,9 +196,9 @@ module _ (i k : ℕ) (low : i < 8) (small : k < 4) where
 
     pub ran : {l n : ℕ} (ps : List ℕ) (c : Course) → Binary l → Has c l n → Ran ps l n (past_pairs c ps)
     unfolding past_pairs last_named values_given transitions
-    ran [] c b h = ran_none refl refl h
-    ran (j ∷ []) c b h = ran_none refl refl h
-    ran (j ∷ d ∷ ps) c b h =
+    ran {l} {n} [] c b h = ran_none refl refl h
+    ran {l} {n} (j ∷ []) c b h = ran_none refl refl h
+    ran {l} {n} (j ∷ d ∷ ps) c b h =
         ran_next (names j d i k) refl
-        (λ e. ran ps (past_pair c j d) (binary (d % 16 / 2 ^ k)) (named_pair j d b e h))
-        (λ e. ran ps (past_pair c j d) b (passed-pair j d e h))
+        (λ e. ran {l = bit_of (d % 16) k} {n = n + bit (not (eqb l (bit_of (d % 16) k)))} ps (past_pair c j d) (binary (d % 16 / 2 ^ k)) (named_pair j d b e h))
+        (λ e. ran {l = l} {n = n} ps (past_pair c j d) b (passed-pair j d e h))

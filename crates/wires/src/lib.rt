@@ -1,5 +1,7 @@
 // Virtual wires: the table of six rows, the six groups by value, and what waits to be sent. The interrupt lines are in lines.rt, a packet's going round is in
 // sending.rt.
+#![tactic(auto)]
+
 pub mod lines;
 mod sending;
 
@@ -13,7 +15,7 @@ ghost use Rattle.wires.specs.Going.{Sendable, PacketSent};
 ghost use Rattle.wires.specs.Layout.{wires_bytes, wires_in, all_in, holds_wires, holds_all, levels_fit, marks_in};
 ghost use Rattle.wires.specs.Senders.{any_pending, wires_status};
 
-#[derive(Drop)]
+#[derive(Clone, Copy)]
 pub struct WireRow {
     pub index: u8,
     pub down: bool,
@@ -67,7 +69,7 @@ const FIRST_PLACE: u32 = 256;
 const HOST_WIRES: u32 = 0x70007700;
 
 // Index i stands at place i - 2 of both arrays; `place` is the sender that the next GET_VWIRE begins with: a line, or 252 more than a group.
-#[derive(Drop)]
+#[derive(Clone, Copy)]
 pub struct Wires {
     pub level: [u8; 6],
     pub pending: [bool; 6],
@@ -75,14 +77,14 @@ pub struct Wires {
 }
 
 // What a PUT_VWIRE's pairs come to: whether a wire has a third transition, and the wires after them all.
-#[derive(Drop)]
+#[derive(Clone, Copy)]
 pub struct Putting {
     pub third: bool,
     pub next: Wires,
 }
 
 // The host's wires on their way through a packet: the value of each, and which have changed once, twice and a third time.
-#[derive(Drop)]
+#[derive(Clone, Copy)]
 pub struct Course {
     pub level: u32,
     pub once: u32,
@@ -91,7 +93,7 @@ pub struct Course {
 }
 
 // What a GET_VWIRE sends, over the wires as they were: going round from a place, as many entries as fit.
-#[derive(Drop)]
+#[derive(Clone, Copy)]
 pub struct Packet {
     pub place: u32,
     pub capacity: u32,
@@ -99,7 +101,7 @@ pub struct Packet {
 
 // Going round once: the sender asked next, how many are still to be asked, the entries that still fit, where the next one is written, and the place behind
 // the last one sent.
-#[derive(Drop)]
+#[derive(Clone, Copy)]
 pub struct Going {
     pub sender: usize,
     pub left: usize,

@@ -1,6 +1,6 @@
 -- Ending events by their bytes: a write makes the edge of a channel's enable bit that its bytes say. And a run without an event, call by call.
 use Rattle.std.specs.Prelude.{ℕ, ◌%◌, Bool, true, false, ◌&&◌, ◌||◌, not, List, ◌∷◌, ◌≡◌, refl, eqb}
-use Rattle.std.proofs.Math.Bool.{or_true, or-false}
+use Rattle.std.proofs.Math.Bool.{or-true, or-false}
 use Rattle.std.proofs.Common.{sym, ap, ap₂, ◌∙◌, arith, eqb-true}
 use Rattle.std.proofs.lemmas.Bool.{eqb-false, not-true}
 use Rattle.base.specs.Pick.{pick, and_left, and_right}
@@ -81,7 +81,7 @@ write-ending k s b a v h =
 
 -- a packet that lowers it ends every channel
 pub lowering-ends : (k : Channel) (s : State) (b : List ℕ) → lowers_pltrst s b ≡ true → (disables k s b || lowers_pltrst s b) ≡ true
-lowering-ends k s b e = ap (λ (t : Bool). disables k s b || t) e ∙ or_true (disables k s b)
+lowering-ends k s b e = ap (λ (t : Bool). disables k s b || t) e ∙ or-true (disables k s b)
 
 -- ---- a run without an event, call by call
 

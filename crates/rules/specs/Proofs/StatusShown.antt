@@ -1,6 +1,6 @@
 -- Which state a reply shows: that before what comes after the reply, else the one that the command leaves.
 use Rattle.std.specs.Prelude.{ℕ, Bool, true, false, ◌||◌, List, ◌≡◌, refl, eqb}
-use Rattle.std.proofs.Math.Bool.{or_true}
+use Rattle.std.proofs.Math.Bool.{or-true}
 use Rattle.std.proofs.Common.{ap, ap₂, ◌∙◌}
 use Rattle.base.specs.Pick.{pick_ind, taken, passed}
 use Rattle.wires.specs.Senders.{AllWires}
@@ -31,7 +31,7 @@ pub written_shows : (s t : State) (b : List ℕ) → byte b 0 ≡ 0x22 → s ≡
 written_shows s t b e = taken _ _ (ap (λ (op : ℕ). eqb op 0x22 || lowers_pltrst s b) e) refl
 
 pub lowered_shows : (s t : State) (b : List ℕ) → lowers_pltrst s b ≡ true → s ≡ state_shown b s t
-lowered_shows s t b e = taken _ _ (ap (λ (u : Bool). eqb (byte b 0) 0x22 || u) e ∙ or_true (eqb (byte b 0) 0x22)) refl
+lowered_shows s t b e = taken _ _ (ap (λ (u : Bool). eqb (byte b 0) 0x22 || u) e ∙ or-true (eqb (byte b 0) 0x22)) refl
 
 pub lowered_status : (s : State) (b : List ℕ) (v : AllWires) → Lowered s b v → status (put wires v s) ≡ status s
 lowered_status s b v l = ap (λ (z : AllWires). status (put wires z s)) l.wires ∙ status-put s _

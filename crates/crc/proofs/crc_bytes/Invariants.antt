@@ -1,0 +1,14 @@
+use Prim.Native.Nat.{◌-◌, ◌<◌, ◌≤◌}
+use mathlib.Core.Path.{◌≡◌, refl, ◌∙◌}
+use native.Mathlib.Omega.{arith}
+use lib.ListN.{length, get_or, drop, drop_of_length-le}
+use Rattle.crc.specs.Crc.{crc_from, crc, crc_from_next}
+use Rattle.crc.specs.Table18.{table18-byte}
+use borrow.Author.Rules.{rules}
+use Rattle.crc.proofs.crc_bytes.Given as goal
+
+abbrev pub invariant-loop-i : goal.invariant-loop-i
+invariant-loop-i l = (l.i ≤ length l.s) × ((l.x < 256) × (crc_from l.x (drop l.i l.s) ≡ crc l.s))
+
+abbrev pub decreases-loop-i : goal.decreases-loop-i
+decreases-loop-i l = length l.s - l.i

@@ -1,0 +1,14 @@
+use Prim.Native.Nat.{ℕ, ◌≤◌, ◌-◌}
+use mathlib.Core.Path.{◌≡◌, refl, subst}
+use native.Mathlib.Omega.{arith}
+use lib.ListN.{length}
+use borrow.Author.Rules.{rules}
+use Rattle.housefile.specs.Format.{row_of}
+use Rattle.housefile.specs.Tables.{Put, put_none, put-row, put_whole}
+use Rattle.housefile.proofs.put_rows.Given as goal
+
+abbrev pub invariant-loop-i : goal.invariant-loop-i
+invariant-loop-i l = (l.i ≤ length l.kinds) × ((length l.out ≡ length l.initial.out) × Put (row_of l.kinds l.lengths) l.i l.initial.out l.out)
+
+abbrev pub decreases-loop-i : goal.decreases-loop-i
+decreases-loop-i l = length l.kinds - l.i

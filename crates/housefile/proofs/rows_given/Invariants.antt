@@ -1,0 +1,14 @@
+use Prim.Native.Nat.{ℕ, ◌≤◌, ◌-◌}
+use mathlib.Core.Path.{subst, ap}
+use native.Mathlib.Omega.{arith}
+use lib.ListN.{length, get_or}
+use borrow.Author.Rules.{rules}
+use Rattle.housefile.specs.Format.{row, row_of}
+use Rattle.housefile.specs.Tables.{Kept, none_yet, one_more}
+use Rattle.housefile.proofs.rows_given.Given as goal
+
+abbrev pub invariant-loop-i : goal.invariant-loop-i
+invariant-loop-i l = (l.i ≤ length l.kinds) × Kept (row_of l.kinds l.lengths) l.i l.t
+
+abbrev pub decreases-loop-i : goal.decreases-loop-i
+decreases-loop-i l = length l.kinds - l.i

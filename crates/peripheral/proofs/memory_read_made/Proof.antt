@@ -1,9 +1,0 @@
-use Rattle.std.proofs.Common.{rules}
-use Rattle.peripheral.proofs.memory_read_made.Statement.{statement}
-use Rattle.peripheral.proofs.memory_read_made.Tie as tie
-
-returns : tie.Need-returns
-returns c = cc
-
-pub memory-read-made-spec : {M : Type 1} → statement M
-memory-read-made-spec = tie.close (tie.spec (λ c κs. search rules) returns)

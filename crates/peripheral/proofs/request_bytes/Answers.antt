@@ -1,0 +1,5 @@
+use Rattle.std.proofs.Common.{rules}
+use Rattle.peripheral.proofs.request_bytes.Goals as goal
+
+pub returns : goal.returns
+returns c = cc

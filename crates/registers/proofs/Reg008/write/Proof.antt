@@ -1,9 +1,0 @@
-use borrow.Author.Rules.{rules}
-use Rattle.registers.proofs.Reg008.write.Statement.{statement}
-use Rattle.registers.proofs.Reg008.write.Tie as tie
-
-returns : tie.Need-returns
-returns c = rw c.write-masked.ensures
-
-pub write_spec : {M : Type 1} → statement M
-write_spec = tie.close (tie.spec (λ c κs. search rules) returns)

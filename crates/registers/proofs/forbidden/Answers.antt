@@ -1,0 +1,16 @@
+-- `registers::forbidden` meets its contract: the address picks the register.
+use borrow.Author.Tests.{eq-eqb, ne_eqb}
+use Rattle.base.specs.Pick.{taken, passed}
+use mathlib.Core.Path.{refl}
+use borrow.Author.Rules.{rules}
+use Rattle.registers.proofs.forbidden.Goals as goal
+
+-- `registers::forbidden` meets its contract: the address picks the register.
+pub returns-then-address-eq8 : goal.returns-then-address-eq8
+returns-then-address-eq8 c = taken _ _ (eq-eqb _ _ c.if-address-eq8.true) c.bad008.ensures
+
+pub returns-then-address-eq16 : goal.returns-then-address-eq16
+returns-then-address-eq16 c = passed _ _ (ne_eqb _ _ c.if-address-eq8.false) (taken _ _ (eq-eqb _ _ c.if-address-eq16.true) c.bad010.ensures)
+
+pub returns : goal.returns
+returns c = passed _ _ (ne_eqb _ _ c.if-address-eq8.false) (passed _ _ (ne_eqb _ _ c.if-address-eq16.false) refl)

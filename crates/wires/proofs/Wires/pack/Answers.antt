@@ -1,0 +1,5 @@
+use borrow.Author.Rules.{rules}
+use Rattle.wires.proofs.Wires.pack.Goals as goal
+
+pub returns : goal.returns
+returns c = rw c.bytes-bytes.ensures at c.put_at.ensures

@@ -1,0 +1,17 @@
+use Prim.Native.Nat.{◌-◌, ◌≤◌, ◌<◌}
+use mathlib.Core.Path.{◌≡◌, refl, ap, ◌∙◌}
+use native.Mathlib.Omega.{arith}
+use lib.ListN.{length}
+use lib.Seq.{paste, paste-zero}
+use Rattle.wires.specs.Groups.{remarked}
+use Rattle.wires.specs.Kept.{remarked_next, remarked-all}
+use Rattle.wires.specs.declared.Wires.{Wires}
+use borrow.Author.Rules.{rules}
+use Rattle.wires.proofs.Wires.remarked.Given as goal
+
+abbrev pub invariant-loop-i : goal.invariant-loop-i
+invariant-loop-i l =
+    (l.i ≤ 6) × (l.next.level ≡ l.self.level) × (l.next.pending ≡ paste l.self.pending 0 (remarked l.on l.self l.place).pending l.i) × (0 < l.i → l.next.place ≡ l.place)
+
+abbrev pub decreases-loop-i : goal.decreases-loop-i
+decreases-loop-i l = 6 - l.i

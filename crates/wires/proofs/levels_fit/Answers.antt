@@ -1,0 +1,5 @@
+use borrow.Author.Rules.{rules}
+use Rattle.wires.proofs.levels_fit.Goals as goal
+
+pub returns : goal.returns
+returns c = cc

@@ -1,0 +1,13 @@
+use Prim.Native.Nat.{◌-◌, ◌≤◌}
+use mathlib.Core.Path.{◌≡◌}
+use native.Mathlib.Omega.{arith}
+use lib.ListN.{length, length-set}
+use Rattle.wires.specs.LineCode.{waits_from, waits_none, waits_next, waits_all}
+use borrow.Author.Rules.{rules}
+use Rattle.wires.proofs.lines.levels_wait.Given as goal
+
+abbrev pub invariant-loop-i : goal.invariant-loop-i
+invariant-loop-i l = (l.i ≤ 32) × ((length l.b ≡ length l.initial.b) × (l.b ≡ waits_from l.initial.b l.i))
+
+abbrev pub decreases-loop-i : goal.decreases-loop-i
+decreases-loop-i l = 32 - l.i

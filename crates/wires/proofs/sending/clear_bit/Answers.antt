@@ -1,0 +1,6 @@
+use Rattle.wires.specs.Going.{bit-cleared}
+use borrow.Author.Rules.{rules}
+use Rattle.wires.proofs.sending.clear_bit.Goals as goal
+
+pub returns : goal.returns
+returns c = let a = c.args in bit-cleared a.map a.line a.b.now
