@@ -20,4 +20,4 @@ pub returns-in-5 : goal.returns-in-5
 returns-in-5 c = simp c.in-5.is
 
 pub returns-in_default : goal.returns-in_default
-returns-in_default c = last_kind _ c.in_default.rest
+returns-in_default c = last_kind _ c.in_default.in_default-own.rest

@@ -10,6 +10,6 @@ returns c =
     c.put_at.ensures)
     (rw (
       c.bytes4-serial.ensures,
-      c.wrapping_add_u32.ensures,
+      c.wrapping_add_u32.ensures.value,
       c.get4.ensures,
     ) at c.put_at-2.ensures)
