@@ -30,4 +30,4 @@ returns c =
     let p = c.put_at in
     let rows = row_of a.kinds.now a.lengths.now in
     put_whole rows (length a.kinds.now) _ _ _ _ c.bytes2-count.ensures p.ensures
-    (subst (λ (k : ℕ). Put rows k p.new.0 c.loop-i.out) (omega arith) c.loop-i.invariant.1.1)
+    (subst (λ (k : ℕ). Put rows k p.new.dst c.loop-i.out) (omega arith) c.loop-i.invariant.1.1)

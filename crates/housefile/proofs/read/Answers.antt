@@ -20,9 +20,9 @@ returns-then-n-t c = not_summed _ _ _ c.join2-n.ensures.0 c.rows_in-t.ensures.0 
 pub returns-then-not-t : goal.returns-then-not-t
 returns-then-not-t c =
     not_fit _ _ _ c.join2-n.ensures.0 c.rows_in-t.ensures.0
-    c.if-not-t.true
+    (not-true _ c.if-not-t.true)
 
 pub returns : goal.returns
 returns c =
     all_read _ _ _ c.join2-n.ensures.0 c.rows_in-t.ensures.0
-    c.if-file-gt-LONGEST.false c.if-n-t.false c.if-not-t.false
+    c.if-file-gt-LONGEST.false c.if-n-t.false (not-false _ c.if-not-t.false)

@@ -15,7 +15,7 @@ pub returns-then-t-bodies : goal.returns-then-t-bodies
 returns-then-t-bodies c = other_bodies _ _ _ _ _ c.rows_given-t.ensures.0 c.if-t-bodies.true
 
 pub returns-then-not-t : goal.returns-then-not-t
-returns-then-not-t c = unfit _ _ _ _ _ c.rows_given-t.ensures.0 c.if-not-t.true
+returns-then-not-t c = unfit _ _ _ _ _ c.rows_given-t.ensures.0 (not-true _ c.if-not-t.true)
 
 pub returns-then-size-gt-LONGEST : goal.returns-then-size-gt-LONGEST
 returns-then-size-gt-LONGEST c =
@@ -27,6 +27,6 @@ returns-then-out-size c =
 
 pub returns : goal.returns
 returns c =
-    let f = not-false _ (ap not c.if-not-t.false) in
+    let f = not-false _ c.if-not-t.false in
     all-written _ _ _ _ _ c.rows_given-t.ensures.0 c.if-t-bodies.false c.if-n-lengths.false f
     c.if-size-gt-LONGEST.false c.if-out-size.false _ _ c.put_rows.ensures c.put_at.ensures
