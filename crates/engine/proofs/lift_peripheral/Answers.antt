@@ -1,0 +1,20 @@
+use mathlib.Core.Path.{sym, ap}
+use Rattle.state.specs.Layout.{unpacked}
+use Rattle.state.specs.Status.{status}
+use Rattle.rules.specs.declared.Say.{Say}
+use Rattle.rules.specs.Rules.Channel.{peripheral, put}
+use Rattle.rules.specs.Rules.Fits.{plain_say}
+use Rattle.rules.specs.Rules.Lift.{with_status}
+use Rattle.engine.specs.Laws.Stored.{lift-carried}
+use borrow.Author.Rules.{rules}
+use Rattle.engine.proofs.peripheral_channel.store.Reads as store-reads
+use Rattle.engine.proofs.lift_peripheral.Goals as goal
+
+-- src/lib.rt:62:1
+pub returns : goal.returns
+unfolding unpacked
+returns c =
+    let a = c.args in
+    let l = a.state.now in
+    lift-carried peripheral (unpacked l) a.x l c.requires.0 c.requires.1 _ _ (ap plain_say c.requires.2) c.store.ensures
+    (sym (ap (λ (z : Say). with_status z (status (put peripheral a.x.next (unpacked l)))) c.requires.2))

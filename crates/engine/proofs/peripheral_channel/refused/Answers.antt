@@ -1,0 +1,5 @@
+use borrow.Author.Rules.{rules}
+use Rattle.engine.proofs.peripheral_channel.refused.Goals as goal
+
+pub returns : goal.returns
+returns c = rw c.number.ensures

@@ -1,0 +1,16 @@
+use mathlib.Core.Path.{ap, ◌∙◌}
+use Rattle.base.specs.Bytes.{over}
+use Rattle.state.specs.Layout.{packed, unpacked}
+use Rattle.state.specs.State.{State}
+use borrow.Author.Rules.{rules}
+use Rattle.engine.proofs.platform_core.Reads as platform-core-reads
+use Rattle.state.proofs.pack.Reads as pack-reads
+use Rattle.state.proofs.unpack.Reads as unpack-reads
+use Rattle.engine.proofs.platform_reset.Goals as goal
+
+-- src/lib.rt:298:1
+pub returns : goal.returns
+returns c =
+    let l = c.args.state.now in
+    c.pack.ensures ∙ ap (λ (z : State). over (packed z) l)
+    (c.platform_core.ensures (unpacked l) c.unpack.ensures)

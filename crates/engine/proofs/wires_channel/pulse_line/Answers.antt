@@ -1,0 +1,48 @@
+use native.Mathlib.Omega.{arith}
+use mathlib.Core.Path.{◌≡◌, refl, sym, ap, ap₂, ◌∙◌}
+use mathlib.Core.Bool.{Bool, not, ◌&&◌}
+use Prim.Native.Nat.{ℕ}
+use borrow.Author.Tests.{lt-ltb, le-ltb}
+use lib.Dec.{ltb}
+use Rattle.engine.specs.Laws.Loaded.{tidy_there}
+use Rattle.engine.specs.Laws.Wires.{pulse_none, can_pulse_lem, pulse_busy, pulse_done}
+use borrow.Author.Rules.{rules}
+use Rattle.registers.proofs.Reg020.on.Reads as on-reads
+use Rattle.registers.proofs.Reg020.operating_count.Reads as operating-count-reads
+use Rattle.wires.proofs.lines.line_waits.Reads as line-waits-reads
+use Rattle.wires.proofs.lines.pulse_line.Reads as pulse-line-reads
+use Rattle.engine.proofs.wires_channel.pulse_line.Goals as goal
+
+-- src/wires_channel.rt:101:9
+pub returns-then-line-ge256 : goal.returns-then-line-ge256
+returns-then-line-ge256 c =
+    let a = c.args in pulse_none a.c a.state.now a.line (ap not (le-ltb a.line 256 c.if-line-ge256.true))
+
+-- src/wires_channel.rt:104:9
+pub line_waits-waits-requires : goal.line_waits-waits-requires
+line_waits-waits-requires c =
+    (c.requires.long, lt-ltb _ _ c.if-line-ge256.false)
+
+-- src/wires_channel.rt:106:9
+pub returns-then-not-on-operating_count : goal.returns-then-not-on-operating_count
+returns-then-not-on-operating_count c =
+    let a = c.args in
+    pulse_busy a.c a.state.now a.line _ (ap not (lt-ltb a.line 256 c.if-line-ge256.false))
+    (can_pulse_lem a.c a.state.now a.line _ _ _ c.on.ensures c.operating_count.ensures
+    c.line_waits-waits.ensures) (ap not c.if-not-on-operating_count.true)
+
+-- src/wires_channel.rt:108:5
+pub pulse_line-requires : goal.pulse_line-requires
+pulse_line-requires c =
+    (search rules, lt-ltb _ _ c.if-line-ge256.false)
+
+-- src/wires_channel.rt:96:1
+pub returns : goal.returns
+returns c =
+    let a = c.args in
+    pulse_done a.c a.state.now a.line _ (ap not (lt-ltb a.line 256
+    c.if-line-ge256.false))
+    (can_pulse_lem a.c a.state.now a.line _ _ _ c.on.ensures
+    c.operating_count.ensures c.line_waits-waits.ensures) _
+    (λ k. omega (arith, c.slice_known-1.given k)) c.requires.long
+    (tidy_there a.state.now c.requires) (ap not c.if-not-on-operating_count.false) c.pulse_line.ensures

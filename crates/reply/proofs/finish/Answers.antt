@@ -1,0 +1,14 @@
+use native.Mathlib.Omega.{arith}
+use Rattle.reply.specs.Written.{finish_by}
+use native.Mathlib.Omega.{arith}
+use borrow.Author.Rules.{rules}
+use Rattle.reply.proofs.finish.Goals as goal
+
+pub returns : goal.returns
+returns c =
+    let a = c.args in
+    finish_by a.reply.now c.put_at.new.dst
+    c.put_at-2.new.dst a.n a.status c.crc_first.result (omega arith)
+    (rw c.bytes2-w.ensures at
+    c.put_at.ensures)
+    c.crc_first.ensures c.put_at-2.ensures

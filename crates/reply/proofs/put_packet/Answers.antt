@@ -1,0 +1,28 @@
+use Rattle.reply.specs.Packets.{packet_named, fillable_as, filled_as}
+use borrow.Author.Rules.{rules}
+use Rattle.peripheral.proofs.Peripheral.status_in.Reads as status-in-reads
+use Rattle.registers.proofs.Config.unpack.Reads as Config-unpack-reads
+use Rattle.registers.proofs.Reg020.operating_count.Reads as operating-count-reads
+use Rattle.reply.proofs.fill_packet.Reads as fill-packet-reads
+use Rattle.wires.proofs.Wires.unpack.Reads as Wires-unpack-reads
+use Rattle.reply.proofs.put_packet.Goals as goal
+
+-- src/lib.rt:158:5
+pub fill_packet-requires : goal.fill_packet-requires
+fill_packet-requires c =
+    let l = c.args.state.now in
+    let e = packet_named l _ _ _ c.unpack-c.ensures
+    c.unpack-w.ensures c.operating_count.ensures in
+    (c.requires.0, fillable_as l _ e c.requires.1, c.status_in-others.ensures.1)
+
+-- src/lib.rt:149:1
+pub returns : goal.returns
+returns c =
+    let l = c.args.state.now in
+    let e = packet_named l _ _ _ c.unpack-c.ensures
+    c.unpack-w.ensures
+    c.operating_count.ensures in (
+      filled_as l c.args.reply.now _ _ _ e c.status_in-others.ensures.0
+          c.fill_packet.ensures.0,
+      c.fill_packet.ensures.1,
+    )

@@ -1,0 +1,7 @@
+use mathlib.Core.Path.{◌∙◌}
+use Rattle.base.specs.Bytes.{put_first}
+use borrow.Author.Rules.{rules}
+use Rattle.reply.proofs.put_request.Goals as goal
+
+pub returns : goal.returns
+returns c = (rw c.request_report-r.ensures at c.put_at.ensures) ∙ put_first _ _

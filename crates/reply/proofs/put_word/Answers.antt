@@ -1,0 +1,7 @@
+use mathlib.Core.Path.{refl, ◌∙◌}
+use Rattle.base.specs.Bytes.{put_first}
+use borrow.Author.Rules.{rules}
+use Rattle.reply.proofs.put_word.Goals as goal
+
+pub returns : goal.returns
+returns c = ((rw c.bytes4-w.ensures at c.put_at.ensures) ∙ put_first _ _, refl)

@@ -1,0 +1,19 @@
+use native.Mathlib.Omega.{arith}
+use Prim.Native.Nat.{ℕ, ◌+◌}
+use mathlib.Core.Path.{sym, ap, ◌∙◌}
+use Rattle.rules.specs.Proofs.Reply.{closed-length}
+use Rattle.reply.specs.Written.{said_by_lem}
+use borrow.Author.Rules.{rules}
+use Rattle.reply.proofs.finish.Reads as finish-reads
+use Rattle.reply.proofs.put_body.Reads as put-body-reads
+use Rattle.reply.proofs.say.Goals as goal
+
+-- src/lib.rt:102:1
+pub returns : goal.returns
+returns c =
+    let p = c.put_body-n.ensures in (
+      said_by_lem c.args.reply.now _ _ _ _ _ p.0 p.1
+          c.finish.ensures,
+      ap (λ (k : ℕ). k + 3) p.1 ∙ sym (closed-length _ _),
+      omega (arith, p.2),
+    )
