@@ -32,8 +32,7 @@ const NO_SUCH_WIRE: u32 = 22;
 
 const NOTHING_THERE: u32 = 23;
 
-#[unsafe(no_mangle)]
-pub extern "C" fn espi_start(state: &mut [u8]) -> u32
+pub fn espi_start(state: &mut [u8]) -> u32
     ensures { done result state.new ≡ start_call state.old }
 {
     if state.len() < STATE {
@@ -43,8 +42,7 @@ pub extern "C" fn espi_start(state: &mut [u8]) -> u32
     0
 }
 
-#[unsafe(no_mangle)]
-pub extern "C" fn espi_reset(state: &mut [u8]) -> u32
+pub fn espi_reset(state: &mut [u8]) -> u32
     ensures { done result state.new ≡ espi_reset_call state.old }
 {
     if state.len() < STATE {
@@ -57,8 +55,7 @@ pub extern "C" fn espi_reset(state: &mut [u8]) -> u32
     0
 }
 
-#[unsafe(no_mangle)]
-pub extern "C" fn espi_platform_reset(state: &mut [u8]) -> u32
+pub fn espi_platform_reset(state: &mut [u8]) -> u32
     ensures { done result state.new ≡ platform_reset_call state.old }
 {
     if state.len() < STATE {
@@ -104,8 +101,7 @@ fn commit(
     (p.number as u32) + 256 * n
 }
 
-#[unsafe(no_mangle)]
-pub extern "C" fn espi_exchange(
+pub fn espi_exchange(
     state: &mut [u8],
     command: &[u8],
     reply: &mut [u8],
@@ -134,8 +130,7 @@ pub extern "C" fn espi_exchange(
     commit(p, state, command, reply, write_store, read_store)
 }
 
-#[unsafe(no_mangle)]
-pub extern "C" fn espi_look(state: &[u8], report: &mut [u8]) -> u32
+pub fn espi_look(state: &[u8], report: &mut [u8]) -> u32
     ensures { looked result report.new ≡ look_call state.now report.old }
 {
     if state.len() < STATE {
@@ -160,8 +155,7 @@ pub extern "C" fn espi_look(state: &[u8], report: &mut [u8]) -> u32
     }
 }
 
-#[unsafe(no_mangle)]
-pub extern "C" fn espi_answer(
+pub fn espi_answer(
     state: &mut [u8],
     read_store: &mut [u8],
     serial: u32,
@@ -186,8 +180,7 @@ pub extern "C" fn espi_answer(
     p.number as u32
 }
 
-#[unsafe(no_mangle)]
-pub extern "C" fn espi_take_write(state: &mut [u8], write_store: &[u8], report: &mut [u8]) -> u32
+pub fn espi_take_write(state: &mut [u8], write_store: &[u8], report: &mut [u8]) -> u32
     ensures { stored result state.new report.new ≡ take_write_call state.old write_store.now report.old }
 {
     if state.len() < STATE {
@@ -209,8 +202,7 @@ pub extern "C" fn espi_take_write(state: &mut [u8], write_store: &[u8], report: 
     p.number as u32
 }
 
-#[unsafe(no_mangle)]
-pub extern "C" fn espi_set_wire(state: &mut [u8], index: u32, bit: u32, value: u32) -> u32
+pub fn espi_set_wire(state: &mut [u8], index: u32, bit: u32, value: u32) -> u32
     ensures { done result state.new ≡ set_wire_call state.old index bit value }
 {
     if state.len() < STATE {
@@ -223,8 +215,7 @@ pub extern "C" fn espi_set_wire(state: &mut [u8], index: u32, bit: u32, value: u
     p.number as u32
 }
 
-#[unsafe(no_mangle)]
-pub extern "C" fn espi_read_wire(state: &[u8], index: u32, bit: u32) -> u32
+pub fn espi_read_wire(state: &[u8], index: u32, bit: u32) -> u32
     ensures { result ≡ read_wire_call state.now index bit }
 {
     if state.len() < STATE {
@@ -240,8 +231,7 @@ pub extern "C" fn espi_read_wire(state: &[u8], index: u32, bit: u32) -> u32
     256 * w.read(index, bit)
 }
 
-#[unsafe(no_mangle)]
-pub extern "C" fn espi_set_line(state: &mut [u8], line: u32, level: u32) -> u32
+pub fn espi_set_line(state: &mut [u8], line: u32, level: u32) -> u32
     ensures { done result state.new ≡ set_line_call state.old line level }
 {
     if state.len() < STATE {
@@ -254,8 +244,7 @@ pub extern "C" fn espi_set_line(state: &mut [u8], line: u32, level: u32) -> u32
     p.number as u32
 }
 
-#[unsafe(no_mangle)]
-pub extern "C" fn espi_pulse_line(state: &mut [u8], line: u32) -> u32
+pub fn espi_pulse_line(state: &mut [u8], line: u32) -> u32
     ensures { done result state.new ≡ pulse_line_call state.old line }
 {
     if state.len() < STATE {
