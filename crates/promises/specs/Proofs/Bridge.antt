@@ -82,7 +82,7 @@ module _ {A : Type 0} (f : ByteWorld → List Call → A) (g : World → List Ca
     → f (byte_step_value v c).next cs ≡ g (step w c).next cs → f v (c ∷ cs) ≡ g w (c ∷ cs)) where
   along : {v : ByteWorld} {w : World} → Stands v w → (cs : List Call) → all_handed cs ≡ true → f v cs ≡ g w cs
   along {v} {w} s [] b = none v w
-  along {v} {w} s (c ∷ cs) b = let h = head_handed c cs b in more v w s c cs h (along (next_at s c h) cs (tail_handed c cs b))
+  along {v} {w} s (c ∷ cs) b = let h = head_handed c cs b in more v w s c cs h (along {v = (byte_step_value v c).next} {w = (step w c).next} (next_at s c h) cs (tail_handed c cs b))
 
 module _ {v : ByteWorld} {w : World} (s : Stands v w) (cs : List Call) (b : all_handed cs ≡ true) where
   pub without_at : (p : Event → Bool) → byte_without (λ v c. p (byte_event v c)) v cs ≡ without (λ w c. p (event w c)) w cs
@@ -134,7 +134,7 @@ module _ {v : ByteWorld} {w : World} (s : Stands v w) (cs : List Call) (b : all_
 
 pub handed-on : {v : ByteWorld} {w : World} → Stands v w → (cs : List Call) → all_handed cs ≡ true → byte_handed_on v cs → read_handed_on w cs
 unfolding byte_handed_on store_handed_on
-handed-on s [] b k = tt
-handed-on s (c ∷ cs) b k =
+handed-on {v} {w} s [] b k = tt
+handed-on {v} {w} s (c ∷ cs) b k =
     let h = head_handed c cs b in
-    (subst (λ (t : World). same_store (λ (x : World). x.read) t c) s.world k.0, handed-on (next_at s c h) cs (tail_handed c cs b) k.1)
+    (subst (λ (t : World). same_store (λ (x : World). x.read) t c) s.world k.0, handed-on {v = (byte_step_value v c).next} {w = (step w c).next} (next_at s c h) cs (tail_handed c cs b) k.1)

@@ -466,20 +466,20 @@ module _ (x : Channel) where
 
   seeing-at : {v : ByteWorld} {w : World} → Stands v w → (cs : List Call) → all_handed cs ≡ true → byte_seeing x v cs ≡ dressed (remains x w cs) (seeing x w cs)
   unfolding byte_seeing remains seeing dressed
-  seeing-at s [] b = refl
+  seeing-at {v} {w} s [] b = refl
   seeing-at {v} {w} s (c ∷ cs) b =
       let h = head_handed c cs b in
       let R = reset platform_reset in
       ap (λ (t : Bool). map (λ (d : Call). byte_seen x (byte_step_value v d)) (kept (is_call_of x c) t c) ++ byte_seeing x (byte_step_value v c).next cs) (falls_at s c h)
       ∙ one_more c (remains x (step w c).next cs) (seeing x (step w c).next cs) (λ (d : Call). byte_seen x (byte_step_value v d)) (λ (d : Call). seen x (step w d))
-      (seen_at c (call_at s c h)) (seen_at R (call_at s R refl)) (seeing-at (next_at s c h) cs (tail_handed c cs b)) (is_call_of x c) (pltrst_falls w c)
+      (seen_at c (call_at s c h)) (seen_at R (call_at s R refl)) (seeing-at {v = (byte_step_value v c).next} {w = (step w c).next} (next_at s c h) cs (tail_handed c cs b)) (is_call_of x c) (pltrst_falls w c)
 
   remains-at : {v : ByteWorld} {w : World} → Stands v w → (cs : List Call) → all_handed cs ≡ true → byte_remains x v cs ≡ remains x w cs
   unfolding byte_remains remains
-  remains-at s [] b = refl
+  remains-at {v} {w} s [] b = refl
   remains-at {v} {w} s (c ∷ cs) b =
       let h = head_handed c cs b in
-      ap₂ (λ (t : Bool) (l : List Call). kept (is_call_of x c) t c ++ l) (falls_at s c h) (remains-at (next_at s c h) cs (tail_handed c cs b))
+      ap₂ (λ (t : Bool) (l : List Call). kept (is_call_of x c) t c ++ l) (falls_at s c h) (remains-at {v = (byte_step_value v c).next} {w = (step w c).next} (next_at s c h) cs (tail_handed c cs b))
 
   -- runs of states that are alike, over bytes
   module _ (Same : World → World → Type 0) where
