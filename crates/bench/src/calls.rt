@@ -1,70 +1,94 @@
 // One call of an exported function, and the line that tells it.
 use crate::print;
+use std::io;
 
 // An exchange over any stores.
 pub fn lent(
+    rt: &impl Print,
     state: &mut [u8],
     command: &[u8],
     reply: &mut [u8],
     write_store: &mut [u8],
     read_store: &[u8],
-) {
+) -> io::Result<()> {
     let word = espi::espi_exchange(state, command, reply, write_store, read_store);
-    print::exchanged(command, word, reply);
+    print::exchanged(rt, command, word, reply)?;
+    Ok(())
 }
 
 fn send(
+    rt: &impl Print,
     state: &mut [u8; 174],
     write_store: &mut [u8; 256],
     read_store: &[u8; 4096],
     command: &[u8],
-) {
+) -> io::Result<()> {
     let mut reply = [0; 263];
-    lent(state, command, &mut reply, write_store, read_store);
+    lent(rt, state, command, &mut reply, write_store, read_store)?;
+    Ok(())
 }
 
 // Sends the first n bytes.
 pub fn send_part(
+    rt: &impl Print,
     state: &mut [u8; 174],
     write_store: &mut [u8; 256],
     read_store: &[u8; 4096],
     bytes: &[u8],
     n: usize,
-) {
+) -> io::Result<()> {
     if n <= bytes.len() {
-        send(state, write_store, read_store, &bytes[..n]);
+        send(rt, state, write_store, read_store, &bytes[..n])?;
     }
+    Ok(())
 }
 
-fn get_pc(state: &mut [u8; 174], write_store: &mut [u8; 256], read_store: &[u8; 4096]) {
-    send(state, write_store, read_store, &[0x01, 0x07]);
+fn get_pc(
+    rt: &impl Print,
+    state: &mut [u8; 174],
+    write_store: &mut [u8; 256],
+    read_store: &[u8; 4096],
+) -> io::Result<()> {
+    send(rt, state, write_store, read_store, &[0x01, 0x07])?;
+    Ok(())
 }
 
 // GET_PC, n times.
-pub fn pieces(state: &mut [u8; 174], write_store: &mut [u8; 256], read_store: &[u8; 4096], n: u32) {
+pub fn pieces(
+    rt: &impl Print,
+    state: &mut [u8; 174],
+    write_store: &mut [u8; 256],
+    read_store: &[u8; 4096],
+    n: u32,
+) -> io::Result<()> {
     let mut left = n;
     while left > 0 {
-        get_pc(state, write_store, read_store);
+        get_pc(rt, state, write_store, read_store)?;
         left -= 1;
     }
+    Ok(())
 }
 
-pub fn start(state: &mut [u8; 174]) {
-    print::done(b"start", espi::espi_start(state));
+pub fn start(rt: &impl Print, state: &mut [u8; 174]) -> io::Result<()> {
+    print::done(rt, b"start", espi::espi_start(state))?;
+    Ok(())
 }
 
-pub fn reset(state: &mut [u8; 174]) {
-    print::done(b"reset", espi::espi_reset(state));
+pub fn reset(rt: &impl Print, state: &mut [u8; 174]) -> io::Result<()> {
+    print::done(rt, b"reset", espi::espi_reset(state))?;
+    Ok(())
 }
 
-pub fn platform_reset(state: &mut [u8; 174]) {
-    print::done(b"platform reset", espi::espi_platform_reset(state));
+pub fn platform_reset(rt: &impl Print, state: &mut [u8; 174]) -> io::Result<()> {
+    print::done(rt, b"platform reset", espi::espi_platform_reset(state))?;
+    Ok(())
 }
 
-pub fn look(state: &[u8; 174]) {
+pub fn look(rt: &impl Print, state: &[u8; 174]) -> io::Result<()> {
     let mut report = [0; 19];
     let word = espi::espi_look(state, &mut report);
-    print::reported(b"look", word, &report);
+    print::reported(rt, b"look", word, &report)?;
+    Ok(())
 }
 
 fn length(report: &[u8; 10]) -> usize {
@@ -72,24 +96,27 @@ fn length(report: &[u8; 10]) -> usize {
 }
 
 // The report, and the data that the write store holds.
-pub fn take(state: &mut [u8; 174], write_store: &[u8; 256]) {
+pub fn take(rt: &impl Print, state: &mut [u8; 174], write_store: &[u8; 256]) -> io::Result<()> {
     let mut report = [0; 10];
     let word = espi::espi_take_write(state, write_store, &mut report);
-    print::reported(b"take", word, &report);
+    print::reported(rt, b"take", word, &report)?;
     if word == 0 {
-        print::stored(write_store, length(&report));
+        print::stored(rt, write_store, length(&report))?;
     }
+    Ok(())
 }
 
 fn answer(
+    rt: &impl Print,
     state: &mut [u8; 174],
     read_store: &mut [u8; 4096],
     serial: u32,
     success: u32,
     bytes: &[u8],
-) {
+) -> io::Result<()> {
     let word = espi::espi_answer(state, read_store, serial, success, bytes);
-    print::answered(word, serial, success, (bytes.len() % 10000) as u32);
+    print::answered(rt, word, serial, success, (bytes.len() % 10000) as u32)?;
+    Ok(())
 }
 
 // Tells the blocks of 64 apart.
@@ -107,57 +134,78 @@ fn fill(bytes: &mut [u8; 4096]) {
 
 // Answers with the first n bytes.
 pub fn answer_part(
+    rt: &impl Print,
     state: &mut [u8; 174],
     read_store: &mut [u8; 4096],
     serial: u32,
     success: u32,
     bytes: &[u8],
     n: usize,
-) {
+) -> io::Result<()> {
     if n <= bytes.len() {
-        answer(state, read_store, serial, success, &bytes[..n]);
+        answer(rt, state, read_store, serial, success, &bytes[..n])?;
     }
+    Ok(())
 }
 
 fn answer_first(
+    rt: &impl Print,
     state: &mut [u8; 174],
     read_store: &mut [u8; 4096],
     serial: u32,
     bytes: &[u8; 4096],
     n: usize,
-) {
-    answer_part(state, read_store, serial, 1, bytes, n);
+) -> io::Result<()> {
+    answer_part(rt, state, read_store, serial, 1, bytes, n)?;
+    Ok(())
 }
 
 // Success with n bytes: byte i is i plus the number of its block of 64, modulo 256.
-pub fn answer_long(state: &mut [u8; 174], read_store: &mut [u8; 4096], serial: u32, n: usize) {
+pub fn answer_long(
+    rt: &impl Print,
+    state: &mut [u8; 174],
+    read_store: &mut [u8; 4096],
+    serial: u32,
+    n: usize,
+) -> io::Result<()> {
     let mut bytes = [0; 4096];
     fill(&mut bytes);
-    answer_first(state, read_store, serial, &bytes, n);
+    answer_first(rt, state, read_store, serial, &bytes, n)?;
+    Ok(())
 }
 
-pub fn set_wire(state: &mut [u8; 174], index: u32, bit: u32, value: u32) {
+pub fn set_wire(
+    rt: &impl Print,
+    state: &mut [u8; 174],
+    index: u32,
+    bit: u32,
+    value: u32,
+) -> io::Result<()> {
     let word = espi::espi_set_wire(state, index, bit, value);
-    print::wire_set(word, index, bit, value);
+    print::wire_set(rt, word, index, bit, value)?;
+    Ok(())
 }
 
-pub fn read_wire(state: &[u8; 174], index: u32, bit: u32) {
+pub fn read_wire(rt: &impl Print, state: &[u8; 174], index: u32, bit: u32) -> io::Result<()> {
     let word = espi::espi_read_wire(state, index, bit);
-    print::wire_read(word, index, bit);
+    print::wire_read(rt, word, index, bit)?;
+    Ok(())
 }
 
-pub fn set_line(state: &mut [u8; 174], line: u32, level: u32) {
+pub fn set_line(rt: &impl Print, state: &mut [u8; 174], line: u32, level: u32) -> io::Result<()> {
     let word = espi::espi_set_line(state, line, level);
-    print::line_set(word, line, level);
+    print::line_set(rt, word, line, level)?;
+    Ok(())
 }
 
-pub fn pulse_line(state: &mut [u8; 174], line: u32) {
+pub fn pulse_line(rt: &impl Print, state: &mut [u8; 174], line: u32) -> io::Result<()> {
     let word = espi::espi_pulse_line(state, line);
-    print::line_pulsed(word, line);
+    print::line_pulsed(rt, word, line)?;
+    Ok(())
 }
 
 // Every line below n, in one line of text: the number of the last that is refused, or 0.
-pub fn set_lines(state: &mut [u8; 174], n: u32, level: u32) {
+pub fn set_lines(rt: &impl Print, state: &mut [u8; 174], n: u32, level: u32) -> io::Result<()> {
     let mut refused = 0;
     let mut line = 0;
     while line < n {
@@ -167,5 +215,6 @@ pub fn set_lines(state: &mut [u8; 174], n: u32, level: u32) {
         }
         line += 1;
     }
-    print::lines_set(refused, n, level);
+    print::lines_set(rt, refused, n, level)?;
+    Ok(())
 }

@@ -1,6 +1,8 @@
 // One line of text for each call: made in a buffer, then written.
 ghost use Rattle.std.specs.Prelude.{◌<◌};
 
+use std::io::{self, Write};
+
 // Room for the longest reply, 263 bytes at three characters each, and its command.
 const ROOM: usize = 1024;
 
@@ -80,26 +82,29 @@ fn call(line: &mut [u8; 1024], name: &[u8], word: u32) -> usize {
     decimal(line, b, number)
 }
 
-fn part(bytes: &[u8], n: usize) {
+fn part(rt: &impl Print, bytes: &[u8], n: usize) -> io::Result<()> {
     if n <= bytes.len() {
-        io::write_all(1, &bytes[..n]);
+        io::writer(rt).write_all(&bytes[..n])?;
     }
+    Ok(())
 }
 
 // Ends the line and writes it.
-fn finish(line: &mut [u8; 1024], at: usize) {
+fn finish(rt: &impl Print, line: &mut [u8; 1024], at: usize) -> io::Result<()> {
     let end = put(line, at, b'\n');
-    part(line, end);
+    part(rt, line, end)?;
+    Ok(())
 }
 
-pub fn title(words: &[u8]) {
+pub fn title(rt: &impl Print, words: &[u8]) -> io::Result<()> {
     let mut line = [0; 1024];
     let n = text(&mut line, 0, words);
-    finish(&mut line, n);
+    finish(rt, &mut line, n)?;
+    Ok(())
 }
 
 // Command and reply, or that the bus is not driven.
-pub fn exchanged(command: &[u8], word: u32, reply: &[u8]) {
+pub fn exchanged(rt: &impl Print, command: &[u8], word: u32, reply: &[u8]) -> io::Result<()> {
     let mut line = [0; 1024];
     let a = call(&mut line, b"exchange", word);
     let b = put(&mut line, a, b' ');
@@ -108,42 +113,52 @@ pub fn exchanged(command: &[u8], word: u32, reply: &[u8]) {
     let length = (word / 256) as usize;
     if length == 0 {
         let e = text(&mut line, d, b" no reply");
-        finish(&mut line, e);
-        return;
+        finish(rt, &mut line, e)?;
+        return Ok(());
     }
     let f = hex(&mut line, d, reply, length);
-    finish(&mut line, f);
+    finish(rt, &mut line, f)?;
+    Ok(())
 }
 
 // A call with no result but its number.
-pub fn done(name: &[u8], word: u32) {
+pub fn done(rt: &impl Print, name: &[u8], word: u32) -> io::Result<()> {
     let mut line = [0; 1024];
     let a = call(&mut line, name, word);
-    finish(&mut line, a);
+    finish(rt, &mut line, a)?;
+    Ok(())
 }
 
 // A call with a report, which stands only where the number is 0.
-pub fn reported(name: &[u8], word: u32, report: &[u8]) {
+pub fn reported(rt: &impl Print, name: &[u8], word: u32, report: &[u8]) -> io::Result<()> {
     let mut line = [0; 1024];
     let a = call(&mut line, name, word);
     if word != 0 {
-        finish(&mut line, a);
-        return;
+        finish(rt, &mut line, a)?;
+        return Ok(());
     }
     let b = text(&mut line, a, b"  ->");
     let c = hex(&mut line, b, report, report.len());
-    finish(&mut line, c);
+    finish(rt, &mut line, c)?;
+    Ok(())
 }
 
 // The first n bytes of the write store.
-pub fn stored(write_store: &[u8; 256], n: usize) {
+pub fn stored(rt: &impl Print, write_store: &[u8; 256], n: usize) -> io::Result<()> {
     let mut line = [0; 1024];
     let a = text(&mut line, 0, b"  write store");
     let b = hex(&mut line, a, write_store, n);
-    finish(&mut line, b);
+    finish(rt, &mut line, b)?;
+    Ok(())
 }
 
-pub fn answered(word: u32, serial: u32, success: u32, count: u32) {
+pub fn answered(
+    rt: &impl Print,
+    word: u32,
+    serial: u32,
+    success: u32,
+    count: u32,
+) -> io::Result<()> {
     let mut line = [0; 1024];
     let a = call(&mut line, b"answer", word);
     let b = text(&mut line, a, b"  serial ");
@@ -152,7 +167,8 @@ pub fn answered(word: u32, serial: u32, success: u32, count: u32) {
     let e = decimal(&mut line, d, success);
     let f = text(&mut line, e, b", bytes ");
     let g = decimal(&mut line, f, count);
-    finish(&mut line, g);
+    finish(rt, &mut line, g)?;
+    Ok(())
 }
 
 fn wire(line: &mut [u8; 1024], at: usize, index: u32, bit: u32) -> usize {
@@ -162,51 +178,57 @@ fn wire(line: &mut [u8; 1024], at: usize, index: u32, bit: u32) -> usize {
     decimal(line, c, bit)
 }
 
-pub fn wire_set(word: u32, index: u32, bit: u32, value: u32) {
+pub fn wire_set(rt: &impl Print, word: u32, index: u32, bit: u32, value: u32) -> io::Result<()> {
     let mut line = [0; 1024];
     let a = call(&mut line, b"set wire", word);
     let b = wire(&mut line, a, index, bit);
     let c = text(&mut line, b, b" = ");
     let d = decimal(&mut line, c, value);
-    finish(&mut line, d);
+    finish(rt, &mut line, d)?;
+    Ok(())
 }
 
 // The level stands only where the number is 0.
-pub fn wire_read(word: u32, index: u32, bit: u32) {
+pub fn wire_read(rt: &impl Print, word: u32, index: u32, bit: u32) -> io::Result<()> {
     let mut line = [0; 1024];
     let a = call(&mut line, b"read wire", word);
     let b = wire(&mut line, a, index, bit);
     if word % 256 != 0 {
-        finish(&mut line, b);
-        return;
+        finish(rt, &mut line, b)?;
+        return Ok(());
     }
     let c = text(&mut line, b, b" -> ");
     let d = decimal(&mut line, c, word / 256);
-    finish(&mut line, d);
+    finish(rt, &mut line, d)?;
+    Ok(())
 }
 
-fn leveled(words: &[u8], word: u32, number: u32, level: u32) {
+fn leveled(rt: &impl Print, words: &[u8], word: u32, number: u32, level: u32) -> io::Result<()> {
     let mut line = [0; 1024];
     let a = call(&mut line, b"set line", word);
     let b = text(&mut line, a, words);
     let c = decimal(&mut line, b, number);
     let d = text(&mut line, c, b" = ");
     let e = decimal(&mut line, d, level);
-    finish(&mut line, e);
+    finish(rt, &mut line, e)?;
+    Ok(())
 }
 
-pub fn line_set(word: u32, number: u32, level: u32) {
-    leveled(b"  line ", word, number, level);
+pub fn line_set(rt: &impl Print, word: u32, number: u32, level: u32) -> io::Result<()> {
+    leveled(rt, b"  line ", word, number, level)?;
+    Ok(())
 }
 
-pub fn lines_set(word: u32, n: u32, level: u32) {
-    leveled(b"  lines below ", word, n, level);
+pub fn lines_set(rt: &impl Print, word: u32, n: u32, level: u32) -> io::Result<()> {
+    leveled(rt, b"  lines below ", word, n, level)?;
+    Ok(())
 }
 
-pub fn line_pulsed(word: u32, number: u32) {
+pub fn line_pulsed(rt: &impl Print, word: u32, number: u32) -> io::Result<()> {
     let mut line = [0; 1024];
     let a = call(&mut line, b"pulse line", word);
     let b = text(&mut line, a, b"  line ");
     let c = decimal(&mut line, b, number);
-    finish(&mut line, c);
+    finish(rt, &mut line, c)?;
+    Ok(())
 }

@@ -1,5 +1,6 @@
 // A script, one call a line: a word told by its first letter, then from column 9 on bytes in hex. Any other line is a title.
 use crate::{calls, narrow, print};
+use std::io;
 
 fn nibble(c: u8) -> u8 {
     if c >= b'A' {
@@ -58,171 +59,193 @@ fn fields(line: &[u8], p: usize, bytes: &mut [u8; 1024]) -> usize {
 }
 
 fn exchange(
+    rt: &impl Print,
     state: &mut [u8; 174],
     write_store: &mut [u8; 256],
     read_store: &[u8; 4096],
     line: &[u8],
     bytes: &mut [u8; 1024],
-) {
+) -> io::Result<()> {
     let k = fields(line, 9, bytes);
-    calls::send_part(state, write_store, read_store, bytes, k);
+    calls::send_part(rt, state, write_store, read_store, bytes, k)?;
+    Ok(())
 }
 
-fn answer(state: &mut [u8; 174], read_store: &mut [u8; 4096], line: &[u8], bytes: &mut [u8; 1024]) {
+fn answer(
+    rt: &impl Print,
+    state: &mut [u8; 174],
+    read_store: &mut [u8; 4096],
+    line: &[u8],
+    bytes: &mut [u8; 1024],
+) -> io::Result<()> {
     let k = fields(line, 15, bytes);
     calls::answer_part(
+        rt,
         state,
         read_store,
         wide(field(line, 9)),
         wide(field(line, 12)),
         bytes,
         k,
-    );
+    )?;
+    Ok(())
 }
 
 // The calls that move bytes.
 fn obey_bus(
+    rt: &impl Print,
     state: &mut [u8; 174],
     write_store: &mut [u8; 256],
     read_store: &mut [u8; 4096],
     line: &[u8],
-) -> bool {
+) -> io::Result<bool> {
     let mut bytes = [0; 1024];
     let word = at(line, 0);
     if word == b'e' {
-        exchange(state, write_store, read_store, line, &mut bytes);
-        return true;
+        exchange(rt, state, write_store, read_store, line, &mut bytes)?;
+        return Ok(true);
     }
     if word == b'g' {
-        calls::pieces(state, write_store, read_store, wide(field(line, 9)));
-        return true;
+        calls::pieces(rt, state, write_store, read_store, wide(field(line, 9)))?;
+        return Ok(true);
     }
     if word == b'a' {
-        answer(state, read_store, line, &mut bytes);
-        return true;
+        answer(rt, state, read_store, line, &mut bytes)?;
+        return Ok(true);
     }
     if word == b'f' {
         let count = wide2(line, 12) as usize;
-        calls::answer_long(state, read_store, wide(field(line, 9)), count);
-        return true;
+        calls::answer_long(rt, state, read_store, wide(field(line, 9)), count)?;
+        return Ok(true);
     }
     if word == b'n' {
-        narrow::run(state, write_store, read_store);
-        return true;
+        narrow::run(rt, state, write_store, read_store)?;
+        return Ok(true);
     }
-    false
+    Ok(false)
 }
 
 // The calls on lines.
-fn obey_line(state: &mut [u8; 174], line: &[u8]) -> bool {
+fn obey_line(rt: &impl Print, state: &mut [u8; 174], line: &[u8]) -> io::Result<bool> {
     let word = at(line, 0);
     if word == b'h' {
-        calls::set_line(state, wide2(line, 9), wide(field(line, 15)));
-        return true;
+        calls::set_line(rt, state, wide2(line, 9), wide(field(line, 15)))?;
+        return Ok(true);
     }
     if word == b'm' {
-        calls::set_lines(state, wide2(line, 9), wide(field(line, 15)));
-        return true;
+        calls::set_lines(rt, state, wide2(line, 9), wide(field(line, 15)))?;
+        return Ok(true);
     }
     if word == b'i' {
-        calls::pulse_line(state, wide2(line, 9));
-        return true;
+        calls::pulse_line(rt, state, wide2(line, 9))?;
+        return Ok(true);
     }
-    false
+    Ok(false)
 }
 
 // The calls on the state alone but for lines, and the take.
-fn obey_board(state: &mut [u8; 174], write_store: &[u8; 256], line: &[u8]) -> bool {
+fn obey_board(
+    rt: &impl Print,
+    state: &mut [u8; 174],
+    write_store: &[u8; 256],
+    line: &[u8],
+) -> io::Result<bool> {
     let word = at(line, 0);
     if word == b's' {
-        calls::start(state);
-        return true;
+        calls::start(rt, state)?;
+        return Ok(true);
     }
     if word == b'r' {
-        calls::reset(state);
-        return true;
+        calls::reset(rt, state)?;
+        return Ok(true);
     }
     if word == b'p' {
-        calls::platform_reset(state);
-        return true;
+        calls::platform_reset(rt, state)?;
+        return Ok(true);
     }
     if word == b'b' {
         *state = [0xFF; 174];
-        return true;
+        return Ok(true);
     }
     if word == b'l' {
-        calls::look(state);
-        return true;
+        calls::look(rt, state)?;
+        return Ok(true);
     }
     if word == b't' {
-        calls::take(state, write_store);
-        return true;
+        calls::take(rt, state, write_store)?;
+        return Ok(true);
     }
     if word == b'w' {
         calls::set_wire(
+            rt,
             state,
             wide(field(line, 9)),
             wide(field(line, 12)),
             wide(field(line, 15)),
-        );
-        return true;
+        )?;
+        return Ok(true);
     }
     if word == b'v' {
-        calls::read_wire(state, wide(field(line, 9)), wide(field(line, 12)));
-        return true;
+        calls::read_wire(rt, state, wide(field(line, 9)), wide(field(line, 12)))?;
+        return Ok(true);
     }
-    false
+    Ok(false)
 }
 
 fn obey(
+    rt: &impl Print,
     state: &mut [u8; 174],
     write_store: &mut [u8; 256],
     read_store: &mut [u8; 4096],
     line: &[u8],
-) {
-    if obey_bus(state, write_store, read_store, line) {
-        return;
+) -> io::Result<()> {
+    if obey_bus(rt, state, write_store, read_store, line)? {
+        return Ok(());
     }
-    if obey_board(state, write_store, line) {
-        return;
+    if obey_board(rt, state, write_store, line)? {
+        return Ok(());
     }
-    if obey_line(state, line) {
-        return;
+    if obey_line(rt, state, line)? {
+        return Ok(());
     }
-    print::title(line);
+    print::title(rt, line)?;
+    Ok(())
 }
 
 // Obeys the line that began at `from`, if i ends it; where the line begins that the next character is in.
 fn step(
+    rt: &impl Print,
     state: &mut [u8; 174],
     write_store: &mut [u8; 256],
     read_store: &mut [u8; 4096],
     script: &[u8],
     from: usize,
     i: usize,
-) -> usize {
+) -> io::Result<usize> {
     if at(script, i) != b'\n' {
-        return from;
+        return Ok(from);
     }
     if from <= i {
         if i < script.len() {
-            obey(state, write_store, read_store, &script[from..i]);
-            return i + 1;
+            obey(rt, state, write_store, read_store, &script[from..i])?;
+            return Ok(i + 1);
         }
     }
-    from
+    Ok(from)
 }
 
 pub fn play(
+    rt: &impl Print,
     state: &mut [u8; 174],
     write_store: &mut [u8; 256],
     read_store: &mut [u8; 4096],
     script: &[u8],
-) {
+) -> io::Result<()> {
     let mut from = 0;
     let mut i = 0;
     while i < script.len() {
-        from = step(state, write_store, read_store, script, from, i);
+        from = step(rt, state, write_store, read_store, script, from, i)?;
         i += 1;
     }
+    Ok(())
 }

@@ -1,28 +1,46 @@
 // Plays the capture on standard input and writes a line for each entry (02, Q-2). What is said stands in `playback`; here it is read, looped and written.
 #![tactic(auto)]
 
-ghost use Rattle.std.specs.Prelude.{◌≡◌, ◌+◌, ◌≤◌, leb, length};
+ghost use Rattle.std.specs.Prelude.{◌≡◌, ◌+◌, ◌≤◌, leb, length, IfOk};
 ghost use Rattle.base.specs.Pick.{pick};
 ghost use Rattle.playback.specs.Lines.{line_length};
+
+use std::io::{self, Read, Write};
 
 // Lines are written in blocks of so many bytes; the longest line.
 const BLOCK: usize = 65536;
 
 const LINE: usize = 537;
 
-// Where the next line goes in the block: behind the last one, or at its start, all before it written, if it might not fit.
-fn room(block: &[u8], at: usize) -> usize
-    requires { (at ≤ 65536) × (length block.now ≡ 65536) }
-    ensures { (result ≡ pick (leb at 64999) at 0) × (result + line_length ≤ 65536) }
+// Reads until the input ends or there is no more room; how many bytes.
+fn read_full(rt: &impl Input, into: &mut [u8]) -> io::Result<usize>
+    ensures { IfOk result (λ n. n ≤ length into.old) }
 {
-    if at <= BLOCK - LINE {
-        return at;
+    let mut reader = rt.reader();
+    let mut n = 0;
+    while n < into.len() {
+        let more = reader.read(&mut into[n..])?;
+        if more == 0 {
+            return Ok(n);
+        }
+        n += more;
     }
-    io::write_all(1, &block[..at]);
-    0
+    Ok(n)
 }
 
-fn play(file: &[u8]) {
+// Where the next line goes in the block: behind the last one, or at its start, all before it written, if it might not fit.
+fn room(rt: &impl Print, block: &[u8], at: usize) -> io::Result<usize>
+    requires { (at ≤ 65536) × (length block.now ≡ 65536) }
+    ensures { IfOk result (λ r. (r ≡ pick (leb at 64999) at 0) × (r + line_length ≤ 65536)) }
+{
+    if at <= BLOCK - LINE {
+        return Ok(at);
+    }
+    io::writer(rt).write_all(&block[..at])?;
+    Ok(0)
+}
+
+fn play(rt: &impl Print, file: &[u8]) -> io::Result<()> {
     let mut state = [0; 174];
     let mut reply = [0; 263];
     let mut write_store = [0; 256];
@@ -32,7 +50,7 @@ fn play(file: &[u8]) {
     let mut place = begun.next;
     let mut at = begun.size;
     while 0 < place.left {
-        at = room(&block, at);
+        at = room(rt, &block, at)?;
         let said = playback::play(
             file,
             place,
@@ -45,12 +63,12 @@ fn play(file: &[u8]) {
         place = said.next;
         at += said.size;
     }
-    io::write_all(1, &block[..at]);
+    io::writer(rt).write_all(&block[..at])
 }
 
 // One byte more than a file may have, so that a longer one is seen.
-fn main() {
+fn main(rt: HostRuntime) -> io::Result<()> {
     let mut file = [0; 65537];
-    let n = io::read_full(0, &mut file);
-    play(&file[..n]);
+    let n = read_full(&rt, &mut file)?;
+    play(&rt, &file[..n])
 }

@@ -22,13 +22,13 @@ overflow_add-n c = elim c.if-b-wide.branch [ then-b-wide w ↦ omega (arith, c.l
 pub returns-then-writes : goal.returns-then-writes
 returns-then-writes c =
     elim c.if-b-wide.branch [
-      then-b-wide w ↦ counts _ _ (met_wide w.n-is w.if-b-wide.true) c.length_of.ensures.0 c.if-writes.true
+      | then-b-wide w ↦ counts _ _ (met_wide w.n-is w.if-b-wide.true) c.length_of.ensures.0 c.if-writes.true
       | else-b-wide w ↦ counts _ _ (met_narrow w.n-is w.if-b-wide.false) c.length_of.ensures.0 c.if-writes.true
     ]
 
 pub returns-else-writes : goal.returns-else-writes
 returns-else-writes c =
     elim c.if-b-wide.branch [
-      then-b-wide w ↦ counts_none _ _ (met_wide w.n-is w.if-b-wide.true) c.if-writes.false
+      | then-b-wide w ↦ counts_none _ _ (met_wide w.n-is w.if-b-wide.true) c.if-writes.false
       | else-b-wide w ↦ counts_none _ _ (met_narrow w.n-is w.if-b-wide.false) c.if-writes.false
     ]

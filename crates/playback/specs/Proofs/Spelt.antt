@@ -12,7 +12,7 @@ use Rattle.playback.specs.Spelt.{Digit, Upper, Each, number_spelt, hex_value, by
 spelt-append : (n : ℕ) (a b : List ℕ) → number_spelt n (a ++ b) ≡ number_spelt (number_spelt n a) b
 unfolding number_spelt
 spelt-append n [] b = refl
-spelt-append n (d ∷ a) b = spelt-append _ a b
+spelt-append n (d ∷ a) b = spelt-append (n * 10 + (d - 0x30)) a b
 
 each_append : (a b : List ℕ) → Each Digit a → Each Digit b → Each Digit (a ++ b)
 unfolding Each

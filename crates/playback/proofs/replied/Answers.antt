@@ -1,0 +1,5 @@
+use borrow.Author.Rules.{rules}
+use Rattle.playback.proofs.replied.Goals as goal
+
+pub returns-in-Command : goal.returns-in-Command
+returns-in-Command c = cc
