@@ -2,7 +2,8 @@
 """Holds docs/CONTRACTS.md and docs/PROMISES.md against the source. Run from the repository's root.
 
 CONTRACTS.md: a section `## CRATE` has a line 'Definitions in `FILE`, ..' and rows `| `function` | .. `definition` .. | form | requires | met by |`.
-The form `prints` is that of a program's function that has no ensures: it writes to the output, itself or by a function that it calls, and gives no result.
+The form `prints` is that of a program's function that has no ensures: it writes to the output, itself or by a function that it calls, and gives no result
+but an output error.
 Both pages: a name cited as `name` (`file`), files under crates/, is declared in that file; `Record.field` is a field of it; `x.edit` exists.
 PROMISES.md, 'Statements and proofs': a row's second name is declared with its first as type.
 The files of definitions (those that CONTRACTS.md names, all that is under WHOLE, and FURTHER): above each public definition stands the rule that it says.
@@ -67,7 +68,7 @@ def calls(name, body):
 
 def printing(crate, found):
     """The functions of a program that write to the output; none of a library."""
-    prints = {"io::write_all"} if os.path.isfile(f"crates/{crate}/src/main.rt") else set()
+    prints = {"io::writer"} if os.path.isfile(f"crates/{crate}/src/main.rt") else set()
     while True:
         more = {name for name, f in found.items() if calls(name, f.body) & prints} - prints
         if not more:
@@ -92,12 +93,15 @@ def fields(crate, ensures):
                 yield block
 
 
+OUTPUT = ("", "io::Result<()> {", "io::Result<()>")
+
+
 def form(crate, found, name):
     ensures = clause(found[name].contract, "ensures")
     if ensures and "≡" not in ensures:
         ensures = "".join(fields(crate, ensures))
     if not ensures:
-        return "prints" if name in printing(crate, found) and "->" not in found[name].contract else "none"
+        return "prints" if name in printing(crate, found) and found[name].contract.partition(" -> ")[2].split("\n")[0] in OUTPUT else "none"
     return str(ensures.count("≡")) + (" + bound" if re.search(r"[<≤]", ensures) else "")
 
 
@@ -208,8 +212,12 @@ PUBLIC = re.compile(r"^( *(?:abbrev|unfoldable) | +(?=pub (?:record|data) ))?pub
 RULE = re.compile(r'"[^"]+"|\b00, demand \d|\b01, [A-Z]|\b02, Q-\d|\b004, (?:tables? )?\d|\bdocs/STATE\.md')
 
 
+FACT = re.compile(r"(?:.*\} :)?\s*(?!(List|Bool|Type)\b)[A-Z]")
+
+
 def definitions(path):
-    """The public ones, with the comment directly above. A law is none: its name has a hyphen, or its type ends in an equation or an order."""
+    """The public ones, with the comment directly above. A law is none: its name has a hyphen, or it has no mark and its type ends in an equation, an order
+    or, where the name has two words, another fact."""
     lines = read(path).split("\n")
     for at, line in enumerate(lines):
         head = PUBLIC.match(line)
@@ -218,7 +226,8 @@ def definitions(path):
         top, end = at, at + 1
         while end < len(lines) and lines[end].startswith("  "):
             end += 1
-        if not head.group(1) and not head.group(2) and re.search(r"[≡≤<]", " ".join(lines[at:end]).split("→")[-1]):
+        result = " ".join(lines[at:end]).split("→")[-1]
+        if not head.group(1) and not head.group(2) and (re.search(r"[≡≤<]", result) or "_" in head.group(3) and FACT.match(result)):
             continue
         while top > 0 and lines[top - 1].lstrip().startswith("--"):
             top -= 1
@@ -245,7 +254,8 @@ def cited_definitions(page):
 
 def narrow(limit=160):
     """Pages, comments, code and specs keep to the width; rows of tables and `use` lines apart, which cannot be broken."""
-    for path in ["README.md"] + glob.glob("docs/*.md") + glob.glob("crates/**/*.rt", recursive=True) + glob.glob("crates/**/*.antt", recursive=True):
+    sources = [p for part in ("src", "specs", "proofs") for p in glob.glob(f"crates/*/{part}/**/*.*t*", recursive=True)]
+    for path in ["README.md"] + glob.glob("docs/*.md") + sorted(p for p in sources if p.endswith((".rt", ".antt"))):
         for at, line in enumerate(read(path).split("\n")):
             if len(line) > limit and not re.match(r"\||\s*(ghost |pub )?use ", line):
                 fault(f"{path}:{at + 1}: {len(line)} characters")

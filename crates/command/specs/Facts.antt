@@ -188,7 +188,8 @@ pub by_row : (Q : Listed → Type 0)
     → ((n : ℕ) → SizeFits n → Q (plain (O.Short MemoryWrite n) Peripheral 4 n))
     → Q Unlisted
     → (op : ℕ) → Q (row_of op)
-by_row Q put_pc_value get_pc put_np_value put_vwire get_vwire get_configuration set_configuration get_status reset io_read io_write_lem memory_read_value memory_write none op =
+by_row Q put_pc_value get_pc put_np_value put_vwire get_vwire get_configuration set_configuration get_status reset io_read io_write_lem
+    memory_read_value memory_write none op =
     pick_ind Q (eqb op 0x00) (λ _. put_pc_value)
     λ _. pick_ind Q (eqb op 0x01) (λ _. get_pc)
     λ _. pick_ind Q (eqb op 0x02) (λ _. put_np_value)

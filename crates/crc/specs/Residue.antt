@@ -84,7 +84,8 @@ divided_xor (suc k) s t hs ht =
     let q = halved k t ht in
     ap₂ (λ (x y : ℕ). bit_xor (crc_bit (divided k x)) y) (xor_shr s t 1) (xor_mod s t 1)
     ∙ ap (λ (x : ℕ). bit_xor (crc_bit x) (bit_xor (s % 2) (t % 2))) (divided_xor k (s / 2) (t / 2) p q)
-    ∙ ap (λ (x : ℕ). bit_xor x (bit_xor (s % 2) (t % 2))) (crc_bit_xor (divided k (s / 2)) (divided k (t / 2)) (divided_lt k (s / 2) p) (divided_lt k (t / 2) q))
+    ∙ ap (λ (x : ℕ). bit_xor x (bit_xor (s % 2) (t % 2))) (crc_bit_xor (divided k (s / 2)) (divided k (t / 2)) (divided_lt k (s / 2) p)
+    (divided_lt k (t / 2) q))
     ∙ xor_swap (crc_bit (divided k (s / 2))) (crc_bit (divided k (t / 2))) (s % 2) (t % 2)
 
 -- a byte's own digits

@@ -146,7 +146,8 @@ module _ (l : List ℕ) (x : Bool) where
   pub phase-at : (n : ℕ) → slice_index l 29 ≡ n
       → x ≡ (tidy_request n (slice_index l 30) (request_in l) (number4 56 l) && sound_request (np_of n (request_in l) (number4 56 l))) → x ≡ holds_request l
   phase-at n e h =
-      subst (λ (k : ℕ). x ≡ (tidy_request k (slice_index l 30) (request_in l) (number4 56 l) && sound_request (np_of k (request_in l) (number4 56 l)))) (sym e) h
+      subst (λ (k : ℕ). x ≡ (tidy_request k (slice_index l 30) (request_in l) (number4 56 l)
+      && sound_request (np_of k (request_in l) (number4 56 l)))) (sym e) h
 
 pub write_rest : (l : List ℕ) → (slice_index l 12 ≢ 0) → (slice_index l 12 ≢ 1) → false ≡ holds_write l
 write_rest l = go (slice_index l 12)

@@ -73,7 +73,8 @@ kind_back IoRead = refl
 kind_back IoWrite = refl
 
 write-back : (p t : List ℕ) (w : Write) → length p ≡ 12 → sound_write w ≡ true → fits_write w ≡ true → write_in (p ++ (write_bytes_value w ++ t)) ≡ w
-write-back p t Empty h s f = ap (λ (n : ℕ). write_of n (posted_in (p ++ (write_bytes_value Empty ++ t)))) (past p (write_bytes_value Empty ++ t) 12 0 (omega arith))
+write-back p t Empty h s f = ap (λ (n : ℕ). write_of n (posted_in (p ++ (write_bytes_value Empty ++ t))))
+    (past p (write_bytes_value Empty ++ t) 12 0 (omega arith))
 write-back p t (Held w) h s f =
     let m = held-write w s in
     let l = write_bytes_value (Held w) ++ t in

@@ -95,8 +95,10 @@ bits_at (Ready r k) q sent = (refl, refl)
 bits_at (Failed r) q sent = (refl, refl)
 
 free_at : (x t : List ℕ) (w : Write) → length x ≡ 12 → pc_free (write_in (x ++ (write_bytes_value w ++ t))) ≡ pc_free w
-free_at x t Empty h = ap (λ (n : ℕ). pc_free (write_of n (posted_in (x ++ (write_bytes_value Empty ++ t))))) (past x (write_bytes_value Empty ++ t) 12 0 (omega arith))
-free_at x t (Held w) h = ap (λ (n : ℕ). pc_free (write_of n (posted_in (x ++ (write_bytes_value (Held w) ++ t))))) (past x (write_bytes_value (Held w) ++ t) 12 0 (omega arith))
+free_at x t Empty h = ap (λ (n : ℕ). pc_free (write_of n (posted_in (x ++ (write_bytes_value Empty ++ t)))))
+    (past x (write_bytes_value Empty ++ t) 12 0 (omega arith))
+free_at x t (Held w) h = ap (λ (n : ℕ). pc_free (write_of n (posted_in (x ++ (write_bytes_value (Held w) ++ t)))))
+    (past x (write_bytes_value (Held w) ++ t) 12 0 (omega arith))
 
 status-at : (x t : List ℕ) (q : Peripheral) → length x ≡ 12 → peripheral_status (peripheral_in (x ++ (peripheral_bytes q ++ t))) ≡ peripheral_status q
 status-at x t q h =
@@ -119,7 +121,8 @@ pub status-stored : (q : Peripheral) (l : List ℕ) → 12 ≤ length l → peri
 unfolding put
 status-stored q l h =
     let t = drop (12 + length (peripheral_bytes q)) l in
-    ap (λ (z : List ℕ). peripheral_status (peripheral_in z)) (append_assoc (take 12 l) (peripheral_bytes q) t) ∙ status-at (take 12 l) t q (length-take-le 12 l h)
+    ap (λ (z : List ℕ). peripheral_status (peripheral_in z)) (append_assoc (take 12 l) (peripheral_bytes q) t)
+    ∙ status-at (take 12 l) t q (length-take-le 12 l h)
 
 -- ---- what a hand-over leaves, by what is handed over
 

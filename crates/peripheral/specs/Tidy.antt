@@ -84,7 +84,8 @@ peripheral_again l byte e =
 
 -- ---- a packed channel passes
 
-write-tidy : (p t : List ℕ) (w : Write) → length p ≡ 12 → tidy_write (slice_index (p ++ (write_bytes_value w ++ t)) 12) (posted_in (p ++ (write_bytes_value w ++ t))) ≡ true
+write-tidy : (p t : List ℕ) (w : Write) → length p ≡ 12 → tidy_write (slice_index (p ++ (write_bytes_value w ++ t)) 12)
+    (posted_in (p ++ (write_bytes_value w ++ t))) ≡ true
 write-tidy p t Empty h =
     let l = write_bytes_value Empty ++ t in
     ap (tidy_write (slice_index (p ++ l) 12)) (posted_at p l h) ∙ rw (past p l 12 0 (omega arith))

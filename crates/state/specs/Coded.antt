@@ -25,7 +25,8 @@ module _ (s : State) (l : List ℕ) where
 
   pub packed-then : (k : Channel) {m n : List ℕ} → n ≡ put (place k) (part_bytes_value k (part k s)) m → m ≡ over (front k s) l
       → n ≡ over (front k s ++ part_bytes_value k (part k s)) l
-  packed-then k e f = e ∙ ap (put (place k) (part_bytes_value k (part k s))) f ∙ put-over (front k s) (part_bytes_value k (part k s)) l (place k) (front_length k s)
+  packed-then k e f = e ∙ ap (put (place k) (part_bytes_value k (part k s))) f
+      ∙ put-over (front k s) (part_bytes_value k (part k s)) l (place k) (front_length k s)
 
   pub packed-done : {m : List ℕ} → m ≡ over (front last s ++ part_bytes_value last (part last s)) l → m ≡ over (packed s) l
   packed-done e = e ∙ ap (λ (z : List ℕ). over z l) (sym (packed_ends s))

@@ -98,7 +98,8 @@ part_same peripheral a b e = peripheral_same a b (λ n h. e n (omega arith))
 part_same wires a b e = all_same a b (λ n h. e n (omega arith))
 
 -- tidy bytes are those of the part that they make, and a part's are tidy
-pub part_again : (k : Channel) (l : List ℕ) → ((n : ℕ) → get_or l n 0 < 256) → tidy_part k l ≡ true → part_bytes_value k (part_in k l) ≡ listed (size k) (place k) l
+pub part_again : (k : Channel) (l : List ℕ) → ((n : ℕ) → get_or l n 0 < 256) → tidy_part k l ≡ true
+    → part_bytes_value k (part_in k l) ≡ listed (size k) (place k) l
 part_again peripheral l byte e = peripheral_again l byte e
 part_again wires l byte e = all_again l byte e
 

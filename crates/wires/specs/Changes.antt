@@ -114,7 +114,8 @@ module _ (j bit : ℕ) (down : is_down j ≡ true) (small : bit < 4) where
           (and_bit (b / 16) (row_at (j - 2)).defined bit ∙ ap (bit_and z) one ∙ and_one z (binary (b / 16 / 2 ^ bit)))
       go false q = pair_other w i b (λ x. eqb-false i j q (sym x))
 
-  pair_undefined : (row_at (j - 2)).defined / 2 ^ bit % 2 ≡ 0 → (w : Wires) (i b : ℕ) → whole_wires w ≡ true → read_wire (put_pair w i b) j bit ≡ read_wire w j bit
+  pair_undefined : (row_at (j - 2)).defined / 2 ^ bit % 2 ≡ 0 → (w : Wires) (i b : ℕ) → whole_wires w ≡ true
+      → read_wire (put_pair w i b) j bit ≡ read_wire w j bit
   pair_undefined none w i b e = go (eqb i j) refl
     where
       go : (t : Bool) → eqb i j ≡ t → read_wire (put_pair w i b) j bit ≡ read_wire w j bit

@@ -96,7 +96,8 @@ pair_next c l i h =
 
 -- the pair at place i of n, then those after it
 pub pairs_next : (c : Course) (l : List ℕ) (n i : ℕ) → i < n → n * 2 ≤ length l
-    → past_pairs (past_pair c (get_or l (i * 2) 0) (get_or l (i * 2 + 1) 0)) (drop ((i + 1) * 2) (take (n * 2) l)) ≡ past_pairs c (drop (i * 2) (take (n * 2) l))
+    → past_pairs (past_pair c (get_or l (i * 2) 0) (get_or l (i * 2 + 1) 0)) (drop ((i + 1) * 2) (take (n * 2) l))
+    ≡ past_pairs c (drop (i * 2) (take (n * 2) l))
 pairs_next c l n i h k =
     sym
     (pair_next c (take (n * 2) l) i (simp length-take (omega arith))

@@ -549,7 +549,8 @@ tidy-marks l e k h =
     (and_true (and_right (m 74) _ e₄) (and_true (and_left (m 74) _ e₄) (and_true (and_left (m 73) _ e₃) (and_true (and_left (m 72) _ e₂)
     (and_true (and_left (m 71) _ e₁) (and_true (and_left (m 70) _ e) refl)))))) k h)
 
-module _ (l r : List ℕ) (p : Packet) (ask : Sendable l r p) (bytes : (k : ℕ) → get_or l k 0 < 256) (q : ℕ) (place : q ≡ get_or l 76 0 + get_or l 77 0 * 256) where
+module _ (l r : List ℕ) (p : Packet) (ask : Sendable l r p) (bytes : (k : ℕ) → get_or l k 0 < 256) (q : ℕ)
+    (place : q ≡ get_or l 76 0 + get_or l 77 0 * 256) where
   -- going round as a packet begins: nobody asked, all of its room left (01, Wires: "GET_VWIRE")
   abbrev pub begun : Going
   begun = record { sender = p.place; left = left_for p.capacity 259; room = p.capacity; at = 2; place = q }

@@ -25,7 +25,8 @@ abbrev pub wires_in : List ℕ → Wires
 wires_in l =
     record {
       level = get_or l 64 0 ∷ get_or l 65 0 ∷ get_or l 66 0 ∷ get_or l 67 0 ∷ get_or l 68 0 ∷ get_or l 69 0 ∷ [];
-      pending = eqb (get_or l 70 0) 1 ∷ eqb (get_or l 71 0) 1 ∷ eqb (get_or l 72 0) 1 ∷ eqb (get_or l 73 0) 1 ∷ eqb (get_or l 74 0) 1 ∷ eqb (get_or l 75 0) 1 ∷ [];
+      pending = eqb (get_or l 70 0) 1 ∷ eqb (get_or l 71 0) 1 ∷ eqb (get_or l 72 0) 1 ∷ eqb (get_or l 73 0) 1 ∷ eqb (get_or l 74 0) 1
+          ∷ eqb (get_or l 75 0) 1 ∷ [];
       place = get_or l 76 0 + get_or l 77 0 * 256;
     }
 
@@ -54,7 +55,8 @@ holds_all on count l = tidy_wires l && sound_all on count (all_in l)
 -- the same of the levels' six bytes: "undefined wire bits are 0" (01, Sound state)
 abbrev pub levels_fit : List ℕ → Bool
 levels_fit l =
-    in_row 0 (get_or l 0 0) && in_row 1 (get_or l 1 0) && in_row 2 (get_or l 2 0) && in_row 3 (get_or l 3 0) && in_row 4 (get_or l 4 0) && in_row 5 (get_or l 5 0)
+    in_row 0 (get_or l 0 0) && in_row 1 (get_or l 1 0) && in_row 2 (get_or l 2 0) && in_row 3 (get_or l 3 0) && in_row 4 (get_or l 4 0)
+    && in_row 5 (get_or l 5 0)
 
 -- .. of six marks, of groups 2 to 7: 0 or 1, and "up groups alone are pending, and none while channel 1 is off" (01, Sound state)
 abbrev pub marks_fit : Bool → (a b c d e f : ℕ) → Bool

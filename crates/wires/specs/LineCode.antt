@@ -284,7 +284,8 @@ cleared_to at l i = paste l at three_empty (i - at)
 pub cleared_none : (at : ℕ) (l : List ℕ) → l ≡ cleared_to at l at
 cleared_none at l = let z : 0 ≡ at - at = omega arith in paste-zero l at three_empty ∙ ap (paste l at three_empty) z
 
-pub cleared_next : (at : ℕ) (l is : List ℕ) (i : ℕ) → 174 ≤ length l → 78 ≤ at → at ≤ i → i < 174 → is ≡ cleared_to at l i → set is i 0 ≡ cleared_to at l (i + 1)
+pub cleared_next : (at : ℕ) (l is : List ℕ) (i : ℕ) → 174 ≤ length l → 78 ≤ at → at ≤ i → i < 174 → is ≡ cleared_to at l i
+    → set is i 0 ≡ cleared_to at l (i + 1)
 cleared_next at l is i h ha hi b e =
     let k = i - at in
     let p : i ≡ at + k = omega arith in
@@ -387,7 +388,8 @@ module _ (l : List ℕ) (fits : 174 ≤ length l) (byte : (j : ℕ) → get_or l
       let long = length-put 78 no_bits_value l (omega arith) in
       let mid = put 110 no_bits_value first in
       let still = length-put 110 no_bits_value first (omega arith) in
-      sym (ap (put 142 no_bits_value) (put-put 78 110 no_bits_value no_bits_value l (omega arith) refl) ∙ put-put 78 142 (no_bits_value ++ no_bits_value) no_bits_value l (omega arith) refl)
+      sym (ap (put 142 no_bits_value) (put-put 78 110 no_bits_value no_bits_value l (omega arith) refl)
+      ∙ put-put 78 142 (no_bits_value ++ no_bits_value) no_bits_value l (omega arith) refl)
       ∙ stored l (put 142 no_bits_value mid) no_lines fits
       (beside-map 142 no_bits_value mid refl (omega arith) l (omega arith) (omega arith) zero_small
       (beside-map 110 no_bits_value first refl (omega arith) l (omega arith) (omega arith) zero_small

@@ -96,7 +96,8 @@ sender k l h =
     let j = k - line_count in
     let q : line_count + j ≡ k = omega arith in
     subst Sender q
-    (go j (at_every up_groups (λ (j : ℕ). is_up (group_at (line_count + j)) && eqb (sender_of (group_at (line_count + j))) (line_count + j)) refl j (omega arith)))
+    (go j (at_every up_groups (λ (j : ℕ). is_up (group_at (line_count + j)) && eqb (sender_of (group_at (line_count + j))) (line_count + j)) refl j
+    (omega arith)))
   where
     go : (j : ℕ) → is_up (group_at (line_count + j)) && eqb (sender_of (group_at (line_count + j))) (line_count + j) ≡ true → Sender (line_count + j)
     go j e = record { up = and_left (is_up (group_at (line_count + j))) _ e; own = eqb-true _ _ (and_right (is_up (group_at (line_count + j))) _ e) }

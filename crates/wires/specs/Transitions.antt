@@ -63,7 +63,8 @@ none_third w ps f =
     none_at (length table) (λ (at : ℕ). some 4 (third_of w ps (at + 2))) (λ at h. none_at 4 (third_of w ps (at + 2)) (λ k l. f (at + 2) k (omega arith) l))
 
 -- without a third transition a wire of the host's has two at most
-pub two_at_most : (w : Wires) (ps : List ℕ) → third_transition w ps ≡ false → (i k : ℕ) → is_down i ≡ true → defined_bit i k ≡ true → transitions_of w ps i k ≤ 2
+pub two_at_most : (w : Wires) (ps : List ℕ) → third_transition w ps ≡ false → (i k : ℕ) → is_down i ≡ true → defined_bit i k ≡ true
+    → transitions_of w ps i k ≤ 2
 two_at_most w ps e i k d f =
     ltb-false 2 (transitions_of w ps i k)
     (sym (ap₂ (λ (s t : Bool). s && (t && ltb 2 (transitions_of w ps i k))) d f) ∙ third_at w ps e i k (defined-bit i k f).small)

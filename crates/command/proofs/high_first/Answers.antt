@@ -9,9 +9,6 @@ use Rattle.command.proofs.high_first.Goals as goal
 pub overflow_mul-v : goal.overflow_mul-v
 overflow_mul-v c = omega (arith, within 7 _ _ (omega arith) c.loop-i.invariant.1.1)
 
--- ?? no goal Need-overflow-cast-v-2
--- cast-v-2 c = record { fits = omega (arith, c.shared-slice-known.given (c.before.before.before.args.at + c.before.before.loop.i)) }
-
 pub overflow_add-v-in-loop-i : goal.overflow_add-v-in-loop-i
 overflow_add-v-in-loop-i c =
     let l = c.loop-i in

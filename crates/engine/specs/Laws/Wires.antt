@@ -192,7 +192,8 @@ module _ (c : Config) (l : List ℕ) (line level : ℕ) where
   line_none ok e t = ap (λ (x : WiresChange). settled_by x l) (taken (change (all_in l) (number 22)) _ (denied e t) refl)
 
   module _ (ok : Bool) (e : ok ≡ line_level_ok line level) (t : not ok ≡ false) where
-    pub line_busy_lem : (waits : Bool) → waits ≡ line_bit (lines_in l).edges line → waits ≡ true → settled_to 24 l ≡ settled_by (setting_line c (all_in l) line level) l
+    pub line_busy_lem : (waits : Bool) → waits ≡ line_bit (lines_in l).edges line → waits ≡ true
+        → settled_to 24 l ≡ settled_by (setting_line c (all_in l) line level) l
     unfolding setting_line
     line_busy_lem waits f u =
         ap (λ (x : WiresChange). settled_by x l) (passed _ _ (denied e t) (taken (change (all_in l) (number 24)) _ (sym f ∙ u) refl))

@@ -27,14 +27,16 @@ returns-then-reply-lt-REPLY c =
 pub returns-then-write_store-lt-WRITE_STORE : goal.returns-then-write_store-lt-WRITE_STORE
 unfolding exchange_call
 returns-then-write_store-lt-WRITE_STORE c =
-    passed _ _ (le-ltb _ _ c.if-state-lt-STATE.false) (passed _ _ (le-ltb _ _ c.if-reply-lt-REPLY.false) (taken _ _ (lt-ltb _ _ c.if-write_store-lt-WRITE_STORE.true) refl))
+    passed _ _ (le-ltb _ _ c.if-state-lt-STATE.false) (passed _ _ (le-ltb _ _ c.if-reply-lt-REPLY.false)
+    (taken _ _ (lt-ltb _ _ c.if-write_store-lt-WRITE_STORE.true) refl))
 
 -- src/lib.rt:132:9
 pub returns-then-read_store-lt-READ_STORE : goal.returns-then-read_store-lt-READ_STORE
 unfolding exchange_call
 returns-then-read_store-lt-READ_STORE c =
     passed _ _ (le-ltb _ _ c.if-state-lt-STATE.false)
-    (passed _ _ (le-ltb _ _ c.if-reply-lt-REPLY.false) (passed _ _ (le-ltb _ _ c.if-write_store-lt-WRITE_STORE.false) (taken _ _ (lt-ltb _ _ c.if-read_store-lt-READ_STORE.true) refl)))
+    (passed _ _ (le-ltb _ _ c.if-reply-lt-REPLY.false) (passed _ _ (le-ltb _ _ c.if-write_store-lt-WRITE_STORE.false)
+    (taken _ _ (lt-ltb _ _ c.if-read_store-lt-READ_STORE.true) refl)))
 
 -- src/lib.rt:135:9
 pub returns-then-not-holds : goal.returns-then-not-holds

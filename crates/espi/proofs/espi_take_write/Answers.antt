@@ -22,7 +22,8 @@ returns-then-write_store-lt-WRITE_STORE c = passed _ _ (le-ltb _ _ c.if-state-lt
 pub returns-then-report-lt-TAKE_REPORT : goal.returns-then-report-lt-TAKE_REPORT
 unfolding take_write_call P.settle
 returns-then-report-lt-TAKE_REPORT c =
-    passed _ _ (le-ltb _ _ c.if-state-lt-STATE.false) (passed _ _ (le-ltb _ _ c.if-write_store-lt-WRITE_STORE.false) (taken _ _ (lt-ltb _ _ c.if-report-lt-TAKE_REPORT.true) refl))
+    passed _ _ (le-ltb _ _ c.if-state-lt-STATE.false) (passed _ _ (le-ltb _ _ c.if-write_store-lt-WRITE_STORE.false)
+    (taken _ _ (lt-ltb _ _ c.if-report-lt-TAKE_REPORT.true) refl))
 
 pub returns-then-not-holds : goal.returns-then-not-holds
 unfolding take_write_call P.settle

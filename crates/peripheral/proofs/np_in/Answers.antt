@@ -14,4 +14,5 @@ returns-in-2 c = simp (c.get4.ensures, c.request_in-in-2.ensures, c.in-2.is)
 
 pub returns-in_default : goal.returns-in_default
 returns-in_default c =
-    ap Failed c.request_in-in_default.ensures ∙ np_of_rest _ _ _ c.in_default.in_default-own.rest.0.0.1 c.in_default.in_default-own.rest.0.1 c.in_default.in_default-own.rest.1
+    ap Failed c.request_in-in_default.ensures ∙ np_of_rest _ _ _ c.in_default.in_default-own.rest.0.0.1 c.in_default.in_default-own.rest.0.1
+    c.in_default.in_default-own.rest.1

@@ -78,7 +78,8 @@ back : (l : List ℕ) → AllBytes l → bytes_spelt (hex_of l) ≡ l
 unfolding bytes_spelt hex_of
 back [] a = refl
 back (b ∷ l) a =
-    let e : hex_value (upper_of (b / 16)) * 16 + hex_value (upper_of (b % 16)) ≡ b = rw (hex_value_lem (b / 16) (high a), hex_value_lem (b % 16) (low a)) (omega arith) in
+    let e : hex_value (upper_of (b / 16)) * 16 + hex_value (upper_of (b % 16)) ≡ b =
+    rw (hex_value_lem (b / 16) (high a), hex_value_lem (b % 16) (low a)) (omega arith) in
     rw (e, back l (rest a))
 
 upper : (l : List ℕ) → AllBytes l → Each Upper (hex_of l)

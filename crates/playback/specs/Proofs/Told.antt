@@ -100,7 +100,8 @@ module _ {v : ByteWorld} {w : World} (s : Stands v w) (lent : List ℕ) (long : 
         long = rw (g x) long;
       }
 
-  entry_tells : (k : Kind) (body : List ℕ) → AllBytes body → Tells k lent (byte_step_value v (call_of k body lent)) (step w (call_of k body (zeros reply_length)))
+  entry_tells : (k : Kind) (body : List ℕ) → AllBytes body → Tells k lent (byte_step_value v (call_of k body lent))
+      (step w (call_of k body (zeros reply_length)))
   unfolding byte_step_value
   entry_tells Command body a =
       subst (Tells Command lent (byte_step_value v (exchange body lent)))

@@ -82,12 +82,14 @@ module _ {A : Type 0} (f : ByteWorld → List Call → A) (g : World → List Ca
     → f (byte_step_value v c).next cs ≡ g (step w c).next cs → f v (c ∷ cs) ≡ g w (c ∷ cs)) where
   along : {v : ByteWorld} {w : World} → Stands v w → (cs : List Call) → all_handed cs ≡ true → f v cs ≡ g w cs
   along {v} {w} s [] b = none v w
-  along {v} {w} s (c ∷ cs) b = let h = head_handed c cs b in more v w s c cs h (along {v = (byte_step_value v c).next} {w = (step w c).next} (next_at s c h) cs (tail_handed c cs b))
+  along {v} {w} s (c ∷ cs) b = let h = head_handed c cs b in more v w s c cs h
+      (along {v = (byte_step_value v c).next} {w = (step w c).next} (next_at s c h) cs (tail_handed c cs b))
 
 module _ {v : ByteWorld} {w : World} (s : Stands v w) (cs : List Call) (b : all_handed cs ≡ true) where
   pub without_at : (p : Event → Bool) → byte_without (λ v c. p (byte_event v c)) v cs ≡ without (λ w c. p (event w c)) w cs
   unfolding byte_without without
-  without_at p = along (byte_without (λ v c. p (byte_event v c))) (without (λ w c. p (event w c))) (λ v w. refl) (λ v w s c cs h e. rw (event-at s c h, e)) s cs b
+  without_at p = along (byte_without (λ v c. p (byte_event v c))) (without (λ w c. p (event w c))) (λ v w. refl)
+      (λ v w s c cs h e. rw (event-at s c h, e)) s cs b
 
   pub unhindered_at : byte_without byte_edge_refuses v cs ≡ without edge_refuses w cs
   unfolding byte_without without
@@ -136,5 +138,8 @@ pub handed-on : {v : ByteWorld} {w : World} → Stands v w → (cs : List Call) 
 unfolding byte_handed_on store_handed_on
 handed-on {v} {w} s [] b k = tt
 handed-on {v} {w} s (c ∷ cs) b k =
-    let h = head_handed c cs b in
-    (subst (λ (t : World). same_store (λ (x : World). x.read) t c) s.world k.0, handed-on {v = (byte_step_value v c).next} {w = (step w c).next} (next_at s c h) cs (tail_handed c cs b) k.1)
+    let h = head_handed c cs b in (
+      subst (λ (t : World). same_store (λ (x : World). x.read) t c) s.world k.0,
+      handed-on {v = (byte_step_value v c).next} {w = (step w c).next}
+          (next_at s c h) cs (tail_handed c cs b) k.1,
+    )

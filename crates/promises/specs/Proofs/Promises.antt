@@ -125,7 +125,8 @@ module _ {v : ByteWorld} {w : World} (s : Stands v w) (cs : List Call) (b : all_
   count : length (byte_got v cs) ≡ length (got w cs)
   count = ap length (got-at s cs b)
 
-  count_with : (c : Call) → handed_over c ≡ true → length (byte_got v cs) + length (byte_got_by (byte_run v cs) c) ≡ length (got w cs) + length (got_by (run w cs) c)
+  count_with : (c : Call) → handed_over c ≡ true → length (byte_got v cs) + length (byte_got_by (byte_run v cs) c)
+      ≡ length (got w cs) + length (got_by (run w cs) c)
   count_with c h = rw (got-at s cs b, got_by_lem place c h)
 
   deliver_at : (N : ℕ) (body : ℕ → List ℕ) → D.Delivers N body w cs → Delivers N body v cs
@@ -351,7 +352,8 @@ first v h q xs b k u n success d t =
     ∙ sym (event-at (run_at s xs hb) (answers_with (serial_in (byte_step_value v q).next) success d) refl) ∙ t)
 
 -- an answer that names the serial in the state bytes of u, where v holds what is there now
-answer_word : {v u : ByteWorld} {w x : World} → Stands v w → Stands u x → (success : ℕ) (d : List ℕ) → (step w (answers_with (serial_of x) success d)).number ≡ 20
+answer_word : {v u : ByteWorld} {w x : World} → Stands v w → Stands u x → (success : ℕ) (d : List ℕ)
+    → (step w (answers_with (serial_of x) success d)).number ≡ 20
     → (byte_step_value v (answers_with (serial_in u) success d)).word ≡ 20
 answer_word {v} {u} {w} s t success d e =
     subst (λ (z : State). (byte_step_value v (answers_with z.peripheral.serial success d)).word ≡ 20) (sym (state_at t))
@@ -470,16 +472,20 @@ module _ (x : Channel) where
   seeing-at {v} {w} s (c ∷ cs) b =
       let h = head_handed c cs b in
       let R = reset platform_reset in
-      ap (λ (t : Bool). map (λ (d : Call). byte_seen x (byte_step_value v d)) (kept (is_call_of x c) t c) ++ byte_seeing x (byte_step_value v c).next cs) (falls_at s c h)
-      ∙ one_more c (remains x (step w c).next cs) (seeing x (step w c).next cs) (λ (d : Call). byte_seen x (byte_step_value v d)) (λ (d : Call). seen x (step w d))
-      (seen_at c (call_at s c h)) (seen_at R (call_at s R refl)) (seeing-at {v = (byte_step_value v c).next} {w = (step w c).next} (next_at s c h) cs (tail_handed c cs b)) (is_call_of x c) (pltrst_falls w c)
+      ap (λ (t : Bool). map (λ (d : Call). byte_seen x (byte_step_value v d)) (kept (is_call_of x c) t c)
+      ++ byte_seeing x (byte_step_value v c).next cs) (falls_at s c h)
+      ∙ one_more c (remains x (step w c).next cs) (seeing x (step w c).next cs) (λ (d : Call). byte_seen x (byte_step_value v d))
+      (λ (d : Call). seen x (step w d))
+      (seen_at c (call_at s c h)) (seen_at R (call_at s R refl)) (seeing-at {v = (byte_step_value v c).next} {w = (step w c).next} (next_at s c h) cs
+      (tail_handed c cs b)) (is_call_of x c) (pltrst_falls w c)
 
   remains-at : {v : ByteWorld} {w : World} → Stands v w → (cs : List Call) → all_handed cs ≡ true → byte_remains x v cs ≡ remains x w cs
   unfolding byte_remains remains
   remains-at {v} {w} s [] b = refl
   remains-at {v} {w} s (c ∷ cs) b =
       let h = head_handed c cs b in
-      ap₂ (λ (t : Bool) (l : List Call). kept (is_call_of x c) t c ++ l) (falls_at s c h) (remains-at {v = (byte_step_value v c).next} {w = (step w c).next} (next_at s c h) cs (tail_handed c cs b))
+      ap₂ (λ (t : Bool) (l : List Call). kept (is_call_of x c) t c ++ l) (falls_at s c h)
+      (remains-at {v = (byte_step_value v c).next} {w = (step w c).next} (next_at s c h) cs (tail_handed c cs b))
 
   -- runs of states that are alike, over bytes
   module _ (Same : World → World → Type 0) where

@@ -68,7 +68,8 @@ pub record InBytes (v : ByteWorld) (c : Call) : Type 0 where
   pub ask : Exactly (byte_event v c ≡ asks) (Accepts v c (NonPosted c))
   pub tell : Exactly (byte_event v c ≡ tells) (Accepts v c (Answer c))
   pub end : Exactly (byte_event v c ≡ R.ends) (byte_ends peripheral v c ≡ true)
-  pub ends : (k : Channel) → Exactly (byte_ends k v c ≡ true) (Accepts v c (Ending k (state_in v).config (byte_pltrst v) (byte_pltrst (byte_step_value v c).next) c))
+  pub ends : (k : Channel) → Exactly (byte_ends k v c ≡ true) (Accepts v c
+      (Ending k (state_in v).config (byte_pltrst v) (byte_pltrst (byte_step_value v c).next) c))
 
 -- of every call on bytes that hold a state: so of every call of every run (`Bridge`) (the words of 00, demand 3)
 abbrev pub EventsInBytes : Type 0
@@ -103,7 +104,8 @@ pub record Over (x : ByteOutcome) : Type 0 where
 pub record Delivers (N : ℕ) (body : ℕ → List ℕ) (v : ByteWorld) (cs : List Call) : Type 0 where
   -- (b) the reply store begins with exactly ACCEPT, the next body, status and CRC, and the word's value is their count
   pub in_order_lem : (c : Call) → handed_over c ≡ true → byte_event (byte_run v cs) c ≡ gets → length (byte_got v cs) < N
-      → reply_in (byte_step_value (byte_run v cs) c) ≡ closed (0x08 ∷ body (length (byte_got v cs))) (status (state_in (byte_step_value (byte_run v cs) c).next))
+      → reply_in (byte_step_value (byte_run v cs) c) ≡ closed (0x08 ∷ body (length (byte_got v cs)))
+      (status (state_in (byte_step_value (byte_run v cs) c).next))
   -- (c)
   pub accepts : (check : ℕ) (reply : List ℕ) → check < 256 → length (byte_got v cs) < N → reply_length ≤ length reply
       → write_length ≤ length (byte_run v cs).write → read_length ≤ length (byte_run v cs).read → crc_fine (state_in (byte_run v cs)) (0x01 ∷ check ∷ []) ≡ true
@@ -247,7 +249,8 @@ LateAnswer = (v : ByteWorld) → Holding v → (q : Call) (cs : List Call) → a
 abbrev pub DroppedAnswer : Type 0
 DroppedAnswer = (v : ByteWorld) → Holding v → (q : Call) (xs : List Call) (e : Call) (cs : List Call) → all_handed (q ∷ xs ++ e ∷ cs) ≡ true
     → byte_event v q ≡ asks
-    → byte_ends peripheral (byte_since v q xs) e ≡ true → no_start_value (xs ++ e ∷ cs) ≡ true → byte_asked_times (byte_step_value v q).next (xs ++ e ∷ cs) < 2 ^ 32
+    → byte_ends peripheral (byte_since v q xs) e ≡ true → no_start_value (xs ++ e ∷ cs) ≡ true
+    → byte_asked_times (byte_step_value v q).next (xs ++ e ∷ cs) < 2 ^ 32
     → (success : ℕ) (d : List ℕ) → read_length ≤ length (byte_since v q (xs ++ e ∷ cs)).read
     → (byte_step_value (byte_since v q (xs ++ e ∷ cs)) (answers_with (serial_in (byte_step_value v q).next) success d)).word ≡ 20
 

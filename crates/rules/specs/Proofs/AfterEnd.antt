@@ -65,7 +65,8 @@ module _ (w : World) (c : Call) (cs : List Call) (s : Story (step w c).next cs) 
   still n e (inl t) = inl (told_later (rw e at t))
   still n e (inr t) = inr (asked_later t)
 
-  waiting_story : (k : Event) → event w c ≡ k → (q : Request) → held w ≡ Waiting q → Move w c (step w c) k → ToldIn (serial_of w) w (c ∷ cs) ⊎ AskedIn w (c ∷ cs)
+  waiting_story : (k : Event) → event w c ≡ k → (q : Request) → held w ≡ Waiting q → Move w c (step w c) k
+      → ToldIn (serial_of w) w (c ∷ cs) ⊎ AskedIn w (c ∷ cs)
   unfolding run upward
   waiting_story k e q h (same a b d x) = still _ b (s.from_waiting q (a ∙ h))
   waiting_story k e q h (asked b r f a n m d y x) = absurd (true≢false (cc))

@@ -177,7 +177,8 @@ record Takes (q : Request) (w : World) (success : ℕ) (d : List ℕ) (o : Outco
   request : held o.next ≡ answered_as q (succeeded success)
   read : o.next.read ≡ over d w.read
 
-answered_as_lem : (q : Request) {w : World} {serial success : ℕ} {d : List ℕ} {o : Outcome} → held w ≡ Waiting q → Move w (answers_with serial success d) o tells
+answered_as_lem : (q : Request) {w : World} {serial success : ℕ} {d : List ℕ} {o : Outcome} → held w ≡ Waiting q
+    → Move w (answers_with serial success d) o tells
     → Takes q w success d o
 answered_as_lem q {w} {serial} {success} {d} {o} h (told p m t e f a b i n v r z) =
     let x : p ≡ q = cc in

@@ -125,7 +125,8 @@ sci =
     }
 
 sci-world : run fresh (send on1 ∷ set_wire 6 0 0 ∷ []) ≡ world 0x00000001 sci
-unfolding step run performed served over crc crc_from crc_byte shifts crc_bit after with_bit any_bit set_line pulse_line admit all_ff status any_pending any lift
+unfolding step run performed served over crc crc_from crc_byte shifts crc_bit after with_bit any_bit set_line pulse_line admit all_ff status
+    any_pending any lift
     W.setting W.setting_line W.pulsing_line W.settle E.set_configuration E.decide E.exchange closed reply_bytes
 sci-world = refl
 
@@ -217,7 +218,8 @@ unfolding after_sent after with_bit
 left₂ = refl
 
 world₁ : run fresh (three_wait []) ≡ world 0x00010001 wires₁
-unfolding step run performed served over crc crc_from crc_byte shifts crc_bit after with_bit any_bit set_line pulse_line admit all_ff status any_pending any lift
+unfolding step run performed served over crc crc_from crc_byte shifts crc_bit after with_bit any_bit set_line pulse_line admit all_ff status
+    any_pending any lift
     W.setting W.setting_line W.pulsing_line W.settle E.set_configuration E.decide E.exchange closed reply_bytes
 world₁ = refl
 

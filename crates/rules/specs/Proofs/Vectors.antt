@@ -38,33 +38,48 @@ joined (suc n) (r ∷ rs) a b = (a.0, (a.1.0, joined n rs a.1.1 b))
 -- ---- rows by computing; those of GET_VWIRE: Proofs/Packets
 
 from_0 : Holds (take 6 (drop 0 rows))
-unfolding rows step run performed served over crc crc_from crc_byte shifts crc_bit size_of after turn sizes put_pairs any with_bit any_bit set_line pulse_line sent_from
-    after_sent pair_bytes any_pending values_given transitions third_transition mark_of next_size next_mark all_ff admit upward handed status lift P.post P.ask P.get_pc
-    P.answer_to P.taken P.settle W.put_vwire W.get_vwire W.setting W.setting_line W.pulsing_line W.settle E.set_configuration E.decide E.exchange closed reply_bytes
+unfolding rows step run performed served over crc crc_from crc_byte shifts crc_bit size_of after turn sizes put_pairs any with_bit any_bit set_line
+    pulse_line sent_from
+    after_sent pair_bytes any_pending values_given transitions third_transition mark_of next_size next_mark all_ff admit upward handed status lift
+    P.post P.ask P.get_pc
+    P.answer_to P.taken P.settle W.put_vwire W.get_vwire W.setting W.setting_line W.pulsing_line W.settle E.set_configuration E.decide E.exchange
+    closed reply_bytes
 from_0 = refl and refl and refl and refl and refl and refl and refl and refl and refl and refl and refl and refl and tt
 
 from_7 : Holds (take 8 (drop 7 rows))
-unfolding rows step run performed served over crc crc_from crc_byte shifts crc_bit size_of after turn sizes put_pairs any with_bit any_bit set_line pulse_line sent_from
-    after_sent pair_bytes any_pending values_given transitions third_transition mark_of next_size next_mark all_ff admit upward handed status lift P.post P.ask P.get_pc
-    P.answer_to P.taken P.settle W.put_vwire W.get_vwire W.setting W.setting_line W.pulsing_line W.settle E.set_configuration E.decide E.exchange closed reply_bytes
+unfolding rows step run performed served over crc crc_from crc_byte shifts crc_bit size_of after turn sizes put_pairs any with_bit any_bit set_line
+    pulse_line sent_from
+    after_sent pair_bytes any_pending values_given transitions third_transition mark_of next_size next_mark all_ff admit upward handed status lift
+    P.post P.ask P.get_pc
+    P.answer_to P.taken P.settle W.put_vwire W.get_vwire W.setting W.setting_line W.pulsing_line W.settle E.set_configuration E.decide E.exchange
+    closed reply_bytes
 from_7 = refl and refl and refl and refl and refl and refl and refl and refl and refl and refl and refl and refl and refl and refl and refl and refl and tt
 
 from_15 : Holds (take 8 (drop 15 rows))
-unfolding rows step run performed served over crc crc_from crc_byte shifts crc_bit size_of after turn sizes put_pairs any with_bit any_bit set_line pulse_line sent_from
-    after_sent pair_bytes any_pending values_given transitions third_transition mark_of next_size next_mark all_ff admit upward handed status lift P.post P.ask P.get_pc
-    P.answer_to P.taken P.settle W.put_vwire W.get_vwire W.setting W.setting_line W.pulsing_line W.settle E.set_configuration E.decide E.exchange closed reply_bytes
+unfolding rows step run performed served over crc crc_from crc_byte shifts crc_bit size_of after turn sizes put_pairs any with_bit any_bit set_line
+    pulse_line sent_from
+    after_sent pair_bytes any_pending values_given transitions third_transition mark_of next_size next_mark all_ff admit upward handed status lift
+    P.post P.ask P.get_pc
+    P.answer_to P.taken P.settle W.put_vwire W.get_vwire W.setting W.setting_line W.pulsing_line W.settle E.set_configuration E.decide E.exchange
+    closed reply_bytes
 from_15 = refl and refl and refl and refl and refl and refl and refl and refl and refl and refl and refl and refl and refl and refl and refl and refl and tt
 
 from_23 : Holds (take 8 (drop 23 rows))
-unfolding rows step run performed served over crc crc_from crc_byte shifts crc_bit size_of after turn sizes put_pairs any with_bit any_bit set_line pulse_line sent_from
-    after_sent pair_bytes any_pending values_given transitions third_transition mark_of next_size next_mark all_ff admit upward handed status lift P.post P.ask P.get_pc
-    P.answer_to P.taken P.settle W.put_vwire W.get_vwire W.setting W.setting_line W.pulsing_line W.settle E.set_configuration E.decide E.exchange closed reply_bytes
+unfolding rows step run performed served over crc crc_from crc_byte shifts crc_bit size_of after turn sizes put_pairs any with_bit any_bit set_line
+    pulse_line sent_from
+    after_sent pair_bytes any_pending values_given transitions third_transition mark_of next_size next_mark all_ff admit upward handed status lift
+    P.post P.ask P.get_pc
+    P.answer_to P.taken P.settle W.put_vwire W.get_vwire W.setting W.setting_line W.pulsing_line W.settle E.set_configuration E.decide E.exchange
+    closed reply_bytes
 from_23 = refl and refl and refl and refl and refl and refl and refl and refl and refl and refl and refl and refl and refl and refl and refl and refl and tt
 
 from_31 : Holds (take 7 (drop 31 rows))
-unfolding rows step run performed served over crc crc_from crc_byte shifts crc_bit size_of after turn sizes put_pairs any with_bit any_bit set_line pulse_line sent_from
-    after_sent pair_bytes any_pending values_given transitions third_transition mark_of next_size next_mark all_ff admit upward handed status lift P.post P.ask P.get_pc
-    P.answer_to P.taken P.settle W.put_vwire W.get_vwire W.setting W.setting_line W.pulsing_line W.settle E.set_configuration E.decide E.exchange closed reply_bytes
+unfolding rows step run performed served over crc crc_from crc_byte shifts crc_bit size_of after turn sizes put_pairs any with_bit any_bit set_line
+    pulse_line sent_from
+    after_sent pair_bytes any_pending values_given transitions third_transition mark_of next_size next_mark all_ff admit upward handed status lift
+    P.post P.ask P.get_pc
+    P.answer_to P.taken P.settle W.put_vwire W.get_vwire W.setting W.setting_line W.pulsing_line W.settle E.set_configuration E.decide E.exchange
+    closed reply_bytes
 from_31 = refl and refl and refl and refl and refl and refl and refl and refl and refl and refl and refl and refl and refl and refl and tt
 
 pub rows_hold : Holds rows

@@ -48,7 +48,8 @@ module _ (s : State) (c : Call) (o : Outcome) where
 
   ended_wire : accepted o ≡ true → ending wires s c ≡ true → wire_event_of s c o ≡ ends
   unfolding wire_event_of
-  ended_wire e f = ap (λ (t : Bool). pick (t && ending wires s c) ends (pick t (accepted_wire s c) idle)) e ∙ ap (λ (t : Bool). pick t ends (accepted_wire s c)) f
+  ended_wire e f = ap (λ (t : Bool). pick (t && ending wires s c) ends (pick t (accepted_wire s c) idle)) e
+      ∙ ap (λ (t : Bool). pick t ends (accepted_wire s c)) f
 
   accepted_wire_lem : accepted o ≡ true → ending wires s c ≡ false → wire_event_of s c o ≡ accepted_wire s c
   unfolding wire_event_of
@@ -72,7 +73,8 @@ module _ (s : State) (b r : List ℕ) (write : eqb (byte b 0) 0x22 ≡ false) wh
   quiet-exchange : (o : Outcome) → is_channel1 (byte b 0) ≡ false → wire_event_of s (exchange b r) o ≡ idle
   quiet-exchange o e = go (eqb (byte b 0) 0x04) (eqb (byte b 0) 0x05) refl e by_byte
     where
-      go : (t u : Bool) → eqb (byte b 0) 0x04 ≡ t → (t || u) ≡ false → command_wire s b ≡ pick t puts (pick u gets idle) → wire_event_of s (exchange b r) o ≡ idle
+      go : (t u : Bool) → eqb (byte b 0) 0x04 ≡ t → (t || u) ≡ false → command_wire s b ≡ pick t puts (pick u gets idle)
+          → wire_event_of s (exchange b r) o ≡ idle
       go true u f h i = absurd (true≢false h)
       go false true f h i = absurd (true≢false h)
       go false false f h i = quiet_wire s (exchange b r) o (no_ending wires s b write (no_lowering s b f)) i
@@ -102,7 +104,8 @@ module _ (w : World) where
   abbrev Seen : Call → Outcome → Type 0
   Seen c o = WireMove w c o (wire_event_of w.state c o)
 
-  pub command_event_lem : (b r : List ℕ) (op : ℕ) (e : WireEvent) → byte b 0 ≡ op → eqb op 0x22 ≡ false → pick (eqb op 0x04) puts (pick (eqb op 0x05) gets idle) ≡ e
+  pub command_event_lem : (b r : List ℕ) (op : ℕ) (e : WireEvent) → byte b 0 ≡ op → eqb op 0x22 ≡ false
+      → pick (eqb op 0x04) puts (pick (eqb op 0x05) gets idle) ≡ e
       → (o : Outcome) → accepted o ≡ true → lowers_pltrst w.state b ≡ false → wire_event_of w.state (exchange b r) o ≡ e
   command_event_lem b r op e h n f o q l =
       let k = not_22 b op h n in

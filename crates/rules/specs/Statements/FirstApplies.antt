@@ -151,7 +151,8 @@ command_rows s b = form_rows s.config b ++ later_rows s b
 -- "reply at least 263 bytes, write store at least 256, read store at least 4,096"; "an exchange uses all three"
 abbrev pub exchange_rows : (st command reply write read : List ℕ) → List Row
 exchange_rows st command reply write read =
-    too_short_value st state_length ∷ too_short_value reply 263 ∷ too_short_value write 256 ∷ too_short_value read 4096 ∷ packs_none st ∷ command_rows (unpacked st) command
+    too_short_value st state_length ∷ too_short_value reply 263 ∷ too_short_value write 256 ∷ too_short_value read 4096 ∷ packs_none st
+    ∷ command_rows (unpacked st) command
 
 -- ---- the board's calls: "10, 11, then their own from 20 up"
 

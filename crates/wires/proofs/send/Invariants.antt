@@ -11,7 +11,8 @@ invariant-loop-g l =
     InRange l.state l.reply l.g
     × ((state_end l.state l.g ≡ state_end l.initial.state l.initial.g)
     × ((reply_end l.state l.reply l.g ≡ reply_end l.initial.state l.initial.reply l.initial.g)
-    × ((count_end l.state l.g ≡ count_end l.initial.state l.initial.g) × ((length l.state ≡ length l.initial.state) × (length l.reply ≡ length l.initial.reply)))))
+    × ((count_end l.state l.g ≡ count_end l.initial.state l.initial.g)
+    × ((length l.state ≡ length l.initial.state) × (length l.reply ≡ length l.initial.reply)))))
 
 abbrev pub decreases-loop-g : goal.decreases-loop-g
 decreases-loop-g l = l.g.left

@@ -10,7 +10,8 @@ pub returns-then-address-eq8 : goal.returns-then-address-eq8
 returns-then-address-eq8 c = taken _ _ (eq-eqb _ _ c.if-address-eq8.true) (rw c.write.ensures)
 
 pub returns-then-address-eq16 : goal.returns-then-address-eq16
-returns-then-address-eq16 c = passed _ _ (ne_eqb _ _ c.if-address-eq8.false) (taken _ _ (eq-eqb _ _ c.if-address-eq16.true) (rw c.write-then-address-eq16.ensures))
+returns-then-address-eq16 c = passed _ _ (ne_eqb _ _ c.if-address-eq8.false)
+    (taken _ _ (eq-eqb _ _ c.if-address-eq16.true) (rw c.write-then-address-eq16.ensures))
 
 pub returns-then-address-eq32 : goal.returns-then-address-eq32
 returns-then-address-eq32 c =

@@ -89,7 +89,8 @@ some_access b =
     pick_ind (λ (k : ℕ). 1 ≤ k) (eqb (byte b 0) 0x00 || eqb (byte b 0) 0x02) (λ _. some-length (length_field b)) (λ _. some_size (byte b 0))
 
 -- a size is the one that its code means
-size_as : (b : List ℕ) (code : ℕ) → within (access_address b) (access_length b) (size_of code) ≡ fits_size (access_address b) (access_length b) (64 * 2 ^ (code - 1))
+size_as : (b : List ℕ) (code : ℕ) → within (access_address b) (access_length b) (size_of code)
+    ≡ fits_size (access_address b) (access_length b) (64 * 2 ^ (code - 1))
 unfolding size_of
 size_as b code = fits-within (access_address b) (access_length b) (64 * 2 ^ (code - 1)) (some_access b) (omega (arith, pow_pos (code - 1)))
 
@@ -138,7 +139,8 @@ module _ (s : State) where
       by_asked (λ (x : ℕ). first_of (later_rows s (x ∷ r)) ≡ pick (request_held p.request) 1 (first_of (all_sizes c (x ∷ r))))
       refl refl refl refl refl refl refl refl refl refl op h
 
-  posted_size : (b : List ℕ) → is_posted (byte b 0) ≡ true → pick (not (fits_size (access_address b) (access_length b) (payload_of c))) 1 0 ≡ first_of (all_sizes c b)
+  posted_size : (b : List ℕ) → is_posted (byte b 0) ≡ true → pick (not (fits_size (access_address b) (access_length b) (payload_of c))) 1 0
+      ≡ first_of (all_sizes c b)
   posted_size [] h = refl
   posted_size (op ∷ r) h =
       by_posted (λ (x : ℕ). pick (not (fits_size (access_address (x ∷ r)) (access_length (x ∷ r)) (payload_of c))) 1 0 ≡ first_of (all_sizes c (x ∷ r)))

@@ -20,7 +20,8 @@ use Rattle.rules.specs.Proofs.Channels.{board_settles}
 use Rattle.rules.specs.Proofs.Refusals.{board_settled, board_keeps, past_over, past_kept}
 use Rattle.rules.specs.Proofs.WholeCalls.{stored_refuses, report_refuses, past_state, StoredPast}
 
-pub look_refuses : (st report : List ℕ) → number_of (look_call st report).word ≢ 0 → look_call st report ≡ X.looked (number_of (look_call st report).word) report
+pub look_refuses : (st report : List ℕ) → number_of (look_call st report).word ≢ 0
+    → look_call st report ≡ X.looked (number_of (look_call st report).word) report
 unfolding look_call
 look_refuses st report =
     let Q : Looked → Type 0 = λ x. number_of x.word ≢ 0 → x ≡ X.looked (number_of x.word) report in

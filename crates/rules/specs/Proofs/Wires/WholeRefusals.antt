@@ -47,7 +47,8 @@ pub pulse_refuses : (st : List ℕ) (line : ℕ)
 unfolding pulse_line_call
 pulse_refuses st line = asked_refuses st (W.pulse_line line)
 
-pub read_refuses : (st : List ℕ) (index bit : ℕ) → number_of (read_wire_call st index bit) ≢ 0 → read_wire_call st index bit ≡ number_of (read_wire_call st index bit)
+pub read_refuses : (st : List ℕ) (index bit : ℕ) → number_of (read_wire_call st index bit) ≢ 0
+    → read_wire_call st index bit ≡ number_of (read_wire_call st index bit)
 unfolding read_wire_call
 read_refuses st index bit =
     let Q : ℕ → Type 0 = λ x. number_of x ≢ 0 → x ≡ number_of x in
@@ -55,7 +56,8 @@ read_refuses st index bit =
     λ _. pick_ind Q (not (holds st)) {x = 11} (λ _ _. refl)
     λ _. by_test (defined_bit index bit) (read_wire_of (unpacked st).wires.groups index bit)
   where
-    by_test : (t : Bool) (v : ℕ) → number_of (word (pick t 0 22) (pick t v 0)) ≢ 0 → word (pick t 0 22) (pick t v 0) ≡ number_of (word (pick t 0 22) (pick t v 0))
+    by_test : (t : Bool) (v : ℕ) → number_of (word (pick t 0 22) (pick t v 0)) ≢ 0
+        → word (pick t 0 22) (pick t v 0) ≡ number_of (word (pick t 0 22) (pick t v 0))
     by_test true v ne = absurd (ne (number_word 0 v refl))
     by_test false v ne = refl
 
