@@ -6,7 +6,7 @@ An edit holds wrong bodies or definitions; before each, lines say who must refus
 `# refused: specs/FILE`, a file of laws or theorems: the log has an error in it.
 Where a definition is the only wrong thing in its edit, the file that is named first has the log's first error, and docs/PROMISES.md, 'Definitions that ..',
 names the same files if it has the edit.
-No log says that a proof does not fit the code: then the shape was changed, and nothing was refused for its own sake.
+An error that says that a goal, a field or a name is missing does not count: then the proof does not fit the code, and nothing was refused for its own sake.
 Every public function is named by two edits of its crate, each with a wrong thing in that function's own body.
 The logs stay in target/must-fail.
 """
@@ -24,7 +24,7 @@ from collections import namedtuple
 import listed
 
 Wrong = namedtuple("Wrong", "places file old new")  # one replacement
-Log = namedtuple("Log", "first own functions unfit proved")
+Log = namedtuple("Log", "first own functions proved")
 
 ERROR = re.compile(r"^(?:\./)?(\S+):\d+:\d+: error: (.*)")
 BELOW = re.compile(r"declarations? that depends? on .*, which was (?:rejected|not admitted)")
@@ -109,21 +109,19 @@ def wrongs(edit):
 
 
 def said(path):
-    """The file of the first error; the files with an error of their own; the functions not proved: whether a search failed; a proof that does not fit."""
-    first, own, functions, unfit, proved = "", set(), {}, "", False
+    """The file of the first error; the files with an error of their own; the functions not proved: whether a search failed; whether all is proved."""
+    first, own, functions, proved = "", set(), {}, False
     for line in listed.read(path).split("\n"):
         error, verdict = ERROR.match(line), VERDICT.match(line)
         if error:
             file = error.group(1)
             first = first or file
-            if not BELOW.search(error.group(2)):
+            if not BELOW.search(error.group(2)) and not UNFIT.search(error.group(2)):
                 own.add(file)
-            if UNFIT.search(error.group(2)):
-                unfit = unfit or file
         if verdict:
             functions[verdict.group(1)] = verdict.group(2) != "not proved"
         proved = line.startswith("logic=proved")
-    return Log(first, own, functions, unfit, proved)
+    return Log(first, own, functions, proved)
 
 
 def refuses(place, log):
@@ -147,8 +145,6 @@ def judge(wrong, log):
     faults = [f"{w.old}: no line 'refused:' before it" for w in wrong if not w.places]
     if log.proved:
         faults.append("is not refused")
-    if log.unfit:
-        faults.append(f"{log.unfit} does not fit: the shape was changed")
     faults += [f"{p} does not refuse it" for w in wrong for p in w.places if not refuses(p, log)]
     if len(wrong) == 1 and wrong[0].file.startswith("specs/") and [log.first] != wrong[0].places[:1]:
         faults.append(f"{log.first} refuses it first")

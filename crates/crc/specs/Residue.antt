@@ -16,39 +16,20 @@ unfolding crc_bit
 bit_lt = byte-bytes crc_bit refl
 
 -- bit 7 apart from the rest
-unfoldable parted : ℕ → ℕ
+unfoldable pub parted : ℕ → ℕ
 parted r = bit_xor (r / 128 * 7) (r % 128 * 2)
 
-bit-parted : (r : ℕ) → r < 256 → crc_bit r ≡ parted r
-unfolding crc_bit parted
-bit-parted = same_bytes crc_bit parted refl
-
-sevens : (x y : ℕ) → x < 2 → y < 2 → bit_xor x y * 7 ≡ bit_xor (x * 7) (y * 7)
+pub sevens : (x y : ℕ) → x < 2 → y < 2 → bit_xor x y * 7 ≡ bit_xor (x * 7) (y * 7)
 sevens zero y hx hy = refl
 sevens (suc zero) zero hx hy = refl
 sevens (suc zero) (suc zero) hx hy = refl
 sevens (suc zero) (suc (suc y)) hx hy = absurd (omega arith)
 sevens (suc (suc x)) y hx hy = absurd (omega arith)
 
--- a sum is shifted term by term
-pub crc_bit_xor : (a b : ℕ) → a < 256 → b < 256 → crc_bit (bit_xor a b) ≡ bit_xor (crc_bit a) (crc_bit b)
-unfolding parted
-crc_bit_xor a b ha hb =
-    bit-parted (bit_xor a b) (xor_lt 8 a b ha hb)
-    ∙ ap₂ (λ (x y : ℕ). bit_xor (x * 7) (y * 2)) (xor_shr a b 7) (xor_mod a b 7)
-    ∙ ap₂ bit_xor (sevens (a / 128) (b / 128) (omega arith) (omega arith)) (xor_shift 1 (a % 128) (b % 128))
-    ∙ xor_swap (a / 128 * 7) (b / 128 * 7) (a % 128 * 2) (b % 128 * 2)
-    ∙ sym (ap₂ bit_xor (bit-parted a ha) (bit-parted b hb))
-
 pub shifts_lt : (n r : ℕ) → r < 256 → shifts n r < 256
 unfolding shifts
 shifts_lt zero r h = h
 shifts_lt (suc n) r h = shifts_lt n (crc_bit r) (bit_lt r h)
-
-pub shifts_xor : (n a b : ℕ) → a < 256 → b < 256 → shifts n (bit_xor a b) ≡ bit_xor (shifts n a) (shifts n b)
-unfolding shifts
-shifts_xor zero a b ha hb = refl
-shifts_xor (suc n) a b ha hb = ap (shifts n) (crc_bit_xor a b ha hb) ∙ shifts_xor n (crc_bit a) (crc_bit b) (bit_lt a ha) (bit_lt b hb)
 
 pub shifts-last : (n r : ℕ) → shifts n (crc_bit r) ≡ crc_bit (shifts n r)
 unfolding shifts
@@ -67,26 +48,14 @@ unfoldable pub divided : ℕ → ℕ → ℕ
 divided zero t = t
 divided (suc k) t = bit_xor (crc_bit (divided k (t / 2))) (t % 2)
 
-halved : (k t : ℕ) → t < 256 * 2 ^ suc k → t / 2 < 256 * 2 ^ k
+pub halved : (k t : ℕ) → t < 256 * 2 ^ suc k → t / 2 < 256 * 2 ^ k
 halved k t h = omega (arith, h, pow-suc 2 k)
 
-divided_lt : (k t : ℕ) → t < 256 * 2 ^ k → divided k t < 256
+pub divided_lt : (k t : ℕ) → t < 256 * 2 ^ k → divided k t < 256
 unfolding divided
 divided_lt zero t h = h
 divided_lt (suc k) t h =
     xor_lt 8 _ _ (bit_lt (divided k (t / 2)) (divided_lt k (t / 2) (halved k t h))) (omega arith)
-
-divided_xor : (k s t : ℕ) → s < 256 * 2 ^ k → t < 256 * 2 ^ k → divided k (bit_xor s t) ≡ bit_xor (divided k s) (divided k t)
-unfolding divided
-divided_xor zero s t hs ht = refl
-divided_xor (suc k) s t hs ht =
-    let p = halved k s hs in
-    let q = halved k t ht in
-    ap₂ (λ (x y : ℕ). bit_xor (crc_bit (divided k x)) y) (xor_shr s t 1) (xor_mod s t 1)
-    ∙ ap (λ (x : ℕ). bit_xor (crc_bit x) (bit_xor (s % 2) (t % 2))) (divided_xor k (s / 2) (t / 2) p q)
-    ∙ ap (λ (x : ℕ). bit_xor x (bit_xor (s % 2) (t % 2))) (crc_bit_xor (divided k (s / 2)) (divided k (t / 2)) (divided_lt k (s / 2) p)
-    (divided_lt k (t / 2) q))
-    ∙ xor_swap (crc_bit (divided k (s / 2))) (crc_bit (divided k (t / 2))) (s % 2) (t % 2)
 
 -- a byte's own digits
 unfoldable digits : ℕ → ℕ
@@ -120,10 +89,6 @@ pub residue-byte : (t : ℕ) → t < 256 → residue t ≡ t
 unfolding residue
 residue-byte t h = divided-byte 64 t h
 
-pub residue_xor : (s t : ℕ) → s < 2 ^ 72 → t < 2 ^ 72 → residue (bit_xor s t) ≡ bit_xor (residue s) (residue t)
-unfolding residue
-residue_xor s t hs ht = divided_xor 64 s t hs ht
-
 residue_double : (t : ℕ) → t * 2 < 2 ^ 72 → residue (t * 2) ≡ crc_bit (residue t)
 unfolding residue divided
 residue_double t h =
@@ -143,10 +108,3 @@ residue_shift (suc n) t h =
     ∙ residue_double (t * 2 ^ n) (omega (arith, h, e))
     ∙ ap crc_bit (residue_shift n t (omega (arith, h, e)))
     ∙ sym (shifts-last n (residue t))
-
--- the digits above the low n, and those
-pub residue-split : (n h l : ℕ) → l < 2 ^ n → h * 2 ^ n < 2 ^ 72 → l < 2 ^ 72 → residue (h * 2 ^ n + l) ≡ bit_xor (shifts n (residue h)) (residue l)
-residue-split n h l hl hh short =
-    ap residue (sym (xor_shifted h n l hl))
-    ∙ residue_xor (h * 2 ^ n) l hh short
-    ∙ ap (λ (x : ℕ). bit_xor x (residue l)) (residue_shift n h hh)

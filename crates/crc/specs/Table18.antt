@@ -30,15 +30,3 @@ table18 d =
     let Q6 : ℕ = D6 ⊕ D5 ⊕ D4 in
     let Q7 : ℕ = D7 ⊕ D6 ⊕ D5 in
     Q0 + Q1 * 2 + Q2 * 4 + Q3 * 8 + Q4 * 16 + Q5 * 32 + Q6 * 64 + Q7 * 128
-
--- ---- laws
-
--- they are the eight shifts: one test over the 256 bytes
-pub equations_shift : (d : ℕ) → d < 256 → table18 d ≡ shifts 8 d
-unfolding table18 shifts crc_bit
-equations_shift = same_bytes table18 (shifts 8) refl
-
--- so of the old CRC combined with the data byte they are the byte taken in
-pub table18-byte : (r b : ℕ) → r < 256 → b < 256 → table18 (bit_xor r b) ≡ crc_byte r b
-unfolding crc_byte
-table18-byte r b hr hb = equations_shift (bit_xor r b) (xor_lt 8 r b hr hb)

@@ -34,7 +34,7 @@ use Rattle.rules.specs.Rules.Step.{write_length, read_length}
 use Rattle.rules.specs.Rules.Reply.{reply_bytes, kept_bytes}
 use Rattle.rules.specs.Rules.Fits.{ReplyFits, KeptFits, plain}
 use Rattle.rules.specs.Rules.Calls.{Exchanged, done, exchanged, stored, looked, kept, word, exchange_planned}
-use Rattle.rules.specs.Proofs.Fits as F
+use Rattle.rules.proofs.Proofs.Fits as F
 use Rattle.rules.specs.declared.Body.TheVariants as B
 use Rattle.rules.specs.declared.Reply.{Reply}
 use Rattle.rules.specs.declared.Reply.TheVariants as R

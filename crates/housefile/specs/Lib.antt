@@ -5,4 +5,3 @@ pub mod Laws
 pub mod Tables
 pub mod Entries
 pub mod Answers
-pub mod Proofs

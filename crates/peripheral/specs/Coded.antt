@@ -14,7 +14,6 @@ use Rattle.pieces.specs.declared.Mark.{Mark}
 use Rattle.peripheral.specs.Upward.{next_of, next_piece, bare, success_of, upward, first_of, left_of, after_piece, after_success, handed}
 use Rattle.peripheral.specs.Status.{pc_free, np_free, pc_avail, peripheral_status}
 use Rattle.peripheral.specs.Sound.{short_size, io_made, request_made, sent_right, sound_request, sound_write, nothing_held}
-use Rattle.peripheral.specs.Facts.{ready_request}
 use Rattle.peripheral.specs.Layout.{write_bytes_value, request_bytes, np_bytes, handed_bytes, peripheral_bytes, write_of, kind_of, np_of, posted_in, request_in, write_in, np_in, peripheral_in, tidy_write, tidy_request, blank_in, holds_write, holds_request, holds_peripheral}
 use Rattle.peripheral.specs.Packing.{write-length, np_length}
 use Rattle.peripheral.specs.declared.Kind.{Kind}
@@ -58,13 +57,6 @@ pub io_short : (q : Request) → io_made q ≡ true → short_size q.length ≡ 
 io_short q e = and_right (nat_lt q.address (2 ^ 16)) _ (and_right (q.tag == 0) _ e)
 
 -- ---- handing over
-
--- what the cutting of the next piece asks for
-pub piece_facts : (n : Np) (q : Request) (sent : ℕ) → sound_request n ≡ true → n ≡ Ready q sent
-    → (sent < q.length) × (q.length ≤ 4096) × Block q.payload
-piece_facts n q sent e h =
-    let r = ready_request q sent (subst (λ (z : Np). sound_request z ≡ true) h e) in
-    (r.short, r.made.most, r.made.payload.block)
 
 -- the bytes of what is left, as the code decides it
 module _ (q : Request) (gone : ℕ) (l l' bytes : List ℕ) (k : l' ≡ put 29 bytes l) where

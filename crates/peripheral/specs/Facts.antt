@@ -57,9 +57,6 @@ payload_block p e = (legal_payload p e).block
 pub read_block : (p : ℕ) → read_legal p ≡ true → Block p
 read_block p e = (legal_read p e).block
 
-pub within_block : (A L B : ℕ) → within A L B ≡ true → A % B + L ≤ B
-within_block A L B e = leb-true (A % B + L) B e
-
 -- ---- a request that a command makes, by its kind
 
 pub record MadeMemoryRead (q : Request) : Type 0 where
@@ -85,19 +82,7 @@ pub record MadeIoWrite (q : Request) : Type 0 where
   pub in_block : q.address % q.payload + q.length ≤ q.payload
   pub bytes : q.bytes < 2 ^ (8 * q.length)
 
-pub made_memory_read : (q : Request) → made_as_value MemoryRead q ≡ true → MadeMemoryRead q
-made_memory_read q e =
-    let w = within q.address q.length q.readsize in
-    let e₁ = and_right (nat_le 1 q.length) _ e in
-    let e₂ = and_right w _ e₁ in
-    record {
-      least = leb-true 1 q.length (and_left (nat_le 1 q.length) _ e);
-      in_block = within_block _ _ _ (and_left w _ e₁);
-      tag = ltb-true q.tag 16 (and_left (nat_lt q.tag 16) _ e₂);
-      bytes = eqb-true q.bytes 0 (and_right (nat_lt q.tag 16) _ e₂);
-    }
-
-made_io : (q : Request) → io_made q ≡ true → MadeIo q
+pub made_io : (q : Request) → io_made q ≡ true → MadeIo q
 made_io q e = first (or_either (L == 1) (L == 2 || L == 4) (and_right (nat_lt q.address (2 ^ 16)) _ e₁))
   where
     L : ℕ
@@ -124,18 +109,6 @@ made_io q e = first (or_either (L == 1) (L == 2 || L == 4) (and_right (nat_lt q.
     first (inl k) = let h = eqb-true L 1 k in made (inl h) (omega arith) (omega arith)
     first (inr k) = second (or_either (L == 2) (L == 4) k)
 
-pub made_io_read : (q : Request) → made_as_value IoRead q ≡ true → MadeIoRead q
-made_io_read q e =
-    let w = within q.address q.length q.readsize in
-    let e₁ = and_right (io_made q) _ e in
-    record { io = made_io q (and_left (io_made q) _ e); in_block = within_block _ _ _ (and_left w _ e₁); bytes = eqb-true q.bytes 0 (and_right w _ e₁) }
-
-pub made_io_write : (q : Request) → made_as_value IoWrite q ≡ true → MadeIoWrite q
-made_io_write q e =
-    let w = within q.address q.length q.payload in
-    let e₁ = and_right (io_made q) _ e in
-    record { io = made_io q (and_left (io_made q) _ e); in_block = within_block _ _ _ (and_left w _ e₁); bytes = ltb-true q.bytes _ (and_right w _ e₁) }
-
 -- ---- a request that a command makes, whatever its kind
 
 pub record MadeRequest (q : Request) : Type 0 where
@@ -147,49 +120,17 @@ pub record MadeRequest (q : Request) : Type 0 where
   pub tag : q.tag < 16
   pub bytes : q.bytes < 2 ^ 32
 
-record Common (q : Request) : Type 0 where
-  least : 1 ≤ q.length
-  most : q.length ≤ 4096
-  tag : q.tag < 16
-  bytes : q.bytes < 2 ^ 32
+pub record Common (q : Request) : Type 0 where
+  pub least : 1 ≤ q.length
+  pub most : q.length ≤ 4096
+  pub tag : q.tag < 16
+  pub bytes : q.bytes < 2 ^ 32
 
 -- the bytes of an I/O write fit in four
-bytes_fit : (b L : ℕ) → b < 2 ^ (8 * L) → (L ≡ 1) ⊎ ((L ≡ 2) ⊎ (L ≡ 4)) → b < 2 ^ 32
+pub bytes_fit : (b L : ℕ) → b < 2 ^ (8 * L) → (L ≡ 1) ⊎ ((L ≡ 2) ⊎ (L ≡ 4)) → b < 2 ^ 32
 bytes_fit b L h (inl e) = omega (arith, subst (λ (n : ℕ). b < 2 ^ (8 * n)) e h)
 bytes_fit b L h (inr (inl e)) = omega (arith, subst (λ (n : ℕ). b < 2 ^ (8 * n)) e h)
 bytes_fit b L h (inr (inr e)) = subst (λ (n : ℕ). b < 2 ^ (8 * n)) e h
-
-common : (k : Kind) (q : Request) → q.readsize ≤ 4096 → made_as_value k q ≡ true → Common q
-common MemoryRead q r e =
-    let m = made_memory_read q e in
-    record { least = m.least; most = omega (arith, m.in_block); tag = m.tag; bytes = omega (arith, m.bytes) }
-common IoRead q r e =
-    let m = made_io_read q e in
-    record { least = m.io.least; most = omega (arith, m.io.most); tag = omega (arith, m.io.tag); bytes = omega (arith, m.bytes) }
-common IoWrite q r e =
-    let m = made_io_write q e in
-    record {
-      least = m.io.least;
-      most = omega (arith, m.io.most);
-      tag = omega (arith, m.io.tag);
-      bytes = bytes_fit q.bytes q.length m.bytes m.io.lengths;
-    }
-
-pub request_made_lem : (q : Request) → request_made q ≡ true → MadeRequest q
-request_made_lem q e =
-    let e₁ = and_right (payload_legal q.payload) _ e in
-    let r = legal_read q.readsize (and_left (read_legal q.readsize) _ e₁) in
-    let k = and_right (read_legal q.readsize) _ e₁ in
-    let c = common q.kind q r.most k in
-    record {
-      payload = legal_payload q.payload (and_left (payload_legal q.payload) _ e);
-      readsize = r;
-      as_kind = k;
-      least = c.least;
-      most = c.most;
-      tag = c.tag;
-      bytes = c.bytes;
-    }
 
 -- ---- a request answered with success, `sent` bytes of it gone
 
@@ -202,9 +143,9 @@ pub record ReadyRequest (q : Request) (sent : ℕ) : Type 0 where
   pub next_most_lem : next_of q sent ≤ 256
   pub next_end : sent + next_of q sent ≤ q.length
 
-record Sent (q : Request) (sent : ℕ) : Type 0 where
-  short : sent < q.length
-  edge : (sent ≡ 0) ⊎ ((q.address + sent) % q.payload ≡ 0)
+pub record Sent (q : Request) (sent : ℕ) : Type 0 where
+  pub short : sent < q.length
+  pub edge : (sent ≡ 0) ⊎ ((q.address + sent) % q.payload ≡ 0)
 
 sent-read : (q : Request) (sent : ℕ) → sent_right MemoryRead q sent ≡ true → Sent q sent
 sent-read q sent e =
@@ -222,38 +163,14 @@ sent-read q sent e =
 pub sent-write : (q : Request) (sent : ℕ) → sent_right IoWrite q sent ≡ true → sent ≡ 0
 sent-write q sent e = eqb-true sent 0 e
 
-sent_of : (k : Kind) (q : Request) (sent : ℕ) → 1 ≤ q.length → sent_right k q sent ≡ true → Sent q sent
+pub sent_of : (k : Kind) (q : Request) (sent : ℕ) → 1 ≤ q.length → sent_right k q sent ≡ true → Sent q sent
 sent_of MemoryRead q sent l e = sent-read q sent e
 sent_of IoRead q sent l e = sent-read q sent e
 sent_of IoWrite q sent l e = let z = sent-write q sent e in record { short = omega arith; edge = inl z }
 
-next_most : (A L P s : ℕ) → next_size A L P s ≤ P
+pub next_most : (A L P s : ℕ) → next_size A L P s ≤ P
 unfolding next_size
 next_most A L P s = omega arith
-
-pub ready_request : (q : Request) (sent : ℕ) → sound_request (Ready q sent) ≡ true → ReadyRequest q sent
-unfolding sound_request
-ready_request q sent e =
-    let m = request_made_lem q (and_left (request_made q) _ e) in
-    let r = and_right (request_made q) _ e in
-    let s = sent_of q.kind q sent m.least r in
-    record {
-      made = m;
-      right = r;
-      short = s.short;
-      edge = s.edge;
-      next_least = next_pos q.address q.length q.payload sent (omega (arith, m.payload.least)) s.short;
-      next_most_lem = omega (arith, m.payload.most, next_most q.address q.length q.payload sent);
-      next_end = next_le q.address q.length q.payload sent s.short;
-    }
-
-pub waiting_request : (q : Request) → sound_request (Waiting q) ≡ true → MadeRequest q
-unfolding sound_request
-waiting_request q e = request_made_lem q e
-
-pub failed_request : (q : Request) → sound_request (Failed q) ≡ true → MadeRequest q
-unfolding sound_request
-failed_request q e = request_made_lem q e
 
 -- ---- a posted write that a command makes
 
@@ -262,14 +179,6 @@ pub record MadeWrite (w : Posted) : Type 0 where
   pub least : 1 ≤ w.length
   pub most : w.length ≤ 256
   pub in_block : w.address % w.payload + w.length ≤ w.payload
-
-pub held-write : (w : Posted) → sound_write (Held w) ≡ true → MadeWrite w
-unfolding sound_write
-held-write w e =
-    let p = legal_payload w.payload (and_left (payload_legal w.payload) _ e) in
-    let e₁ = and_right (payload_legal w.payload) _ e in
-    let b = within_block w.address w.length w.payload (and_right (nat_le 1 w.length) _ e₁) in
-    record { payload = p; least = leb-true 1 w.length (and_left (nat_le 1 w.length) _ e₁); most = omega (arith, b, p.most); in_block = b }
 
 -- ---- "no queue is held while channel 0 is off"
 
@@ -338,32 +247,11 @@ edge_right q sent h e = and_true (lt-ltb _ _ h) (go (sent == 0))
     go false = eq-eqb _ 0 e
 
 -- the place after a piece that is not the last
-after-piece : (q : Request) (sent : ℕ) → ReadyRequest q sent → ((sent + next_of q sent == q.length) ≡ false)
+pub after-piece : (q : Request) (sent : ℕ) → ReadyRequest q sent → ((sent + next_of q sent == q.length) ≡ false)
     → sent_right MemoryRead q (sent + next_of q sent) ≡ true
 after-piece q sent r e =
     let n = next_ok q.address q.length q.payload sent (omega (arith, r.made.payload.least)) r.short (eqb-false _ _ e) in
     edge_right q (sent + next_of q sent) n.0 n.1
-
-pub handed-sound : (n : Np) → sound_request n ≡ true → sound_request (handed n) ≡ true
-unfolding handed sound_request
-handed-sound Free e = e
-handed-sound (Waiting q) e = e
-handed-sound (Failed q) e = free_made
-handed-sound (Ready q sent) e = go q.kind refl
-  where
-    made : request_made q ≡ true
-    made = and_left (request_made q) _ e
-
-    piece : (k : Kind) → q.kind ≡ k → ((s : ℕ) → sent_right k q s ≡ sent_right MemoryRead q s) → sound_request (after_piece q sent) ≡ true
-    piece k h same =
-        pick_ind (λ (n : Np). sound_request n ≡ true) (sent + next_of q sent == q.length)
-        (λ t. free_made)
-        (λ f. ready_made q _ made (ap (λ (z : Kind). sent_right z q (sent + next_of q sent)) h ∙ same _ ∙ after-piece q sent (ready_request q sent e) f))
-
-    go : (k : Kind) → q.kind ≡ k → sound_request (after_success k q sent) ≡ true
-    go MemoryRead h = piece MemoryRead h (λ s. refl)
-    go IoRead h = piece IoRead h (λ s. refl)
-    go IoWrite h = free_made
 
 pub handed-fits : (n : Np) → fits_request n ≡ true → fits_request (handed n) ≡ true
 unfolding handed

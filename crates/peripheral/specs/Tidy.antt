@@ -3,7 +3,8 @@ use Rattle.std.specs.Prelude.{◌≡◌, ℕ, zero, suc, ◌<◌, Bool, true, �
 use Rattle.std.proofs.Common.{true≢false, append_assoc, sym, ap, ◌∙◌, arith, eqb-true, leb-true}
 use Rattle.base.specs.Pick.{and_left, and_right, and_true}
 use Rattle.base.specs.Bytes.{low4, low8, number4}
-use Rattle.base.specs.Numbers.{length_join, join, past, number4_past, listed, low4-number4, low8-number8}
+use Rattle.base.specs.Numbers.{length_join, join, past, number4_past, listed}
+use Rattle.base.proofs.Numbers.{low4-number4, low8-number8}
 use Rattle.peripheral.specs.declared.Kind.{Kind}
 use Rattle.peripheral.specs.declared.Kind.TheVariants.{MemoryRead, IoRead, IoWrite}
 use Rattle.peripheral.specs.declared.Request.{Request}

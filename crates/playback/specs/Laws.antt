@@ -12,9 +12,9 @@ use Rattle.rules.specs.Rules.Exchange.{exchange}
 use Rattle.rules.specs.Rules.Reply.{reply_bytes}
 use Rattle.rules.specs.Rules.Step.{reply_length, write_length, read_length}
 use Rattle.rules.specs.Rules.Calls.{Exchanged, exchanged, exchange_call, exchange_planned}
-use Rattle.rules.specs.Proofs.Fits.{reply_length_lem, exchange-fits}
-use Rattle.rules.specs.Proofs.Refusals.{exchange_turned}
-use Rattle.rules.specs.Proofs.WholeRefusals.{planned_small}
+use Rattle.rules.proofs.Proofs.Fits.{reply_length_lem, exchange-fits}
+use Rattle.rules.proofs.Proofs.Refusals.{exchange_turned}
+use Rattle.rules.proofs.Proofs.WholeRefusals.{planned_small}
 use Rattle.promises.specs.ByteRuns.{byte_step_value}
 use Rattle.promises.specs.Statements.Lifted.{value_of}
 use Rattle.housefile.specs.Kinds.{known, kind_of, body_fits, row_fits_value}

@@ -7,4 +7,3 @@ pub mod Laws
 pub mod Obeying
 pub mod Written
 pub mod Playing
-pub mod Proofs

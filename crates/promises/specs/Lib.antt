@@ -1,3 +1,2 @@
 pub mod ByteRuns
 pub mod Statements
-pub mod Proofs

@@ -3,7 +3,8 @@ use Rattle.std.specs.Prelude.{ℕ, ◌<◌, ◌^◌, Bool, true, ◌&&◌, List,
 use Rattle.std.proofs.Common.{arith, ltb-true, lt-ltb}
 use Rattle.base.specs.Pick.{and_left, and_right, and_true}
 use Rattle.base.specs.Bytes.{low4, number4}
-use Rattle.base.specs.Numbers.{join, back4, four_same, listed, low4-number4, number4_lt}
+use Rattle.base.specs.Numbers.{join, four_same, listed, number4_lt}
+use Rattle.base.proofs.Numbers.{back4, low4-number4}
 use Rattle.base.specs.AllBytes.{AllBytes, all-low4, then4}
 use Rattle.registers.specs.Laws.{Fitting}
 use Rattle.registers.specs.declared.Config.{Config}

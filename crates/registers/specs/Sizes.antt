@@ -77,14 +77,6 @@ read_legal_lem r h =
     let m = bits 10 8 r.value in
     read_coded n (coded n (or_left (eqb n 0) (eqb m 0 || ltb 3 m) (own010 r.value h).0)) (omega arith)
 
--- "the operating wire count": 1 to 64, which 13:8 advertise, so that it is "never .. more than the value advertised" (004, 6.2.1.5)
-pub count_range : (r : Reg020) → reachable020 r.value ≡ true
-    → (1 ≤ operating_count r) × (operating_count r ≤ bits 13 8 r.value + 1) × (bits 13 8 r.value + 1 ≡ 64)
-count_range r h =
-    let v = r.value in
-    let a : bits 13 8 v ≡ 63 = ap (bits 13 8) (own020 v h) ∙ supported_written fresh020 v in
-    (omega arith, omega (arith, a), omega (arith, a))
-
 -- a size that is legal is one of those listed
 one_of : (Q : ℕ → Type 0) (p k : ℕ) {rest : Bool} → Q k → (rest ≡ true → Q p) → eqb p k || rest ≡ true → Q p
 one_of Q p k {rest} q go = tested (eqb p k) refl

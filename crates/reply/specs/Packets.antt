@@ -16,7 +16,7 @@ use Rattle.wires.specs.declared.Packet.{Packet}
 use Rattle.peripheral.specs.Status.{peripheral_status}
 use Rattle.peripheral.specs.Layout.{peripheral_in}
 use Rattle.rules.specs.Rules.Reply.{closed}
-use Rattle.rules.specs.Proofs.Reply.{closed-length}
+use Rattle.rules.proofs.Proofs.Reply.{closed-length}
 use Rattle.reply.specs.Written.{said_by_lem}
 
 -- what filling a packet asks of the state's bytes: sound wires, some of which wait (01, Sound state; Replies and refusals, 1)

@@ -11,7 +11,7 @@ use Rattle.peripheral.specs.declared.Completion.{Completion}
 use Rattle.rules.specs.Rules.Step.{reply_length, read_length}
 use Rattle.rules.specs.Rules.Fits.{plain_body}
 use Rattle.rules.specs.Rules.Reply.{header_bytes, body_bytes, closed, reply_bytes, kept_bytes}
-use Rattle.rules.specs.Proofs.Reply.{closed-length}
+use Rattle.rules.proofs.Proofs.Reply.{closed-length}
 use Rattle.rules.specs.declared.Body.{Body}
 use Rattle.rules.specs.declared.Body.TheVariants as B
 use Rattle.rules.specs.declared.Reply.{Reply}

@@ -10,7 +10,8 @@ use Rattle.registers.specs.Registers.{on0, on1, operating_count}
 use Rattle.registers.specs.declared.Config.{Config}
 use Rattle.wires.specs.MapBytes.{all-length, all_back, all-all, all-fits, all_same, all_again, all-tidy}
 use Rattle.peripheral.specs.Facts.{sound_of}
-use Rattle.peripheral.specs.Packing.{peripheral_length, peripheral_back, all_peripheral, peripheral_in_fits, peripheral_same}
+use Rattle.peripheral.specs.Packing.{peripheral_length, peripheral_in_fits, peripheral_same}
+use Rattle.peripheral.proofs.Packing.{peripheral_back, all_peripheral}
 use Rattle.peripheral.specs.Tidy.{peripheral_again, peripheral_tidy}
 use Rattle.state.specs.Channel.{Channel, peripheral, wires, Part, part, put, sound_part, fits_part, place, size, part_bytes_value, part_in, tidy_part}
 use Rattle.state.specs.Layout.{state_length, packed, unpacked}

@@ -7,7 +7,8 @@ use Rattle.std.proofs.Math.Pow.{field, mod-mod-pow}
 use Rattle.std.proofs.lemmas.Bool.{not-true}
 use Rattle.base.specs.Pick.{pick, or_second, and_left, and_right, and_true, same_test}
 use Rattle.base.specs.Bytes.{bit, low8, number8}
-use Rattle.base.specs.Numbers.{low8-number8, number8_lt}
+use Rattle.base.specs.Numbers.{number8_lt}
+use Rattle.base.proofs.Numbers.{low8-number8}
 use Rattle.wires.specs.Nibbles.{bit_of, Binary, off, on, binary, and_bit, zero_bit}
 use Rattle.wires.specs.Kept.{clash}
 use Rattle.wires.specs.Lines.{line_value, line_bit, any_bit, map_in, lines_in, edges_wait}

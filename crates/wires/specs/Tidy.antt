@@ -3,7 +3,8 @@ use Rattle.std.specs.Prelude.{ℕ, zero, suc, ◌+◌, ◌*◌, ◌/◌, ◌%◌
 use Rattle.std.proofs.Common.{true≢false, sym, ap, ◌∙◌, arith, eqb-true, le-leb, leb-true, ltb-true, lt-ltb}
 use Rattle.base.specs.Pick.{and_left, and_right, and_true, same_test}
 use Rattle.base.specs.Bytes.{bit, bit_below, low4, low8, number4, number8}
-use Rattle.base.specs.Numbers.{join, past, listed, low4-number4, low8-number8}
+use Rattle.base.specs.Numbers.{join, past, listed}
+use Rattle.base.proofs.Numbers.{low4-number4, low8-number8}
 use Rattle.wires.specs.Table.{senders, is_up}
 use Rattle.wires.specs.Groups.{mark_at, in_row, only_defined, place_right}
 use Rattle.wires.specs.Kept.{sound_view, sound_test}

@@ -43,28 +43,7 @@ putting w ps = record { third = third_transition w ps; next = put_pairs w ps }
 
 -- ---- laws
 
-pub third_at : (w : Wires) (ps : List ℕ) → third_transition w ps ≡ false → (i k : ℕ) → k < 4 → third_of w ps i k ≡ false
-unfolding third_transition
-third_at w ps e i k h = down_or (is_down i) refl
-  where
-    down_or : (t : Bool) → is_down i ≡ t → (t && (defined_bit i k && ltb 2 (transitions_of w ps i k))) ≡ false
-    down_or false d = refl
-    down_or true d =
-        let g = in_table i (and_left (is_group i) (row_at (i - 2)).down d) in
-        let q : i - 2 + 2 ≡ i = omega (arith, g.from) in
-        ap (λ (t : Bool). t && (defined_bit i k && ltb 2 (transitions_of w ps i k))) (sym d)
-        ∙ ap (λ (j : ℕ). third_of w ps j k) (sym q)
-        ∙ at_none 4 (third_of w ps (i - 2 + 2))
-        (at_none (length table) (λ (at : ℕ). some 4 (third_of w ps (at + 2))) e (i - 2) (omega (arith, g.from, g.upto))) k h
-
 pub none_third : (w : Wires) (ps : List ℕ) → ((i k : ℕ) → i < 8 → k < 4 → third_of w ps i k ≡ false) → third_transition w ps ≡ false
 unfolding third_transition
 none_third w ps f =
     none_at (length table) (λ (at : ℕ). some 4 (third_of w ps (at + 2))) (λ at h. none_at 4 (third_of w ps (at + 2)) (λ k l. f (at + 2) k (omega arith) l))
-
--- without a third transition a wire of the host's has two at most
-pub two_at_most : (w : Wires) (ps : List ℕ) → third_transition w ps ≡ false → (i k : ℕ) → is_down i ≡ true → defined_bit i k ≡ true
-    → transitions_of w ps i k ≤ 2
-two_at_most w ps e i k d f =
-    ltb-false 2 (transitions_of w ps i k)
-    (sym (ap₂ (λ (s t : Bool). s && (t && ltb 2 (transitions_of w ps i k))) d f) ∙ third_at w ps e i k (defined-bit i k f).small)

@@ -6,7 +6,7 @@ use lib.ListN.{get_or}
 use Rattle.command.specs.Rows.{row_of}
 use Rattle.command.specs.Needs.{group_count}
 use Rattle.command.specs.Laws.{no_single, middle, quad, short_below, short_above}
-use Rattle.command.specs.Refused.{at_row, plain-number, short-number, counted-number, headed-number, reset-number}
+use Rattle.command.proofs.Refused.{at_row, plain-number, short-number, counted-number, headed-number, reset-number}
 use Rattle.command.specs.declared.Access.TheVariants.{IoRead, IoWrite, MemoryRead, MemoryWrite}
 use Rattle.command.specs.declared.Opcode.TheVariants as O
 use Rattle.command.specs.declared.Channel.TheVariants.{Peripheral, Wires, Independent}

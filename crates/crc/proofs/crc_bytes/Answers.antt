@@ -4,7 +4,7 @@ use mathlib.Core.Path.{◌≡◌, refl, ◌∙◌}
 use native.Mathlib.Omega.{arith}
 use lib.ListN.{length, get_or, drop, drop_of_length-le}
 use Rattle.crc.specs.Crc.{crc_from, crc, crc_from_next}
-use Rattle.crc.specs.Table18.{table18-byte}
+use Rattle.crc.proofs.Table18.{table18-byte}
 use borrow.Author.Rules.{rules}
 use Rattle.crc.proofs.crc_bytes.Goals as goal
 

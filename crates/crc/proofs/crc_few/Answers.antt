@@ -7,7 +7,8 @@ use lib.ListN.{length, get_or, drop_of_length-le}
 use lib.Pow.{shr-shr}
 use Rattle.crc.specs.Crc.{shifts, crc_from}
 use Rattle.crc.specs.Residue.{residue}
-use Rattle.crc.specs.Turns.{word, word_add, word-front, first_from}
+use Rattle.crc.specs.Turns.{word, word_add}
+use Rattle.crc.proofs.Turns.{word-front, first_from}
 use borrow.Author.Rules.{rules}
 use Rattle.crc.proofs.crc_few.Goals as goal
 

@@ -1,6 +1,6 @@
 -- `crc::crc_three` meets its contract: the number with one, two and three bytes taken in, brought down.
 use native.Mathlib.Omega.{arith}
-use Rattle.crc.specs.Steps.{sum_lt, taken_lt, three_lt, three-step}
+use Rattle.crc.proofs.Steps.{sum_lt, taken_lt, three_lt, three-step}
 use borrow.Author.Rules.{rules}
 use Rattle.crc.proofs.crc_three.Goals as goal
 

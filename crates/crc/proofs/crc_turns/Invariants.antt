@@ -4,8 +4,9 @@ use native.Mathlib.Omega.{arith}
 use lib.ListN.{length, drop, drop_of_length-le}
 use lib.Bits.{bit_xor, xor_lt}
 use Rattle.crc.specs.Crc.{shifts, crc_from, crc}
-use Rattle.crc.specs.Steps.{fold32_lt, pair_step}
-use Rattle.crc.specs.Turns.{pair, start_from, turn-from}
+use Rattle.crc.proofs.Steps.{fold32_lt, pair_step}
+use Rattle.crc.specs.Turns.{pair}
+use Rattle.crc.proofs.Turns.{start_from, turn-from}
 use borrow.Author.Rules.{rules}
 use Rattle.crc.proofs.crc_turns.Given as goal
 

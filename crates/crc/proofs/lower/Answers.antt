@@ -2,7 +2,8 @@
 use Prim.Native.Nat.{ℕ, ◌-◌, ◌*◌, ◌/◌, ◌^◌, min}
 use mathlib.Core.Path.{◌≡◌, ap, ap₂, ◌∙◌}
 use native.Mathlib.Omega.{arith}
-use Rattle.crc.specs.Turns.{word, word-front}
+use Rattle.crc.specs.Turns.{word}
+use Rattle.crc.proofs.Turns.{word-front}
 use borrow.Author.Rules.{rules}
 use Rattle.crc.proofs.lower.Goals as goal
 

@@ -2,7 +2,8 @@
 use Prim.Native.Nat.{ℕ, ◌-◌, ◌*◌, ◌/◌, ◌^◌}
 use mathlib.Core.Path.{◌≡◌, ap, ◌∙◌}
 use native.Mathlib.Omega.{arith}
-use Rattle.crc.specs.Turns.{word, word-front}
+use Rattle.crc.specs.Turns.{word}
+use Rattle.crc.proofs.Turns.{word-front}
 use borrow.Author.Rules.{rules}
 use Rattle.crc.proofs.upper.Goals as goal
 

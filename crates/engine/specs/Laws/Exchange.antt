@@ -6,7 +6,8 @@ use Rattle.base.specs.Pick.{taken, passed}
 use Rattle.registers.specs.Registers.{crc_checked, read_at_value, forbidden_at, write_at}
 use Rattle.registers.specs.declared.Config.{Config}
 use Rattle.command.specs.Decode.{admit}
-use Rattle.command.specs.Facts.{CommandFits, IsBytes, admit-fits}
+use Rattle.command.specs.Facts.{CommandFits, IsBytes}
+use Rattle.command.proofs.Facts.{admit-fits}
 use Rattle.command.specs.declared.Channels.{Channels}
 use Rattle.command.specs.declared.Command.{Command}
 use Rattle.command.specs.declared.Command.TheVariants as C

@@ -47,13 +47,13 @@ use Rattle.rules.specs.Rules.Fits.{plain_body, plain_say}
 use Rattle.rules.specs.Statements.Channels as A
 use Rattle.rules.specs.Statements.Channels.{Acts, Settles}
 use Rattle.rules.specs.Statements.Wires as W₁
-use Rattle.rules.specs.Proofs.Channels as H
-use Rattle.rules.specs.Proofs.Events.{one_or_zero}
-use Rattle.rules.specs.Proofs.Plans.{did}
-use Rattle.rules.specs.Proofs.SoundParts.{parts, with_part}
-use Rattle.rules.specs.Proofs.Wires.{lowers}
-use Rattle.rules.specs.Proofs.Wires.Lowering.{lowers_accepts}
-use Rattle.rules.specs.Proofs.Wires.Sound.{acts_ok}
+use Rattle.rules.proofs.Proofs.Channels as H
+use Rattle.rules.proofs.Proofs.Events.{one_or_zero}
+use Rattle.rules.proofs.Proofs.Plans.{did}
+use Rattle.rules.proofs.Proofs.SoundParts.{parts, with_part}
+use Rattle.rules.proofs.Proofs.Wires.{lowers}
+use Rattle.rules.proofs.Proofs.Wires.Lowering.{lowers_accepts}
+use Rattle.rules.proofs.Proofs.Wires.Sound.{acts_ok}
 use Rattle.rules.specs.declared.Body.{Body}
 use Rattle.rules.specs.declared.Body.TheVariants as B
 use Rattle.rules.specs.declared.Kept.{Kept}

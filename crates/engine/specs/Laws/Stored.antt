@@ -28,9 +28,9 @@ use Rattle.rules.specs.Rules.Calls.{kept}
 use Rattle.rules.specs.Rules.Exchange.{channels_of, reconfigured, reset008h}
 use Rattle.rules.specs.Statements.Channels as L
 use Rattle.rules.specs.Statements.Channels.{Acts, Settles}
-use Rattle.rules.specs.Proofs.Lift.{lift-change, lift_stays, put_same, each_as}
-use Rattle.rules.specs.Proofs.Plans.{did}
-use Rattle.rules.specs.Proofs.Channels as H
+use Rattle.rules.proofs.Proofs.Lift.{lift-change, lift_stays, put_same, each_as}
+use Rattle.rules.proofs.Proofs.Plans.{did}
+use Rattle.rules.proofs.Proofs.Channels as H
 use Rattle.rules.specs.declared.Say.{Say}
 use Rattle.rules.specs.declared.Say.TheVariants as S
 use Rattle.rules.specs.declared.Reply.{Reply}

@@ -36,8 +36,8 @@ use Rattle.rules.specs.Rules.Fits.{plain}
 use Rattle.rules.specs.Rules.Exchange.{acted, hindered}
 use Rattle.rules.specs.Statements.Channels as L
 use Rattle.rules.specs.Statements.Channels.{Settles}
-use Rattle.rules.specs.Proofs.Lift.{put_same}
-use Rattle.rules.specs.Proofs.Channels as H
+use Rattle.rules.proofs.Proofs.Lift.{put_same}
+use Rattle.rules.proofs.Proofs.Channels as H
 use Rattle.rules.specs.declared.Body.TheVariants as B
 use Rattle.rules.specs.declared.Say.{Say}
 use Rattle.rules.specs.declared.Say.TheVariants as S

@@ -1,7 +1,7 @@
 use Rattle.std.proofs.Common.{Bool, ◌&&◌, eqb, leb, sym, ap, ◌∙◌, rules}
 use Rattle.base.specs.Pick.{pick, stops, goes_on}
 use Rattle.peripheral.specs.Sound.{sent_right}
-use Rattle.peripheral.specs.Facts.{request_made_lem}
+use Rattle.peripheral.proofs.Facts.{request_made_lem}
 use Rattle.peripheral.specs.Coded.{refused, admitted}
 use mathlib.Core.Bool.{not}
 use Rattle.peripheral.proofs.held_holds.Goals as goal

@@ -1,7 +1,7 @@
 use native.Mathlib.Omega.{arith}
 use Prim.Native.Nat.{ℕ, ◌+◌}
 use mathlib.Core.Path.{sym, ap, ◌∙◌}
-use Rattle.rules.specs.Proofs.Reply.{closed-length}
+use Rattle.rules.proofs.Proofs.Reply.{closed-length}
 use Rattle.reply.specs.Written.{said_by_lem}
 use borrow.Author.Rules.{rules}
 use Rattle.reply.proofs.finish.Reads as finish-reads

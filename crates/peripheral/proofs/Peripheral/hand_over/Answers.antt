@@ -1,5 +1,6 @@
 use Rattle.std.proofs.Common.{sym, refl, ◌∙◌, rules}
-use Rattle.peripheral.specs.Coded.{piece_facts, free_handed, waiting-handed, ready_handed, failed_handed}
+use Rattle.peripheral.specs.Coded.{free_handed, waiting-handed, ready_handed, failed_handed}
+use Rattle.peripheral.proofs.Coded.{piece_facts}
 use Rattle.peripheral.proofs.Peripheral.hand_over.Goals as goal
 
 pub hand_success-requires : goal.hand_success-requires

@@ -6,7 +6,7 @@ use borrow.Author.Tests.{eq-eqb}
 use Rattle.base.specs.Pick.{and_true}
 use Rattle.wires.specs.declared.Course.{Course}
 use Rattle.wires.specs.Course.{course_of, past_pairs, pairs_next, pairs-done}
-use Rattle.wires.specs.WholePacket.{put-done}
+use Rattle.wires.proofs.WholePacket.{put-done}
 use borrow.Author.Rules.{rules}
 use Rattle.wires.proofs.Wires.put.Goals as goal
 

@@ -1,0 +1,3 @@
+pub mod Refused
+pub mod Facts
+pub mod Prefix

@@ -1,0 +1,5 @@
+pub mod Turns
+pub mod Powers
+pub mod Table18
+pub mod Residue
+pub mod Steps

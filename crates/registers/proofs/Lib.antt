@@ -1,0 +1,4 @@
+pub mod Masks
+pub mod Sizes
+pub mod Laws
+pub mod Fields

@@ -1,0 +1,3 @@
+pub mod Transitions
+pub mod Changes
+pub mod WholePacket
