@@ -2,7 +2,7 @@
 # make bench, make compare: README.md says what they do.
 CFLAGS = -std=c11 -O2 -Wall -Wextra -Werror -Iinclude
 ARCHIVE = target/staticlib/libespi.a
-SOURCES = $(shell find crates -name '*.rt' -o -name '*.antt') crates.txt
+SOURCES = $(shell find crates -name out -prune -o \( -name '*.rt' -o -name '*.antt' \) -print) crates.txt
 
 # NATIVE: the archive for the machine at hand; where that is not x86-64, the firmware build of the same module. The x86-64 archive is then run by an emulator
 # (tests/tools.sh installs what is needed), and what is timed is the machine's own build (TIMED). QUICK: as many calls as take a quarter of a minute.

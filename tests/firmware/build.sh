@@ -20,27 +20,14 @@ esac
 [ "${2:-}" != --known ] || exit 0
 folder=$out/$1 flags=${FLAGS:-}
 
-# The kit's words, without the machine, the optimisation, the files and its C library.
-words() {
-    skip=
-    while read -r word; do
-        if [ -n "$skip" ]; then skip=; continue; fi
-        case $word in
-        -x | -o) skip=yes ;;
-        --target=* | --sysroot=* | -march=* | -mcpu=* | -mabi=* | -O* | -fPIC | -c | *.bc) ;;
-        *) printf '%s\n' "$word" ;;
-        esac
-    done < "$out/words"
-}
-
 # "not recognised": the module names an x86-64 processor for its functions, and any other machine's generic one is taken instead.
 lower() {
     mkdir -p "$folder"
     rm -f "$folder"/*
     # shellcheck disable=SC2046,SC2086
-    "$(cat $out/clang)" $(words) "--target=$1" $own $flags -fno-unwind-tables -fno-asynchronous-unwind-tables -Wno-override-module \
+    "$(cat $out/clang)" $(cat $out/words) "--target=$1" $own $flags -fno-unwind-tables -fno-asynchronous-unwind-tables -Wno-override-module \
         -c -x ir "$out/module.bc" -o "$folder/espi.o" 2> "$folder/said" || { cat "$folder/said" >&2; exit 1; }
-    grep -v "^'x86-64' is not a recognized processor for this target" "$folder/said" >&2 || true
+    grep -v "^'x86-64-v2' is not a recognized processor for this target" "$folder/said" >&2 || true
     "$(dirname "$(cat $out/clang)")/llvm-ar" rcsD "$folder/libespi.a" "$folder/espi.o"
     echo "$flags" > "$folder/flags"
 }
