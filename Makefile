@@ -39,12 +39,15 @@ include tests/firmware/firmware.mk
 target/board: examples/board.c examples/print.h include/espi.h $(NATIVE)
 	$(CC) $(CFLAGS) -o $@ examples/board.c $(NATIVE)
 
-# The program that plays a capture: make capture FILE=story.cap. It is x86-64 code, run by the emulator elsewhere (X86_RUN).
+# The program that plays a capture: make capture FILE=story.cap. It is x86-64 code, run by the emulator elsewhere (X86_RUN). rt run proves it, builds it and
+# runs it, here on what the gate runs it on.
 CAPTURE = target/bin/capture
 
 $(CAPTURE): $(SOURCES)
-	rt check capture
-	touch $@
+	mkdir -p $(@D)
+	cd crates/capture && rt run < stdin > $(abspath $@).txt
+	cmp crates/capture/stdout $@.txt
+	cp crates/capture/out/capture $@
 
 capture:
 	@test -f "$(FILE)" || { echo "make capture FILE=.., a file; docs/CAPTURE.md says how it looks"; exit 2; }
