@@ -102,16 +102,18 @@ target/figures: tests/figures.c tests/crc8.h include/espi.h $(ARCHIVE)
 target/figures-native: tests/figures.c tests/crc8.h include/espi.h $(NATIVE)
 	$(CC) $(CFLAGS) -D_POSIX_C_SOURCE=199309L -o $@ tests/figures.c $(NATIVE)
 
-# The shapes of the CRC that were tried, each compiled as the kit compiles the archive.
+# The shapes of the CRC that were tried, each compiled as the kit compiles the archive, whose module names x86-64-v2 as its processor.
+KIT_CLANG = $$(cat target/firmware/clang target/firmware/words)
+
 shapes: target/shapes target/shapes$(TIMED)
 	python3 tests/figures.py shapes
 
 target/shapes: tests/shapes.c tests/shapes_run.c tests/crc8.h $(MODULE)
-	$$(cat target/firmware/clang) --target=x86_64-linux-gnu -O3 -c tests/shapes.c -o $@.o
+	$(KIT_CLANG) --target=x86_64-linux-gnu -march=x86-64-v2 -O3 -c tests/shapes.c -o $@.o
 	$(X86_CC) $(CFLAGS) -D_POSIX_C_SOURCE=199309L -o $@ tests/shapes_run.c $@.o
 
 target/shapes-native: tests/shapes.c tests/shapes_run.c tests/crc8.h $(MODULE)
-	$$(cat target/firmware/clang) --target=$(shell uname -m)-linux-gnu -O3 -c tests/shapes.c -o $@.o
+	$(KIT_CLANG) --target=$(shell uname -m)-linux-gnu -O3 -c tests/shapes.c -o $@.o
 	$(CC) $(CFLAGS) -D_POSIX_C_SOURCE=199309L -o $@ tests/shapes_run.c $@.o
 
 # The engine written again in Rust, against the archive and the program that plays captures: calls and captures without a difference, then every deliberate
