@@ -1,10 +1,8 @@
 -- Numbers as bytes, there and back: what packing and unpacking rest on.
 -- ---- a number's bytes give it back
-use Rattle.std.specs.Prelude.{ℕ, zero, suc, ◌+◌, ◌*◌, ◌/◌, ◌%◌, ◌^◌, ◌<◌, ◌≤◌, ◌&&◌, List, [], ◌∷◌, ◌++◌, ◌≡◌, refl, eqb, length, get_or, take, drop}
-use Rattle.std.proofs.Common.{zero-le, ap, ◌∙◌, mod-eq_of_lt, zero-add, lt_of_le_of_lt, arith, length-append, drop-cons, get_or-append-add, eqb-true, eq-eqb}
-use Rattle.std.proofs.Math.Nat.{add-mul-div_right, div-eq_of_lt}
+use Rattle.std.specs.Prelude.{ℕ, ◌+◌, ◌*◌, ◌%◌, ◌^◌, ◌<◌, List, [], ◌∷◌, ◌≡◌, get_or}
+use Rattle.std.proofs.Common.{◌∙◌, mod-eq_of_lt, arith}
 use Rattle.std.proofs.lemmas.Nat.{mod-pow-add}
-use Rattle.base.specs.Pick.{and_left, and_right, and_true, same_test}
 use Rattle.base.specs.Bytes.{low4, low8, joined4, number4, number8}
 use Rattle.base.specs.Numbers.{digit, joined, joined-high, low8-joined}
 

@@ -1,23 +1,21 @@
 -- What is known of a need and of an admitted command: the row and the tests that it passed, how many bytes it has, which numbers it holds.
 -- ---- how many bytes
-use Rattle.std.specs.Prelude.{ℕ, zero, suc, ◌+◌, ◌*◌, ◌/◌, ◌%◌, ◌^◌, ◌<◌, ◌≤◌, Bool, true, false, not, ◌&&◌, List, ◌⊎◌, ◌≡◌, eqb, ltb, leb, get_or}
-use Rattle.std.proofs.Common.{true≢false, inl, inr, sym, ap, ◌∙◌, lit≤}
+use Rattle.std.specs.Prelude.{ℕ, ◌+◌, ◌≤◌, Bool, true, false, not, ◌&&◌, List, ◌≡◌, eqb, ltb, leb, get_or}
+use Rattle.std.proofs.Common.{true≢false, sym, ap, ◌∙◌, lit≤}
 use Rattle.std.proofs.Math.Path.{refl, subst}
 use native.Mathlib.Omega.{arith}
 use borrow.Author.Tests.{ltb-false, ltb-true, lt-ltb, leb-true, eqb-true, eqb-false, not-false}
 use Rattle.std.proofs.Math.ListN.{length}
 use Rattle.base.specs.Pick.{pick, pick_ind}
-use Rattle.base.specs.Bytes.{high2}
-use Rattle.command.specs.Rows.{plain, headed, counted, resets, size_of_code, short, row_of}
-use Rattle.command.specs.Needs.{channel_on, cycle_listed, wide_cycle, address_bytes, length_of, all_ff, need_data, need_row, need_listed, need_in}
-use Rattle.command.specs.Decode.{high_first, command_of, crc_wrong, checked_as, read_off_value, admit_listed, admit}
-use Rattle.command.specs.declared.Access.{Access}
+use Rattle.command.specs.Rows.{row_of}
+use Rattle.command.specs.Needs.{channel_on, cycle_listed, address_bytes, all_ff, need_data, need_row, need_listed, need_in}
+use Rattle.command.specs.Decode.{command_of, crc_wrong, checked_as, read_off_value, admit_listed, admit}
 use Rattle.command.specs.declared.Access.TheVariants.{IoRead, IoWrite, MemoryRead, MemoryWrite}
 use Rattle.command.specs.declared.Opcode.{Opcode}
 use Rattle.command.specs.declared.Opcode.TheVariants as O
 use Rattle.command.specs.declared.Channels.{Channels}
 use Rattle.command.specs.declared.Channel.{Channel}
-use Rattle.command.specs.declared.Channel.TheVariants.{Peripheral, Wires, Independent}
+use Rattle.command.specs.declared.Channel.TheVariants.{Peripheral}
 use Rattle.command.specs.declared.Cycle.TheVariants.{Absent, Types}
 use Rattle.command.specs.declared.Data.{Data}
 use Rattle.command.specs.declared.Data.TheVariants.{Fixed, Length, Pairs, Ones}
@@ -26,14 +24,7 @@ use Rattle.command.specs.declared.Listed.{Listed}
 use Rattle.command.specs.declared.Listed.TheVariants.{As, Unlisted}
 use Rattle.command.specs.declared.Need.{Need}
 use Rattle.command.specs.declared.Need.TheVariants.{Whole, More, Open, Never}
-use Rattle.command.specs.declared.Head.{Head}
-use Rattle.command.specs.declared.Span.{Span}
-use Rattle.command.specs.declared.PeripheralCommand.{PeripheralCommand}
-use Rattle.command.specs.declared.PeripheralCommand.TheVariants as P
-use Rattle.command.specs.declared.WiresCommand.{WiresCommand}
-use Rattle.command.specs.declared.WiresCommand.TheVariants as W
 use Rattle.command.specs.declared.Command.{Command}
-use Rattle.command.specs.declared.Command.TheVariants as C
 use Rattle.command.specs.declared.Decoded.{Decoded}
 use Rattle.command.specs.declared.Decoded.TheVariants.{Known, Refused}
 use Rattle.command.specs.Facts.{CommandFits, CommandLength, CommandOn, IsBytes, LengthRight, NumbersFit, Reaches, Readable, RowTells, by_row, cycle_wrong, head_fits, high_fits, register_fits}

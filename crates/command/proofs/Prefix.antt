@@ -1,5 +1,5 @@
 -- What the first bytes of a command need, as more of them come: a whole and a refusal stay, and few bytes decide (01, Commands). So the bytes
-use Rattle.std.specs.Prelude.{ℕ, ◌+◌, ◌-◌, ◌<◌, ◌≤◌, Bool, not, ◌&&◌, List, [], ◌∷◌, ◌++◌, ◌⊎◌, ◌≡◌, eqb, ltb, leb, length, get_or, take}
+use Rattle.std.specs.Prelude.{ℕ, ◌-◌, ◌<◌, ◌≤◌, Bool, not, ◌&&◌, List, [], ◌∷◌, ◌++◌, ◌⊎◌, ◌≡◌, eqb, ltb, leb, length, get_or, take}
 use Rattle.std.proofs.Math.Bool.{true, false, and-false}
 use Rattle.std.proofs.Common.{true≢false, inl, inr, ap, subst, ◌∙◌, arith, lt-ltb, le-ltb, ltb-true, ltb-false, le-leb, eq-eqb, ne_eqb, lit≤, length-append, length-take, get_or-take}
 use Rattle.std.proofs.Math.Path.{refl, sym}
@@ -8,7 +8,7 @@ use Rattle.std.proofs.Math.ListN.{get_or-append}
 use Rattle.base.specs.Pick.{pick, pick_ind, taken, passed, and_left, and_right, and_true}
 use Rattle.command.specs.Rows.{plain, row_of}
 use Rattle.command.specs.Needs.{channel_on, cycle_listed, all_ff, need_data, need_row, need_listed, need_in}
-use Rattle.command.specs.Decode.{crc_good, checked_as, read_off_value, admit_listed, admit}
+use Rattle.command.specs.Decode.{checked_as, read_off_value, admit_listed, admit}
 use Rattle.command.specs.Facts.{IsBytes, SizeFits, length-fits, by_row, cycle_wrong}
 use Rattle.command.specs.declared.Opcode.{Opcode}
 use Rattle.command.specs.declared.Opcode.TheVariants as O
@@ -23,7 +23,6 @@ use Rattle.command.specs.declared.Listed.{Listed}
 use Rattle.command.specs.declared.Listed.TheVariants.{As, Unlisted}
 use Rattle.command.specs.declared.Need.{Need}
 use Rattle.command.specs.declared.Need.TheVariants.{Whole, More, Open, Never}
-use Rattle.command.specs.declared.Command.{Command}
 use Rattle.command.specs.declared.Command.TheVariants as C
 use Rattle.command.specs.declared.Decoded.{Decoded}
 use Rattle.command.specs.declared.Decoded.TheVariants.{Known, Refused}

@@ -8,9 +8,9 @@ use Rattle.std.proofs.Math.Path.{ap}
 use Rattle.std.proofs.lemmas.Bool.{not-false}
 use Rattle.std.proofs.Math.ListN.{length}
 use Rattle.base.specs.Pick.{pick, pick_ind, taken, passed, and_true}
-use Rattle.command.specs.Numbers.{length_wrong, opcode_unknown, channel_disabled, cycle_unlisted, crc_refused}
+use Rattle.command.specs.Numbers.{length_wrong, opcode_unknown, crc_refused}
 use Rattle.command.specs.Rows.{plain, headed, counted, resets, size_of_code, short, row_of}
-use Rattle.command.specs.Needs.{channel_on, cycle_listed, length_of, group_count, all_ff, need_data, need_row}
+use Rattle.command.specs.Needs.{channel_on, cycle_listed, group_count, all_ff, need_data, need_row}
 use Rattle.command.specs.Decode.{command_of, crc_wrong, read_off_value, admit_listed, admit}
 use Rattle.command.specs.Facts.{Reaches}
 use Rattle.command.proofs.Facts.{passes_reaches, admit_decodes, refused_number}
@@ -27,7 +27,6 @@ use Rattle.command.specs.declared.Listed.{Listed}
 use Rattle.command.specs.declared.Listed.TheVariants.{As, Unlisted}
 use Rattle.command.specs.declared.Need.{Need}
 use Rattle.command.specs.declared.Need.TheVariants.{Whole, More, Open, Never}
-use Rattle.command.specs.declared.Command.{Command}
 use Rattle.command.specs.declared.Command.TheVariants as C
 use Rattle.command.specs.declared.Decoded.{Decoded}
 use Rattle.command.specs.declared.Decoded.TheVariants.{Known, Refused}

@@ -1,32 +1,17 @@
 -- The number of a refusal, from the bytes alone: how many bytes an opcode asks for, in the order of 01, Replies and refusals; and that the definition
 -- of the decoder, which goes by the row, gives the same. So the code may test before it makes a row.
-use Rattle.std.specs.Prelude.{ℕ, ◌+◌, ◌-◌, ◌*◌, ◌<◌, ◌≤◌, Bool, true, false, not, ◌&&◌, ◌||◌, List, ◌≡◌, refl, eqb, ltb, leb, get_or}
-use Rattle.std.proofs.Math.Bool.{and-false}
-use Rattle.std.proofs.Common.{sym, subst, ◌∙◌, arith, ltb-true, ltb-false, lt-ltb, le-ltb, leb-true, leb-false, ne_eqb}
+use Rattle.std.specs.Prelude.{ℕ, ◌+◌, Bool, true, false, not, ◌||◌, List, ◌≡◌, refl, eqb, ltb, get_or}
 use Rattle.std.proofs.Math.Path.{ap}
-use Rattle.std.proofs.lemmas.Bool.{not-false}
 use Rattle.std.proofs.Math.ListN.{length}
-use Rattle.base.specs.Pick.{pick, pick_ind, taken, passed, and_true}
+use Rattle.base.specs.Pick.{pick}
 use Rattle.command.specs.Numbers.{length_wrong, opcode_unknown, channel_disabled, cycle_unlisted, crc_refused}
-use Rattle.command.specs.Rows.{plain, headed, counted, resets, size_of_code, short, row_of}
-use Rattle.command.specs.Needs.{channel_on, cycle_listed, length_of, group_count, all_ff, need_data, need_row}
-use Rattle.command.specs.Decode.{command_of, crc_wrong, read_off_value, admit_listed, admit}
-use Rattle.command.specs.Facts.{Reaches}
-use Rattle.command.specs.declared.Access.{Access}
-use Rattle.command.specs.declared.Opcode.{Opcode}
-use Rattle.command.specs.declared.Opcode.TheVariants as O
-use Rattle.command.specs.declared.Channels.{Channels}
-use Rattle.command.specs.declared.Channel.{Channel}
-use Rattle.command.specs.declared.Channel.TheVariants.{Peripheral, Independent}
-use Rattle.command.specs.declared.Cycle.TheVariants.{Absent, Types}
-use Rattle.command.specs.declared.Data.TheVariants.{Fixed, Length, Ones}
+use Rattle.command.specs.Needs.{cycle_listed, length_of, all_ff}
+use Rattle.command.specs.Decode.{crc_wrong}
+use Rattle.command.specs.declared.Cycle.TheVariants.{Types}
 use Rattle.command.specs.declared.Row.{Row}
 use Rattle.command.specs.declared.Listed.{Listed}
 use Rattle.command.specs.declared.Listed.TheVariants.{As, Unlisted}
-use Rattle.command.specs.declared.Need.{Need}
-use Rattle.command.specs.declared.Need.TheVariants.{Whole, More, Open, Never}
 use Rattle.command.specs.declared.Command.{Command}
-use Rattle.command.specs.declared.Command.TheVariants as C
 use Rattle.command.specs.declared.Decoded.{Decoded}
 use Rattle.command.specs.declared.Decoded.TheVariants.{Known, Refused}
 

@@ -1,5 +1,5 @@
 -- Powers of x that are sums of three small ones: by them a number's high part comes down. The first, x^8, is table 18; the others follow byte by byte.
-use Rattle.std.specs.Prelude.{ℕ, zero, suc, ◌+◌, ◌*◌, ◌/◌, ◌%◌, ◌^◌, ◌<◌, ◌≤◌, ◌≡◌, refl}
+use Rattle.std.specs.Prelude.{ℕ, ◌+◌, ◌*◌, ◌/◌, ◌%◌, ◌^◌, ◌<◌, ◌≤◌, ◌≡◌, refl}
 use Rattle.std.proofs.Math.Path.{sym, ap, ap₂}
 use Rattle.std.proofs.Common.{◌∙◌, mod-lt, lt_of_le_of_lt, lt_of_lt_of_le, arith, pow_pos, pow_mono, shl_lt, shr_lt}
 use Rattle.std.proofs.Math.Nat.{mul-le-mul_left}

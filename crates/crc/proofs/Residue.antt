@@ -2,12 +2,11 @@
 -- the sum, a shift of the CRC register the product with x; so several bytes a turn are sums and shifts of one number.
 -- ---- the shifts of a byte
 use Rattle.std.specs.Prelude.{ℕ, zero, suc, ◌+◌, ◌*◌, ◌/◌, ◌%◌, ◌^◌, ◌<◌, ◌≡◌, refl}
-use Rattle.std.proofs.Common.{sym, ap, ap₂, ◌∙◌, pow-suc, mul-one, mul_assoc, mul-div_cancel, zero-add, suc-add, arith, pow_pos}
-use Rattle.std.proofs.Math.Nat.{mul-mod_left}
-use Rattle.std.specs.Int.Bits.{bit_xor, xor_zero_r, xor_shifted}
+use Rattle.std.proofs.Common.{sym, ap, ap₂, ◌∙◌, arith}
+use Rattle.std.specs.Int.Bits.{bit_xor, xor_shifted}
 use Rattle.std.proofs.lemmas.Nat.{xor_lt, xor_shr, xor_mod}
 use Rattle.crc.specs.Crc.{crc_bit, shifts}
-use Rattle.crc.specs.Each.{same_bytes, byte-bytes}
+use Rattle.crc.specs.Each.{same_bytes}
 use Rattle.crc.specs.Xor.{xor_swap, xor_shift}
 use Rattle.crc.specs.Residue.{bit_lt, divided, divided_lt, halved, parted, residue, residue_shift, sevens}
 

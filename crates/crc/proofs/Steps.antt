@@ -1,16 +1,14 @@
 -- The steps of the code: numbers brought down to a byte, and that the byte is the CRC.
-use Rattle.std.specs.Prelude.{ℕ, ◌+◌, ◌*◌, ◌/◌, ◌%◌, ◌^◌, ◌<◌, ◌≤◌, ◌≡◌, refl}
-use Rattle.std.proofs.Common.{sym, subst, ◌∙◌, arith, lt_of_lt_of_le, pow_mono, shl_lt}
+use Rattle.std.specs.Prelude.{ℕ, ◌+◌, ◌^◌, ◌<◌, ◌≤◌, ◌≡◌}
+use Rattle.std.proofs.Common.{sym, ◌∙◌, arith, lt_of_lt_of_le, pow_mono, shl_lt}
 use Rattle.std.proofs.Math.Path.{ap, ap₂}
 use Rattle.std.specs.Int.Bits.{bit_xor}
 use Rattle.std.proofs.lemmas.Nat.{xor_lt}
 use Rattle.crc.specs.Crc.{shifts, crc_byte}
-use Rattle.crc.specs.Each.{same_bytes}
 use Rattle.crc.specs.Powers.{times, folded, power16, power32, power64}
 use Rattle.crc.proofs.Powers.{times-residue, times_lt, folded-residue, folded_lt, power8}
 use Rattle.crc.specs.Residue.{residue, residue-byte}
 use Rattle.crc.proofs.Residue.{residue_xor}
-use Rattle.crc.specs.Table18.{table18}
 use Rattle.crc.specs.Turns.{pair}
 use Rattle.crc.specs.Steps.{under}
 

@@ -2,13 +2,12 @@
 use Prim.Native.Nat.{ℕ, zero, suc, ◌+◌, ◌-◌, ◌*◌, ◌/◌, ◌^◌, ◌<◌, ◌≤◌, min}
 use Rattle.std.specs.Prelude.{List, ◌≡◌, length, drop}
 use Rattle.std.proofs.Math.Path.{refl, sym, ap, ap₂}
-use Rattle.std.proofs.Common.{◌∙◌, suc-mul, add-zero, zero-add, add-suc, add_assoc, lt_of_lt_of_le, pow-add, pow_mono}
+use Rattle.std.proofs.Common.{◌∙◌, suc-mul, zero-add, lt_of_lt_of_le, pow_mono}
 use native.Mathlib.Omega.{arith}
 use Rattle.std.proofs.Math.ListN.{get_or}
 use Rattle.std.specs.Int.Bits.{bit_xor, xor_lt}
 use Rattle.std.proofs.Math.Pow.{high}
-use Rattle.crc.specs.Crc.{crc_bit, shifts, crc_byte, crc_from, crc, crc_from_next}
-use Rattle.base.specs.Bytes.{joined4}
+use Rattle.crc.specs.Crc.{crc_bit, shifts, crc_byte, crc_from, crc}
 use Rattle.crc.specs.Residue.{residue, residue_lt, residue-byte, bit_lt, shifts_lt, shifts-last, shifts_add}
 use Rattle.crc.proofs.Residue.{residue_xor, residue-split, crc_bit_xor, shifts_xor}
 use Rattle.crc.specs.Powers.{doubled, doubled_lt, power128}

@@ -1,14 +1,9 @@
 -- Powers of x that are sums of three small ones: by them a number's high part comes down. The first, x^8, is table 18; the others follow byte by byte.
-use Rattle.std.specs.Prelude.{ℕ, zero, suc, ◌+◌, ◌*◌, ◌/◌, ◌%◌, ◌^◌, ◌<◌, ◌≤◌, ◌≡◌, refl}
-use Rattle.std.proofs.Math.Path.{sym, ap, ap₂}
-use Rattle.std.proofs.Common.{◌∙◌, mod-lt, lt_of_le_of_lt, lt_of_lt_of_le, arith, pow_pos, pow_mono, shl_lt, shr_lt}
-use Rattle.std.proofs.Math.Nat.{mul-le-mul_left}
-use Rattle.std.specs.Int.Bits.{bit_xor, xor_lt, xor_comm}
-use Rattle.std.proofs.Math.Pow.{split}
+use Rattle.std.specs.Prelude.{ℕ, zero, suc, ◌*◌, ◌/◌, ◌%◌, ◌^◌, ◌<◌, ◌≤◌, ◌≡◌, refl}
+use Rattle.std.proofs.Common.{mod-lt, arith, pow_pos, shr_lt}
+use Rattle.std.specs.Int.Bits.{bit_xor, xor_lt}
 use Rattle.crc.specs.Crc.{crc_bit, shifts}
 use Rattle.crc.specs.Each.{same_bytes}
-use Rattle.crc.specs.Residue.{residue, residue_lt, residue_shift, shifts_lt, shifts-last}
-use Rattle.crc.specs.Table18.{table18}
 
 -- a number times x^i + x^j + x^k
 unfoldable pub times : ℕ → ℕ → ℕ → ℕ → ℕ

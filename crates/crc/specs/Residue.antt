@@ -3,11 +3,10 @@
 use Rattle.std.specs.Prelude.{ℕ, zero, suc, ◌+◌, ◌*◌, ◌/◌, ◌%◌, ◌^◌, ◌<◌, ◌≡◌, refl}
 use Rattle.std.proofs.Common.{sym, ap, ap₂, ◌∙◌, pow-suc, mul-one, mul_assoc, mul-div_cancel, zero-add, suc-add, arith, pow_pos}
 use Rattle.std.proofs.Math.Nat.{mul-mod_left}
-use Rattle.std.specs.Int.Bits.{bit_xor, xor_zero_r, xor_shifted}
-use Rattle.std.proofs.lemmas.Nat.{xor_lt, xor_shr, xor_mod}
+use Rattle.std.specs.Int.Bits.{bit_xor, xor_zero_r}
+use Rattle.std.proofs.lemmas.Nat.{xor_lt}
 use Rattle.crc.specs.Crc.{crc_bit, shifts}
 use Rattle.crc.specs.Each.{same_bytes, byte-bytes}
-use Rattle.crc.specs.Xor.{xor_swap, xor_shift}
 
 -- ---- the shifts of a byte
 

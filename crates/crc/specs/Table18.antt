@@ -1,9 +1,6 @@
 -- 004, table 18, "CRC Byte with Input Data D7:D0": its eight equations, and that they are the eight shifts.
-use Rattle.std.specs.Prelude.{ℕ, ◌+◌, ◌*◌, ◌/◌, ◌%◌, ◌<◌, ◌≡◌, refl}
+use Rattle.std.specs.Prelude.{ℕ, ◌+◌, ◌*◌, ◌/◌, ◌%◌}
 use Rattle.std.specs.Int.Bits.{bit_xor}
-use Rattle.std.proofs.lemmas.Nat.{xor_lt}
-use Rattle.crc.specs.Crc.{crc_bit, shifts, crc_byte}
-use Rattle.crc.specs.Each.{same_bytes}
 
 infixl 60 ◌⊕◌
 -- "⊕ Denotes Logical XOR" (004, table 18)

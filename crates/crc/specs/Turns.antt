@@ -1,17 +1,14 @@
 -- Bytes as one number, and the CRC of eight and of sixteen more.
-use Prim.Native.Nat.{ℕ, zero, suc, ◌+◌, ◌-◌, ◌*◌, ◌/◌, ◌^◌, ◌<◌, ◌≤◌, min}
+use Prim.Native.Nat.{ℕ, zero, suc, ◌+◌, ◌*◌, ◌^◌, ◌<◌, ◌≤◌}
 use Rattle.std.specs.Prelude.{List, ◌≡◌, length, drop}
-use Rattle.std.proofs.Math.Path.{refl, sym, ap, ap₂}
-use Rattle.std.proofs.Common.{◌∙◌, suc-mul, add-zero, zero-add, add-suc, add_assoc, lt_of_lt_of_le, pow-add, pow_mono}
+use Rattle.std.proofs.Math.Path.{refl, sym, ap}
+use Rattle.std.proofs.Common.{◌∙◌, suc-mul, add-zero, add-suc, add_assoc, pow-add}
 use native.Mathlib.Omega.{arith}
 use Rattle.std.proofs.Math.ListN.{get_or}
 use Rattle.std.specs.Int.Bits.{bit_xor, xor_lt}
-use Rattle.std.proofs.Math.Pow.{high}
-use Rattle.crc.specs.Crc.{crc_bit, shifts, crc_byte, crc_from, crc, crc_from_next}
+use Rattle.crc.specs.Crc.{crc_bit, shifts, crc_byte, crc_from, crc_from_next}
 use Rattle.base.specs.Bytes.{joined4}
-use Rattle.crc.specs.Residue.{residue, residue_lt, residue-byte, bit_lt, shifts_lt, shifts-last, shifts_add}
-use Rattle.crc.specs.Powers.{doubled, doubled_lt, power128}
-use Rattle.crc.specs.Xor.{xor_assoc, xor_swap}
+use Rattle.crc.specs.Residue.{residue, residue_lt, shifts_lt}
 
 -- n bytes from a place on, the first the highest: "starts with bit[7] of byte 0 and proceeds from bit[7] to bit[0] of each byte" (004, 5.2)
 unfoldable pub word : ℕ → ℕ → List ℕ → ℕ

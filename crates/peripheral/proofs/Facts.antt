@@ -1,26 +1,19 @@
 -- What the soundness test of the channel says, part by part: the facts that readers of a sound state cite.
 -- ---- sizes
-use Rattle.std.specs.Prelude.{◌≡◌, ℕ, ◌+◌, ◌*◌, ◌%◌, ◌^◌, ◌<◌, ◌≤◌, Bool, true, false, ◌&&◌, ◌||◌, ltb, ◌⊎◌, ◌==◌, nat_le, nat_lt, refl}
-use Rattle.std.proofs.Common.{true≢false, inl, inr, sym, ap, subst, ◌∙◌, arith, eqb-true, ltb-true, leb-true, lt-ltb, eq-eqb}
-use Rattle.std.proofs.lemmas.Bool.{eqb-false}
-use Rattle.base.specs.Pick.{or_either, pick_ind, and_left, and_right, and_true}
+use Rattle.std.specs.Prelude.{◌≡◌, ℕ, ◌+◌, ◌%◌, ◌≤◌, true, ◌==◌, nat_le, nat_lt, refl}
+use Rattle.std.proofs.Common.{ap, ◌∙◌, arith, eqb-true, ltb-true, leb-true}
+use Rattle.base.specs.Pick.{pick_ind, and_left, and_right}
 use Rattle.registers.specs.Registers.{payload_legal, read_legal}
-use Rattle.registers.specs.Sizes.{payload_cases, read_cases}
-use Rattle.pieces.specs.Pieces.{next_size}
-use Rattle.pieces.specs.Blocks.{Block, block_bits}
-use Rattle.pieces.specs.Edges.{next_le, next_pos, next_ok}
+use Rattle.pieces.specs.Edges.{next_le, next_pos}
 use Rattle.peripheral.specs.Upward.{next_of, handed, after_piece, after_success}
-use Rattle.peripheral.specs.Status.{pc_free, np_free}
 use Rattle.peripheral.specs.declared.Kind.{Kind}
 use Rattle.peripheral.specs.declared.Kind.TheVariants.{MemoryRead, IoRead, IoWrite}
 use Rattle.peripheral.specs.declared.Request.{Request}
 use Rattle.peripheral.specs.declared.Np.{Np}
 use Rattle.peripheral.specs.declared.Np.TheVariants.{Free, Waiting, Ready, Failed}
 use Rattle.peripheral.specs.declared.Posted.{Posted}
-use Rattle.peripheral.specs.declared.Write.{Write}
-use Rattle.peripheral.specs.declared.Write.TheVariants.{Empty, Held}
-use Rattle.peripheral.specs.declared.Peripheral.{Peripheral}
-use Rattle.peripheral.specs.Sound.{within, short_size, io_made, made_as_value, request_made, sent_right, sound_request, sound_write, nothing_held, sound_peripheral, fits_request}
+use Rattle.peripheral.specs.declared.Write.TheVariants.{Held}
+use Rattle.peripheral.specs.Sound.{within, io_made, made_as_value, request_made, sent_right, sound_request, sound_write}
 use Rattle.peripheral.specs.Facts.{Common, MadeIoRead, MadeIoWrite, MadeMemoryRead, MadeRequest, MadeWrite, ReadyRequest, after-piece, bytes_fit, free_made, legal_payload, legal_read, made_io, next_most, ready_made, sent_of}
 
 pub within_block : (A L B : ℕ) → within A L B ≡ true → A % B + L ≤ B

@@ -1,25 +1,22 @@
 -- A sound channel's bytes give it back behind whatever stands before them, and are below 256; what such numbers give is within its widths.
 -- ---- lengths
-use Rattle.std.specs.Prelude.{◌≡◌, ℕ, zero, suc, ◌+◌, ◌^◌, ◌<◌, ◌≤◌, true, List, ◌++◌, length, slice_index, refl}
-use Rattle.std.proofs.Common.{append_assoc, sym, ap, ◌∙◌, arith, ltb-true, lt-ltb}
-use Rattle.base.specs.Pick.{and_left, and_right, and_true}
-use Rattle.base.specs.Bytes.{low4, low8, number4, number8}
-use Rattle.base.specs.Numbers.{length_join, past, number4_past, number8_past, four_same, eight_same, number4_lt, number8_lt}
+use Rattle.std.specs.Prelude.{◌≡◌, ℕ, ◌^◌, ◌<◌, true, List, ◌++◌, length}
+use Rattle.std.proofs.Common.{append_assoc, sym, ap, ◌∙◌, arith, ltb-true}
+use Rattle.base.specs.Pick.{and_left, and_right}
+use Rattle.base.specs.Bytes.{low4, number4}
+use Rattle.base.specs.Numbers.{length_join, past, number4_past}
 use Rattle.base.proofs.Numbers.{back4, back8}
-use Rattle.base.specs.AllBytes.{AllBytes, all_cons, all_append, all-low4, then4, then8}
-use Rattle.peripheral.specs.declared.Kind.{Kind}
-use Rattle.peripheral.specs.declared.Kind.TheVariants.{MemoryRead, IoRead, IoWrite}
+use Rattle.base.specs.AllBytes.{AllBytes, all_cons, all_append, all-low4}
 use Rattle.peripheral.specs.declared.Request.{Request}
 use Rattle.peripheral.specs.declared.Np.{Np}
 use Rattle.peripheral.specs.declared.Np.TheVariants.{Free, Waiting, Ready, Failed}
-use Rattle.peripheral.specs.declared.Posted.{Posted}
 use Rattle.peripheral.specs.declared.Write.{Write}
 use Rattle.peripheral.specs.declared.Write.TheVariants.{Empty, Held}
 use Rattle.peripheral.specs.declared.Peripheral.{Peripheral}
 use Rattle.peripheral.specs.Sound.{sound_request, sound_write, fits_request, fits_write, fits_peripheral}
 use Rattle.peripheral.specs.Facts.{MadeRequest}
 use Rattle.peripheral.proofs.Facts.{waiting_request, failed_request, ready_request, held-write}
-use Rattle.peripheral.specs.Layout.{write_bytes_value, kind_number, request_bytes, np_bytes, peripheral_bytes, write_of, kind_of, np_of, posted_in, request_in, write_in, np_in, peripheral_in}
+use Rattle.peripheral.specs.Layout.{write_bytes_value, request_bytes, np_bytes, peripheral_bytes, write_of, posted_in, request_in, write_in, np_in, peripheral_in}
 use Rattle.peripheral.specs.Packing.{all-write, all_numbers, all_request, kind_back, np_length, posted_at, request_at, write-length}
 
 -- ---- what a packed part gives back

@@ -1,5 +1,5 @@
 -- How the code decides what a definition says in another way: the laws that its proofs cite.
-use Rattle.std.specs.Prelude.{◌≡◌, ℕ, zero, suc, ◌+◌, ◌*◌, ◌%◌, ◌^◌, ◌<◌, ◌≤◌, Bool, true, false, not, ◌&&◌, ◌||◌, List, ◌++◌, length, ◌==◌, ◌≢◌, nat_le, nat_lt, slice_index, refl}
+use Rattle.std.specs.Prelude.{◌≡◌, ℕ, zero, suc, ◌+◌, ◌*◌, ◌%◌, ◌^◌, ◌≤◌, Bool, true, false, not, ◌&&◌, ◌||◌, List, ◌++◌, length, ◌==◌, ◌≢◌, nat_le, nat_lt, slice_index, refl}
 use Rattle.std.proofs.Common.{append_assoc, sym, ap, subst, ◌∙◌, add_comm, add-zero, arith, eqb-true, eq-eqb, ne_eqb, lt-ltb, le-ltb}
 use Rattle.std.proofs.lemmas.Bool.{not-true, not-false}
 use Rattle.base.specs.Pick.{pick, and_right, taken, passed}

@@ -1,13 +1,13 @@
 -- What the soundness test of the channel says, part by part: the facts that readers of a sound state cite.
-use Rattle.std.specs.Prelude.{◌≡◌, ℕ, ◌+◌, ◌*◌, ◌%◌, ◌^◌, ◌<◌, ◌≤◌, Bool, true, false, ◌&&◌, ◌||◌, ltb, ◌⊎◌, ◌==◌, nat_le, nat_lt, refl}
-use Rattle.std.proofs.Common.{true≢false, inl, inr, sym, ap, subst, ◌∙◌, arith, eqb-true, ltb-true, leb-true, lt-ltb, eq-eqb}
+use Rattle.std.specs.Prelude.{◌≡◌, ℕ, ◌+◌, ◌*◌, ◌%◌, ◌^◌, ◌<◌, ◌≤◌, Bool, true, false, ◌&&◌, ◌||◌, ltb, ◌⊎◌, ◌==◌, nat_lt, refl}
+use Rattle.std.proofs.Common.{true≢false, inl, inr, sym, subst, arith, eqb-true, ltb-true, lt-ltb, eq-eqb}
 use Rattle.std.proofs.lemmas.Bool.{eqb-false}
 use Rattle.base.specs.Pick.{or_either, pick_ind, and_left, and_right, and_true}
 use Rattle.registers.specs.Registers.{payload_legal, read_legal}
 use Rattle.registers.specs.Sizes.{payload_cases, read_cases}
 use Rattle.pieces.specs.Pieces.{next_size}
 use Rattle.pieces.specs.Blocks.{Block, block_bits}
-use Rattle.pieces.specs.Edges.{next_le, next_pos, next_ok}
+use Rattle.pieces.specs.Edges.{next_ok}
 use Rattle.peripheral.specs.Upward.{next_of, handed, after_piece, after_success}
 use Rattle.peripheral.specs.Status.{pc_free, np_free}
 use Rattle.peripheral.specs.declared.Kind.{Kind}
@@ -19,7 +19,7 @@ use Rattle.peripheral.specs.declared.Posted.{Posted}
 use Rattle.peripheral.specs.declared.Write.{Write}
 use Rattle.peripheral.specs.declared.Write.TheVariants.{Empty, Held}
 use Rattle.peripheral.specs.declared.Peripheral.{Peripheral}
-use Rattle.peripheral.specs.Sound.{within, short_size, io_made, made_as_value, request_made, sent_right, sound_request, sound_write, nothing_held, sound_peripheral, fits_request}
+use Rattle.peripheral.specs.Sound.{short_size, io_made, made_as_value, request_made, sent_right, sound_request, sound_write, nothing_held, sound_peripheral, fits_request}
 
 -- ---- sizes
 

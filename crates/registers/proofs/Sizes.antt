@@ -1,12 +1,9 @@
 -- The sizes and counts that reachable registers say (01, Registers and status).
 -- ---- a reachable value is not forbidden, and its own write to the reset value leaves it
-use Rattle.std.specs.Prelude.{ℕ, ◌+◌, ◌≤◌, ◌<◌, Bool, true, false, ◌&&◌, ◌||◌, not, ◌≡◌, refl, eqb, ltb}
-use Rattle.std.proofs.Common.{inl, inr, ◌∙◌, ap, sym, subst, eq-or-lt_of_le, arith, eqb-true, ltb-false}
-use Rattle.std.proofs.lemmas.Bool.{eqb-false, not-true}
-use Rattle.base.specs.Pick.{and_left, and_right}
-use Rattle.registers.specs.declared.Reg010.{Reg010}
+use Rattle.std.specs.Prelude.{◌+◌, ◌≤◌, true, ◌≡◌}
+use Rattle.std.proofs.Common.{◌∙◌, ap, arith}
 use Rattle.registers.specs.declared.Reg020.{Reg020}
-use Rattle.registers.specs.Registers.{bits, forbidden008, forbidden010, size_of, payload_legal, read_legal, payload_size, read_size, operating_count, write008, write010, write020, fresh008, fresh010, fresh020, reachable008, reachable010, reachable020}
+use Rattle.registers.specs.Registers.{bits, operating_count, fresh020, reachable020}
 use Rattle.registers.specs.Fields.{supported_written}
 use Rattle.registers.specs.Sizes.{own020}
 

@@ -1,13 +1,13 @@
 -- The fields of a masked write, and of each register that is written (01, Registers and status).
-use Rattle.std.specs.Prelude.{ℕ, ◌+◌, ◌-◌, ◌*◌, ◌/◌, ◌%◌, ◌^◌, ◌<◌, ◌≡◌, refl, eqb}
-use Rattle.std.proofs.Common.{◌∙◌, ap, sym, div-one, lt_of_le_of_lt, arith}
+use Rattle.std.specs.Prelude.{ℕ, ◌-◌, ◌*◌, ◌/◌, ◌%◌, ◌^◌, ◌<◌, ◌≡◌, refl}
+use Rattle.std.proofs.Common.{◌∙◌, lt_of_le_of_lt}
 use Rattle.std.proofs.Math.Nat.{mod-mod}
 use Rattle.std.specs.Int.Bits.{bit_and, bit_or, and_zero_r, or_zero_r}
 use Rattle.std.proofs.lemmas.Nat.{or_lt, and_le_l, or_shr, and_shr, or_mod, and_mod, and_mask}
 use Rattle.registers.specs.declared.Reg008.{Reg008}
 use Rattle.registers.specs.declared.Reg010.{Reg010}
 use Rattle.registers.specs.declared.Reg020.{Reg020}
-use Rattle.registers.specs.Registers.{field, bits, masked, readied, writable008, writable010, writable020, write008, write010, write020, size_of, crc_checked, on0, on1, payload_size, read_size, operating_count}
+use Rattle.registers.specs.Registers.{field, bits, masked, readied, writable020, write008, write010, write020}
 
 -- ---- fields of a masked write; the premises are refl at numerals
 

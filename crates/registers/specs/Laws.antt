@@ -3,11 +3,8 @@
 use Rattle.std.specs.Prelude.{ℕ, ◌*◌, ◌%◌, ◌^◌, ◌<◌, Bool, true, false, ◌&&◌, not, ◌≡◌, refl, eqb}
 use Rattle.std.proofs.Common.{ap, sym, subst, arith, lit<, eq-eqb}
 use Rattle.base.specs.Pick.{pick, and_left, and_right, and_true}
-use Rattle.registers.specs.declared.Reg008.{Reg008}
-use Rattle.registers.specs.declared.Reg010.{Reg010}
-use Rattle.registers.specs.declared.Reg020.{Reg020}
 use Rattle.registers.specs.declared.Config.{Config}
-use Rattle.registers.specs.Registers.{masked, readied, reset008, reset010, reset020, writable008, writable010, writable020, forbidden008, forbidden010, write008, write010, write020, fresh008, fresh010, fresh020, fresh_config, forbidden_at, write_at, reachable008, reachable010, reachable020, reachable}
+use Rattle.registers.specs.Registers.{masked, readied, writable008, writable010, writable020, write020, fresh008, fresh010, fresh020, fresh_config, write_at, reachable008, reachable010, reachable020, reachable}
 pub use Rattle.registers.specs.Fields.{field-kept, field-written, masked-fits, Written008, Written010, Written020}
 pub use Rattle.registers.specs.Sizes.{own008, own010, own020, at_equal, sizes, payload_legal_lem, read_legal_lem, payload_cases, read_cases}
 

@@ -2,10 +2,7 @@
 use Rattle.std.specs.Prelude.{ℕ, ◌+◌, ◌-◌, ◌*◌, ◌/◌, ◌%◌, ◌^◌, min, max, ◌≡◌, refl}
 use Rattle.std.proofs.Common.{sym, ap, ap₂, ◌∙◌, arith}
 use Rattle.std.proofs.Math.Arith.{bin_ind}
-use Rattle.std.specs.Int.Bits.{bit_and, bit_or, and_step, or_step, and_self, and_zero_r, or_zero_r}
-use Rattle.std.proofs.lemmas.Nat.{and_comm}
-use Rattle.registers.specs.Registers.{field, masked, readied}
-use Rattle.registers.specs.Fields.{field-written}
+use Rattle.std.specs.Int.Bits.{bit_and, bit_or, and_step, or_step, and_zero_r, or_zero_r}
 
 -- ---- digit by digit
 

@@ -1,9 +1,8 @@
 -- Laws by which the reply's writers meet their contracts: each follows the writes in the code's order.
-use Rattle.std.specs.Prelude.{ℕ, suc, ◌+◌, ◌-◌, ◌≤◌, ◌<◌, Bool, true, false, ◌&&◌, List, [], ◌∷◌, ◌++◌, ◌≡◌, refl, length, take, drop, ltb}
-use Rattle.std.proofs.Common.{true≢false, sym, ap, ap₂, subst, ◌∙◌, arith, length-append, length-drop, length-take-le, ltb-true, ltb-false}
+use Rattle.std.specs.Prelude.{ℕ, suc, ◌+◌, ◌-◌, ◌≤◌, true, List, [], ◌∷◌, ◌++◌, ◌≡◌, refl, length, take, drop}
+use Rattle.std.proofs.Common.{true≢false, sym, ap, subst, ◌∙◌, arith, length-append, length-drop, length-take-le}
 use borrow.Rule.Slice.PartMut.{mid_of, put_mid}
-use Rattle.base.specs.Pick.{pick, and_left, and_right}
-use Rattle.base.specs.Bytes.{low2, put, over, copied, put_none, put-over, put-put, put_first, take-over, over-over, tail_lent, tail_back, over-take, drop-over, over_parts, copied-over}
+use Rattle.base.specs.Bytes.{low2, put, over, copied, put-over, put_first, take-over, over-over, tail_lent, tail_back, over-take, drop-over, over_parts, copied-over}
 use Rattle.crc.specs.Crc.{crc}
 use Rattle.wires.specs.Senders.{AllWires}
 use Rattle.wires.specs.declared.Packet.{Packet}

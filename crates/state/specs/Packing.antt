@@ -1,5 +1,5 @@
 -- P3, packing: sound states and their 174 bytes, there and back; nothing past them matters.
-use Rattle.std.specs.Prelude.{ℕ, zero, suc, ◌<◌, ◌≤◌, Bool, true, List, [], ◌↔◌, ◌≡◌, refl, length, get_or, take}
+use Rattle.std.specs.Prelude.{ℕ, zero, suc, ◌<◌, ◌≤◌, true, List, [], ◌↔◌, ◌≡◌, refl, length, get_or, take}
 use Rattle.std.proofs.Common.{sym, ap, subst, ◌∙◌, le_of_eq, arith, get_or-take, take_all, eq-eqb}
 use Rattle.base.specs.Pick.{and_left, and_right, and_true}
 use Rattle.base.specs.Bytes.{over, over-take, take-over, agree, agree-take}

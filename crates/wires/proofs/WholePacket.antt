@@ -1,22 +1,19 @@
 -- The whole pass: from the held values on it comes to the wires after all pairs, and to whether one has a third transition.
-use Rattle.std.specs.Prelude.{ℕ, zero, suc, ◌+◌, ◌-◌, ◌*◌, ◌/◌, ◌%◌, ◌^◌, ◌<◌, Bool, true, false, ◌&&◌, not, List, [], ◌∷◌, ◌≡◌, refl, eqb, ltb, get_or, set, length}
+use Rattle.std.specs.Prelude.{ℕ, ◌+◌, ◌*◌, ◌/◌, ◌%◌, ◌^◌, ◌<◌, Bool, true, false, ◌&&◌, not, List, ◌∷◌, ◌≡◌, refl, eqb, ltb, set}
 use Rattle.std.proofs.Common.{true≢false, sym, ap, ap₂, ◌∙◌, arith, zero-add, eqb-true, eq-eqb}
-use Rattle.std.specs.Int.Bits.{bit_and, bit_xor}
-use Rattle.std.proofs.lemmas.Nat.{and_le_r, or_lt}
-use Rattle.std.proofs.lemmas.List.{set-get_or}
-use Rattle.base.specs.Pick.{pick_ind, and_left}
+use Rattle.base.specs.Pick.{and_left}
 use Rattle.base.specs.Bytes.{bit}
-use Rattle.wires.specs.Table.{row_at, is_group}
+use Rattle.wires.specs.Table.{is_group}
 use Rattle.wires.specs.Nibbles.{bit_of, binary, zero_bit, same_bits}
-use Rattle.wires.specs.Lanes.{lane_bit, low_bit, zero_word}
-use Rattle.wires.specs.Rows.{in_table, undefined_bit}
-use Rattle.wires.specs.Kept.{clash, same_wires, whole_level, whole_put, put_small}
+use Rattle.wires.specs.Lanes.{zero_word}
+use Rattle.wires.specs.Rows.{undefined_bit}
+use Rattle.wires.specs.Kept.{same_wires, whole_level, whole_put, put_small}
 use Rattle.wires.specs.Groups.{level_at, is_down, defined_bit, read_wire, put_pairs, whole_wires}
 use Rattle.wires.specs.Changes.{last_named, put_passes, put-marks, put-place}
 use Rattle.wires.proofs.Changes.{put-read, put_undefined}
 use Rattle.wires.specs.Transitions.{values_given, transitions, transitions_of, third_of, third_transition, putting, none_third}
 use Rattle.wires.proofs.Transitions.{third_at}
-use Rattle.wires.specs.Course.{host_wires, course_of, changed_by, past_pair, past_pairs, with_level, with_levels, Small}
+use Rattle.wires.specs.Course.{host_wires, course_of, past_pairs, with_level, with_levels, Small}
 use Rattle.wires.specs.OneWire.{none, seen_third, Has, other_pairs, Ran, ran, host_bit}
 use Rattle.wires.specs.declared.Wires.{Wires}
 use Rattle.wires.specs.declared.Course.{Course}

@@ -1,19 +1,15 @@
 -- P19 and P20: what each change makes of levels, marks and place.
-use Rattle.std.specs.Prelude.{ℕ, ◌-◌, ◌*◌, ◌/◌, ◌%◌, ◌^◌, ◌<◌, ◌≤◌, Bool, true, false, ◌&&◌, ◌||◌, not, ◌≡◌, eqb}
+use Rattle.std.specs.Prelude.{ℕ, ◌-◌, ◌/◌, ◌%◌, ◌≤◌, Bool, true, false, ◌&&◌, ◌||◌, not, ◌≡◌, eqb}
 use mathlib.Core.List.{List, [], ◌∷◌}
 use Rattle.std.proofs.Math.Path.{refl, ap}
-use Rattle.std.proofs.Common.{sym, ◌∙◌, arith, get_or-set_same, get_or-set_other, eqb-true, eq-eqb, ne_eqb}
-use Rattle.std.specs.Int.Bits.{bit_and}
-use Rattle.std.proofs.lemmas.Nat.{and_le_r}
-use Rattle.std.proofs.Math.Pow.{pow-lt}
+use Rattle.std.proofs.Common.{sym, ◌∙◌, arith, get_or-set_same, get_or-set_other}
 use Rattle.std.proofs.lemmas.List.{set-get_or}
-use Rattle.std.proofs.lemmas.Bool.{eqb-false}
 use Rattle.base.specs.Pick.{pick, pick_ind, and_left}
 use Rattle.wires.specs.Table.{row_at, is_group}
-use Rattle.wires.specs.Rows.{InTable, in_table, defined-bit, Settable, settable-bit, row_right}
-use Rattle.wires.specs.Nibbles.{bit_of, binary, and_bit, and_one, nibble-bit, nibble_small, mask_inside, set-bit, same_bits}
-use Rattle.wires.specs.Kept.{clash, whole_level, whole_marks, whole_pair}
-use Rattle.wires.specs.Groups.{level_at, mark_at, with_group, nibble, is_down, put_pair, put_pairs, defined_bit, settable, set_level, set_wire, read_wire, whole_wires}
+use Rattle.wires.specs.Rows.{in_table}
+use Rattle.wires.specs.Nibbles.{bit_of}
+use Rattle.wires.specs.Kept.{clash, whole_level, whole_marks}
+use Rattle.wires.specs.Groups.{level_at, mark_at, with_group, is_down, put_pair, put_pairs, set_level, whole_wires}
 use Rattle.wires.specs.declared.Wires.{Wires}
 
 -- ---- one group changed

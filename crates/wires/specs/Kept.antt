@@ -1,5 +1,5 @@
 -- P4 for the wires: each change keeps them sound, and six.
-use Rattle.std.specs.Prelude.{ℕ, zero, suc, ◌+◌, ◌-◌, ◌*◌, ◌/◌, ◌%◌, ◌^◌, ◌≤◌, ◌<◌, Bool, true, false, ◌&&◌, ◌||◌, not, List, [], ◌∷◌, ◌++◌, map, ◌≡◌, refl, ◌⊎◌, eqb, leb, get_or, set, length}
+use Rattle.std.specs.Prelude.{ℕ, zero, suc, ◌+◌, ◌-◌, ◌*◌, ◌/◌, ◌%◌, ◌^◌, ◌≤◌, ◌<◌, Bool, true, false, ◌&&◌, ◌||◌, not, List, [], ◌∷◌, ◌++◌, map, ◌≡◌, refl, eqb, get_or, set, length}
 use Rattle.std.proofs.Common.{true≢false, sym, ap, subst, ◌∙◌, ⊎_elim, arith, length-set, drop_of_length-le, ltb-true, lt-ltb, le-leb, eqb-true, ne_eqb}
 use Rattle.std.specs.Int.Bits.{bit_and}
 use Rattle.std.proofs.lemmas.Nat.{and_le_r}

@@ -1,6 +1,6 @@
 -- The wires' bytes in those of a state (docs/STATE.md), there and back.
 use Rattle.std.specs.Prelude.{ℕ, ◌+◌, ◌-◌, ◌*◌, ◌/◌, ◌%◌, ◌<◌, ◌≤◌, Bool, true, false, ◌&&◌, ◌||◌, List, [], ◌∷◌, ◌++◌, ◌≡◌, refl, eqb, leb, get_or, length}
-use Rattle.std.proofs.Common.{ap, ◌∙◌, arith, ltb-true}
+use Rattle.std.proofs.Common.{arith, ltb-true}
 use Rattle.std.specs.Int.Bits.{bit_and}
 use Rattle.base.specs.Pick.{and_right}
 use Rattle.base.specs.Bytes.{bit, bit_below}

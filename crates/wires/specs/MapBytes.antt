@@ -1,15 +1,14 @@
 -- P3 for all wires: their bytes, there and back; a part of them stored at its own place is the whole part stored.
-use Rattle.std.specs.Prelude.{ℕ, zero, suc, ◌+◌, ◌-◌, ◌%◌, ◌<◌, ◌≤◌, Bool, true, ◌&&◌, List, [], ◌∷◌, ◌++◌, ◌≡◌, refl, eqb, ltb, length, get_or, take, drop}
-use Rattle.std.proofs.Common.{append_assoc, sym, ap, ap₂, subst, ◌∙◌, mod-lt, mod-eq_of_lt, arith, length-append, length-drop, take-append-drop, take_all, drop_at, take_at, length-take-le, drop-drop, eqb-true, eq-eqb, ltb-true, lt-ltb}
+use Rattle.std.specs.Prelude.{ℕ, zero, suc, ◌+◌, ◌-◌, ◌<◌, ◌≤◌, Bool, true, ◌&&◌, List, ◌∷◌, ◌++◌, ◌≡◌, refl, eqb, ltb, length, get_or, take, drop}
+use Rattle.std.proofs.Common.{append_assoc, sym, ap, ap₂, subst, ◌∙◌, mod-lt, mod-eq_of_lt, arith, length-append, length-drop, take-append-drop, take_all, take_at, length-take-le, drop-drop, eqb-true, eq-eqb, ltb-true, lt-ltb}
 use Rattle.std.proofs.Math.Seq.{drop-append-add}
 use Rattle.base.specs.Pick.{and_left, and_right, and_true}
 use Rattle.base.specs.Bytes.{put, put-put, length-put}
 use Rattle.base.specs.Numbers.{length_join, join, listed, listed-drop}
 use Rattle.base.specs.AllBytes.{AllBytes, all_none, all_cons, all_append}
 use Rattle.wires.specs.Below.{all, all-at, at_all}
-use Rattle.wires.specs.Table.{senders}
 use Rattle.wires.specs.Groups.{sound_wires, whole_wires}
-use Rattle.wires.specs.Lines.{map_length, Lines, whole_map, whole_lines, map_in, bytes_from, map_bytes, lines_in, lines_bytes, sound_lines}
+use Rattle.wires.specs.Lines.{map_length, Lines, whole_map, whole_lines, map_in, bytes_from, map_bytes, lines_in, lines_bytes}
 use Rattle.wires.specs.Senders.{AllWires, with_groups, with_lines, sound_all, whole_all}
 use Rattle.wires.specs.Kept.{sound_view, whole_level, whole_marks}
 use Rattle.wires.specs.Layout.{wires_bytes, wires_in, tidy_wires, all_bytes, all_in, wires_back, all_wires, wires_same}

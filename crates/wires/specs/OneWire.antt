@@ -1,5 +1,5 @@
 -- One wire in the pass: its bit of the four words says its value and its transitions so far; any other bit stays.
-use Rattle.std.specs.Prelude.{ℕ, ◌+◌, ◌-◌, ◌*◌, ◌/◌, ◌%◌, ◌^◌, ◌≤◌, ◌<◌, Bool, ◌&&◌, not, ◌≡◌, eqb, ltb}
+use Rattle.std.specs.Prelude.{ℕ, ◌+◌, ◌*◌, ◌/◌, ◌%◌, ◌^◌, ◌≤◌, ◌<◌, Bool, ◌&&◌, not, ◌≡◌, eqb, ltb}
 use Rattle.std.proofs.Math.Bool.{true, false}
 use Rattle.std.proofs.Common.{true≢false, sym, ap₂, subst, ◌∙◌, arith, add_assoc, eqb-true, eq-eqb, lt-ltb, le-ltb}
 use mathlib.Core.List.{List, [], ◌∷◌}

@@ -1,12 +1,12 @@
 -- P18: the six rows of the wire table and the senders among them, by computed tests, and what the tests on an index, a bit and a value say.
-use Rattle.std.specs.Prelude.{ℕ, zero, suc, ◌+◌, ◌-◌, ◌*◌, ◌/◌, ◌%◌, ◌^◌, ◌≤◌, ◌<◌, Bool, true, false, ◌&&◌, ◌||◌, not, ◌≡◌, refl, eqb, ltb, leb, get_or, length}
+use Rattle.std.specs.Prelude.{ℕ, zero, suc, ◌+◌, ◌-◌, ◌*◌, ◌/◌, ◌%◌, ◌^◌, ◌≤◌, ◌<◌, Bool, true, false, ◌&&◌, not, ◌≡◌, refl, eqb, ltb, leb, length}
 use Rattle.std.proofs.Common.{sym, ap, subst, ◌∙◌, arith, one-mul, shl_exact, leb-true, ltb-true, ltb-false, eqb-true, lt-ltb}
 use Rattle.std.specs.Int.Bits.{bit_and}
 use Rattle.std.proofs.lemmas.Bool.{eqb-false, not-true}
 use Rattle.base.specs.Pick.{pick, and_left, and_right}
 use Rattle.wires.specs.Below.{every, at_every}
 use Rattle.wires.specs.Table.{table, row_at, is_group, up_groups, line_count, is_line, senders, group_at, sender_of, is_up}
-use Rattle.wires.specs.Groups.{defined_bit, settable, first_place}
+use Rattle.wires.specs.Groups.{defined_bit, settable}
 
 -- ---- the rows
 

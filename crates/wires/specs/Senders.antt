@@ -1,12 +1,12 @@
 -- All virtual wires (01, Wires; 02, Q-4): the six groups and the interrupt lines; what GET_VWIRE sends of them, what enabling, disabling and resets
 -- make of them, and when they are sound.
-use Rattle.std.specs.Prelude.{ℕ, ◌+◌, ◌-◌, ◌*◌, Bool, false, ◌&&◌, List, [], ◌∷◌, ◌++◌}
+use Rattle.std.specs.Prelude.{ℕ, ◌+◌, ◌-◌, ◌*◌, Bool, ◌&&◌, List, [], ◌∷◌, ◌++◌}
 use Rattle.base.specs.Pick.{pick}
 use Rattle.base.specs.Bytes.{bit}
 use Rattle.wires.specs.Below.{any}
 use Rattle.wires.specs.Table.{is_line, senders, group_at}
 use Rattle.wires.specs.Turn.{after, turn, sizes}
-use Rattle.wires.specs.Groups.{fresh_wires, level_at, mark_at, group_byte, unmarked, with_place, enabled, disabled, platform_wires, sound_wires, whole_wires}
+use Rattle.wires.specs.Groups.{fresh_wires, mark_at, group_byte, unmarked, with_place, enabled, disabled, platform_wires, sound_wires, whole_wires}
 use Rattle.wires.specs.Lines.{Lines, no_lines, line_bit, line_size, line_entries, sent_line, raised, dropped, sound_lines, whole_lines}
 use Rattle.wires.specs.declared.Wires.{Wires}
 use Rattle.wires.specs.declared.Packet.{Packet}

@@ -1,11 +1,10 @@
 -- More than two changes of one wire (02, Q-6): the values that a packet gives a wire, and how often neighbours differ.
-use Rattle.std.specs.Prelude.{ℕ, ◌+◌, ◌-◌, ◌%◌, ◌<◌, ◌≤◌, Bool, true, false, ◌&&◌, not, List, [], ◌∷◌, ◌≡◌, refl, eqb, ltb, length}
-use Rattle.std.proofs.Common.{sym, ap, ap₂, ◌∙◌, arith, ltb-false}
-use Rattle.base.specs.Pick.{pick, and_left}
+use Rattle.std.specs.Prelude.{ℕ, ◌+◌, ◌%◌, ◌<◌, Bool, false, ◌&&◌, not, List, [], ◌∷◌, ◌≡◌, eqb, ltb, length}
+use Rattle.std.proofs.Common.{arith}
+use Rattle.base.specs.Pick.{pick}
 use Rattle.base.specs.Bytes.{bit}
-use Rattle.wires.specs.Below.{some, at_none, none_at}
-use Rattle.wires.specs.Table.{table, row_at, is_group}
-use Rattle.wires.specs.Rows.{in_table, defined-bit}
+use Rattle.wires.specs.Below.{some, none_at}
+use Rattle.wires.specs.Table.{table}
 use Rattle.wires.specs.Nibbles.{bit_of}
 use Rattle.wires.specs.Groups.{is_down, defined_bit, read_wire, put_pairs}
 use Rattle.wires.specs.Changes.{names}

@@ -1,4 +1,4 @@
-use Rattle.std.proofs.Common.{◌∙◌, ◌≡◌, ◌-◌, length, arith, refl, rules, length-take, length-drop}
+use Rattle.std.proofs.Common.{◌∙◌, ◌-◌, arith, refl, rules}
 use borrow.Rule.Slice.PartMut.{same_len_mid}
 use Rattle.playback.specs.Playing.{begin_size, begin_stands, play_size, play_stands, play_less}
 use Rattle.capture.proofs.play.Goals as goal

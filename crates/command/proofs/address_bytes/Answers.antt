@@ -1,6 +1,5 @@
 use mathlib.Core.Path.{refl, sym, ◌∙◌}
 use Rattle.base.specs.Pick.{taken, passed}
-use borrow.Author.Rules.{rules}
 use Rattle.command.proofs.address_bytes.Goals as goal
 
 pub returns-then-wide_cycle : goal.returns-then-wide_cycle

@@ -3,7 +3,6 @@ use Prim.Native.Nat.{ℕ, ◌+◌, ◌≤◌}
 use lib.ListN.{length}
 use Rattle.command.specs.Decode.{high_first}
 use Rattle.command.specs.Facts.{address_few}
-use borrow.Author.Rules.{rules}
 use Rattle.command.proofs.address_in.Goals as goal
 
 pub high_first-requires : goal.high_first-requires

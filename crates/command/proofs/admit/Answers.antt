@@ -4,7 +4,6 @@ use Rattle.base.specs.Pick.{taken, passed}
 use Rattle.command.specs.Decode.{admit_listed, admit}
 use Rattle.command.specs.Refused.{refused_is}
 use Rattle.command.proofs.Refused.{lets_in}
-use borrow.Author.Rules.{rules}
 use Rattle.command.specs.declared.Decoded.TheVariants.{Known}
 use Rattle.command.proofs.admit.Goals as goal
 

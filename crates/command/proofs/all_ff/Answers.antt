@@ -1,8 +1,5 @@
-use Prim.Native.Nat.{◌≤◌, ◌-◌}
-use mathlib.Core.Path.{◌≡◌, refl, sym, ◌∙◌}
+use mathlib.Core.Path.{sym, ◌∙◌}
 use borrow.Author.Rules.{rules}
-use lib.ListN.{length, drop}
-use Rattle.command.specs.Needs.{all_ff}
 use Rattle.command.specs.Laws.{all_ff-end, all_ff_next, all_ff_stop}
 use Rattle.command.proofs.all_ff.Goals as goal
 

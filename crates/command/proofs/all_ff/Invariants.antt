@@ -1,9 +1,7 @@
 use Prim.Native.Nat.{◌≤◌, ◌-◌}
-use mathlib.Core.Path.{◌≡◌, refl, sym, ◌∙◌}
-use borrow.Author.Rules.{rules}
+use mathlib.Core.Path.{◌≡◌}
 use lib.ListN.{length, drop}
 use Rattle.command.specs.Needs.{all_ff}
-use Rattle.command.specs.Laws.{all_ff-end, all_ff_next, all_ff_stop}
 use Rattle.command.proofs.all_ff.Given as goal
 
 abbrev pub invariant-loop-i : goal.invariant-loop-i

@@ -1,4 +1,3 @@
-use borrow.Author.Rules.{rules}
 use Rattle.command.proofs.cycle_listed.Goals as goal
 
 pub returns-in-Types : goal.returns-in-Types

@@ -1,4 +1,4 @@
-use Rattle.std.proofs.Common.{ℕ, ◌+◌, ◌≤◌, ◌≡◌, Bool, true, false, arith, eq-eqb, ne_eqb, eqb}
+use Rattle.std.proofs.Common.{ℕ, ◌+◌, ◌≡◌, Bool, true, false, arith, eq-eqb, ne_eqb, eqb}
 use Rattle.base.specs.Pick.{pick}
 use Rattle.command.proofs.headed_bytes.Goals as goal
 use Rattle.command.proofs.headed_bytes.Goals.{then-b-wide, else-b-wide}

@@ -1,9 +1,6 @@
-use Rattle.command.specs.Laws.{high_next, power_next, within}
-use Prim.Native.Nat.{ℕ, ◌≤◌, ◌<◌, ◌+◌, ◌-◌, ◌^◌}
-use mathlib.Core.Path.{◌≡◌, refl, ap, subst, ◌∙◌}
-use native.Mathlib.Omega.{arith}
+use Prim.Native.Nat.{◌≤◌, ◌<◌, ◌-◌, ◌^◌}
+use mathlib.Core.Path.{◌≡◌}
 use Rattle.command.specs.Decode.{high_first}
-use borrow.Author.Rules.{rules}
 use Rattle.command.proofs.high_first.Given as goal
 
 abbrev pub invariant-loop-i : goal.invariant-loop-i

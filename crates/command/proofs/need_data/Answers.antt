@@ -1,5 +1,4 @@
 use mathlib.Core.Path.{sym, ◌∙◌}
-use borrow.Author.Rules.{rules}
 use Rattle.command.proofs.need_data.Goals as goal
 
 pub returns-then-all_ff : goal.returns-then-all_ff

@@ -2,7 +2,6 @@ use mathlib.Core.Path.{refl, ap, sym, ◌∙◌}
 use borrow.Author.Tests.{eq-eqb, ne_eqb}
 use Rattle.base.specs.Pick.{taken, passed}
 use Rattle.command.specs.Needs.{need_in, need_listed}
-use borrow.Author.Rules.{rules}
 use Rattle.command.proofs.need_in.Goals as goal
 
 pub returns-then-b-eq0 : goal.returns-then-b-eq0

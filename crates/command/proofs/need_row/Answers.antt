@@ -2,7 +2,6 @@ use mathlib.Core.Bool.{Bool, not, ◌&&◌}
 use mathlib.Core.Path.{◌≡◌, refl, sym, ap, ◌∙◌}
 use borrow.Author.Tests.{lt-ltb, le-ltb}
 use Rattle.base.specs.Pick.{taken, passed}
-use borrow.Author.Rules.{rules}
 use Rattle.command.proofs.need_row.Goals as goal
 
 -- what a call gave, t in the code, is b in the definition, and the guard denies it, alone or with a second test

@@ -2,7 +2,6 @@ use mathlib.Core.Path.{refl, sym, ap, ◌∙◌}
 use mathlib.Core.Bool.{not}
 use borrow.Author.Tests.{eq-eqb, ne_eqb}
 use Rattle.base.specs.Pick.{taken, passed}
-use borrow.Author.Rules.{rules}
 use Rattle.command.proofs.refused_fixed.Goals as goal
 
 pub returns-then-not-on : goal.returns-then-not-on

@@ -7,7 +7,6 @@ use lib.Dec.{eqb}
 use lib.ListN.{length, get_or}
 use Rattle.base.specs.Pick.{taken, passed}
 use Rattle.command.specs.Refused.{refused_fixed, headed_bytes}
-use borrow.Author.Rules.{rules}
 use Rattle.command.proofs.refused_headed.Goals as goal
 
 -- neither of two cycle types, as the code asks and as the definition does

@@ -11,7 +11,6 @@ use Rattle.command.specs.declared.Access.TheVariants.{IoRead, IoWrite, MemoryRea
 use Rattle.command.specs.declared.Opcode.TheVariants as O
 use Rattle.command.specs.declared.Channel.TheVariants.{Peripheral, Wires, Independent}
 use Rattle.command.specs.declared.Listed.TheVariants.{Unlisted}
-use borrow.Author.Rules.{rules}
 use Rattle.command.proofs.refused_in.Goals as goal
 
 -- opcode, address, data of a write and CRC

@@ -1,7 +1,6 @@
 use mathlib.Core.Bool.{Bool, not, ◌||◌}
 use mathlib.Core.Path.{◌≡◌, refl, sym, ap, ◌∙◌}
 use Rattle.base.specs.Pick.{taken, passed}
-use borrow.Author.Rules.{rules}
 use Rattle.command.proofs.refused_reset.Goals as goal
 
 -- what `all_ff` gave, t in the code, is f in the definition

@@ -1,7 +1,6 @@
 use mathlib.Core.Path.{refl}
 use borrow.Author.Tests.{eq-eqb, ne_eqb}
 use Rattle.base.specs.Pick.{taken, passed}
-use borrow.Author.Rules.{rules}
 use Rattle.command.proofs.refused_short.Goals as goal
 
 pub returns-then-c-eq2 : goal.returns-then-c-eq2

@@ -1,5 +1,4 @@
 use borrow.Author.Tests.{eq-eqb, ne_eqb}
-use borrow.Author.Rules.{rules}
 use Rattle.command.proofs.short.Goals as goal
 
 pub returns-then-c-eq2 : goal.returns-then-c-eq2

@@ -1,11 +1,10 @@
 -- `crc::crc_bytes` meets its contract: the bytes that are left make the whole of the register now.
-use Prim.Native.Nat.{◌-◌, ◌<◌, ◌≤◌}
-use mathlib.Core.Path.{◌≡◌, refl, ◌∙◌}
+use Prim.Native.Nat.{◌≤◌}
+use mathlib.Core.Path.{refl, ◌∙◌}
 use native.Mathlib.Omega.{arith}
-use lib.ListN.{length, get_or, drop, drop_of_length-le}
+use lib.ListN.{length, get_or, drop_of_length-le}
 use Rattle.crc.specs.Crc.{crc_from, crc, crc_from_next}
 use Rattle.crc.proofs.Table18.{table18-byte}
-use borrow.Author.Rules.{rules}
 use Rattle.crc.proofs.crc_bytes.Goals as goal
 
 pub loop-i-preserved : goal.loop-i-preserved

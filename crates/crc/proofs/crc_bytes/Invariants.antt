@@ -1,10 +1,7 @@
 use Prim.Native.Nat.{◌-◌, ◌<◌, ◌≤◌}
-use mathlib.Core.Path.{◌≡◌, refl, ◌∙◌}
-use native.Mathlib.Omega.{arith}
-use lib.ListN.{length, get_or, drop, drop_of_length-le}
-use Rattle.crc.specs.Crc.{crc_from, crc, crc_from_next}
-use Rattle.crc.proofs.Table18.{table18-byte}
-use borrow.Author.Rules.{rules}
+use mathlib.Core.Path.{◌≡◌}
+use lib.ListN.{length, drop}
+use Rattle.crc.specs.Crc.{crc_from, crc}
 use Rattle.crc.proofs.crc_bytes.Given as goal
 
 abbrev pub invariant-loop-i : goal.invariant-loop-i

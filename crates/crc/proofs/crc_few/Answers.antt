@@ -9,7 +9,6 @@ use Rattle.crc.specs.Crc.{shifts, crc_from}
 use Rattle.crc.specs.Residue.{residue}
 use Rattle.crc.specs.Turns.{word, word_add}
 use Rattle.crc.proofs.Turns.{word-front, first_from}
-use borrow.Author.Rules.{rules}
 use Rattle.crc.proofs.crc_few.Goals as goal
 
 pub overflow_cast-high-2 : goal.overflow_cast-high-2

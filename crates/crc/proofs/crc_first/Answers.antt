@@ -1,7 +1,6 @@
 -- `crc_first` meets its contract: the lent part is the first n elements.
 use native.Mathlib.Omega.{arith}
 use lib.ListN.{length-take}
-use borrow.Author.Rules.{rules}
 use Rattle.crc.proofs.crc_first.Goals as goal
 
 -- `crc_first` meets its contract: the lent part is the first n elements.

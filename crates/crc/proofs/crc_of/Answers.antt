@@ -2,7 +2,6 @@
 use mathlib.Core.Path.{◌∙◌}
 use native.Mathlib.Omega.{arith}
 use Rattle.crc.specs.Crc.{crc-three}
-use borrow.Author.Rules.{rules}
 use Rattle.crc.proofs.crc_of.Goals as goal
 
 pub returns-then-n-eq3 : goal.returns-then-n-eq3

@@ -1,7 +1,6 @@
 -- `crc::crc_three` meets its contract: the number with one, two and three bytes taken in, brought down.
 use native.Mathlib.Omega.{arith}
 use Rattle.crc.proofs.Steps.{sum_lt, taken_lt, three_lt, three-step}
-use borrow.Author.Rules.{rules}
 use Rattle.crc.proofs.crc_three.Goals as goal
 
 pub times8-t-requires-2 : goal.times8-t-requires-2

@@ -1,14 +1,12 @@
 -- `crc::crc_turns` meets its contract: the bytes that are left make the whole of the two numbers now.
-use Prim.Native.Nat.{◌+◌, ◌-◌, ◌%◌, ◌^◌, ◌<◌, ◌≤◌}
-use mathlib.Core.Path.{◌≡◌, ap, ap₂, ◌∙◌}
+use Prim.Native.Nat.{◌+◌, ◌-◌, ◌%◌, ◌≤◌}
+use mathlib.Core.Path.{ap, ap₂, ◌∙◌}
 use native.Mathlib.Omega.{arith}
-use lib.ListN.{length, drop, drop_of_length-le}
+use lib.ListN.{length, drop_of_length-le}
 use lib.Bits.{bit_xor, xor_lt}
-use Rattle.crc.specs.Crc.{shifts, crc_from, crc}
+use Rattle.crc.specs.Crc.{shifts, crc_from}
 use Rattle.crc.proofs.Steps.{fold32_lt, pair_step}
-use Rattle.crc.specs.Turns.{pair}
 use Rattle.crc.proofs.Turns.{start_from, turn-from}
-use borrow.Author.Rules.{rules}
 use Rattle.crc.proofs.crc_turns.Goals as goal
 
 pub loop-i-init : goal.loop-i-init

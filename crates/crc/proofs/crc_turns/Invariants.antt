@@ -1,13 +1,8 @@
-use Prim.Native.Nat.{◌+◌, ◌-◌, ◌%◌, ◌^◌, ◌<◌, ◌≤◌}
-use mathlib.Core.Path.{◌≡◌, ap, ap₂, ◌∙◌}
-use native.Mathlib.Omega.{arith}
-use lib.ListN.{length, drop, drop_of_length-le}
-use lib.Bits.{bit_xor, xor_lt}
+use Prim.Native.Nat.{◌-◌, ◌%◌, ◌^◌, ◌<◌, ◌≤◌}
+use mathlib.Core.Path.{◌≡◌}
+use lib.ListN.{length, drop}
 use Rattle.crc.specs.Crc.{shifts, crc_from, crc}
-use Rattle.crc.proofs.Steps.{fold32_lt, pair_step}
 use Rattle.crc.specs.Turns.{pair}
-use Rattle.crc.proofs.Turns.{start_from, turn-from}
-use borrow.Author.Rules.{rules}
 use Rattle.crc.proofs.crc_turns.Given as goal
 
 abbrev pub invariant-loop-i : goal.invariant-loop-i

@@ -1,7 +1,6 @@
 -- `crc::crc_word` meets its contract: brought down to a byte.
 use native.Mathlib.Omega.{arith}
 use Rattle.crc.proofs.Steps.{fold32_lt, fold16_lt, short_lt, word-step, word-step_lt}
-use borrow.Author.Rules.{rules}
 use Rattle.crc.proofs.crc_word.Goals as goal
 
 pub overflow_cast-fold16 : goal.overflow_cast-fold16

@@ -3,7 +3,6 @@ use Prim.Native.Nat.{◌%◌}
 use mathlib.Core.Path.{ap}
 use lib.Bits.{bit_xor}
 use Rattle.crc.specs.Powers.{folded}
-use borrow.Author.Rules.{rules}
 use Rattle.crc.proofs.fold8.Goals as goal
 
 pub returns : goal.returns

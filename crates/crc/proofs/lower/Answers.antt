@@ -4,7 +4,6 @@ use mathlib.Core.Path.{◌≡◌, ap, ap₂, ◌∙◌}
 use native.Mathlib.Omega.{arith}
 use Rattle.crc.specs.Turns.{word}
 use Rattle.crc.proofs.Turns.{word-front}
-use borrow.Author.Rules.{rules}
 use Rattle.crc.proofs.lower.Goals as goal
 
 pub returns-then-n-lt8 : goal.returns-then-n-lt8

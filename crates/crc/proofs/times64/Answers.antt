@@ -4,7 +4,6 @@ use mathlib.Core.Path.{sym, ap}
 use native.Mathlib.Nat.{mul-one}
 use lib.Bits.{bit_xor}
 use Rattle.crc.specs.Powers.{times}
-use borrow.Author.Rules.{rules}
 use Rattle.crc.proofs.times64.Goals as goal
 
 pub returns : goal.returns

@@ -4,7 +4,6 @@ use mathlib.Core.Path.{◌≡◌, ap, ◌∙◌}
 use native.Mathlib.Omega.{arith}
 use Rattle.crc.specs.Turns.{word}
 use Rattle.crc.proofs.Turns.{word-front}
-use borrow.Author.Rules.{rules}
 use Rattle.crc.proofs.upper.Goals as goal
 
 -- `crc::upper` meets its contract: none, or what is left of eight bytes when those past them are shifted out.

@@ -1,7 +1,6 @@
 -- `crc::word4` meets its contract: the four bytes, low first.
 use mathlib.Core.Path.{◌∙◌}
 use Rattle.crc.specs.Turns.{word_four}
-use borrow.Author.Rules.{rules}
 use Rattle.crc.proofs.word4.Goals as goal
 
 pub returns : goal.returns

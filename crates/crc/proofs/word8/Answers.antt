@@ -2,7 +2,6 @@
 use Prim.Native.Nat.{ℕ, ◌+◌, ◌*◌}
 use mathlib.Core.Path.{sym, ap₂, ◌∙◌}
 use Rattle.crc.specs.Turns.{word_add}
-use borrow.Author.Rules.{rules}
 use Rattle.crc.proofs.word8.Goals as goal
 
 pub returns : goal.returns

@@ -5,7 +5,6 @@ use Rattle.rules.specs.Rules.Peripheral as P
 use Rattle.rules.specs.Rules.Channel.{peripheral, put}
 use Rattle.engine.specs.Laws.Stored.{acting_stays}
 use Rattle.engine.specs.Laws.Loaded.{peripheral_there, decided_there, acted-carried, peripheral_plain}
-use borrow.Author.Rules.{rules}
 use Rattle.engine.proofs.act_peripheral.Goals as goal
 
 pub decide-out-requires : goal.decide-out-requires

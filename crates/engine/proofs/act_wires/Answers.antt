@@ -7,7 +7,6 @@ use Rattle.rules.specs.Rules.Wires.{act_of}
 use Rattle.rules.specs.Rules.Channel.{wires}
 use Rattle.rules.specs.Rules.Exchange.{acted}
 use Rattle.engine.specs.Carried.{carried_by}
-use borrow.Author.Rules.{rules}
 use Rattle.engine.proofs.act_wires.Goals as goal
 
 pub put_wires-requires : goal.put_wires-requires

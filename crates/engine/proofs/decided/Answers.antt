@@ -6,7 +6,6 @@ use Rattle.rules.specs.Rules.Channel.{peripheral, wires}
 use Rattle.rules.specs.declared.Body.TheVariants as B
 use Rattle.engine.specs.Laws.Exchange.{fits_as, acted_decided, read_decided, set_decided, status_decided, reset_decided}
 use Rattle.engine.specs.Laws.Loaded.{shown_is}
-use borrow.Author.Rules.{rules}
 use Rattle.engine.proofs.decided.Goals as goal
 
 pub act_peripheral-requires : goal.act_peripheral-requires

@@ -2,10 +2,6 @@ use mathlib.Core.Path.{ap, ◌∙◌}
 use Rattle.base.specs.Bytes.{over}
 use Rattle.state.specs.Layout.{packed, unpacked}
 use Rattle.state.specs.State.{State}
-use borrow.Author.Rules.{rules}
-use Rattle.engine.proofs.espi_core.Reads as espi-core-reads
-use Rattle.state.proofs.pack.Reads as pack-reads
-use Rattle.state.proofs.unpack.Reads as unpack-reads
 use Rattle.engine.proofs.espi_reset.Goals as goal
 
 -- src/lib.rt:290:1

@@ -6,7 +6,6 @@ use Rattle.state.specs.Layout.{unpacked}
 use Rattle.rules.specs.Rules.Exchange.{channels_of}
 use Rattle.engine.specs.Laws.Exchange.{exchange-silent, exchange_decided, command_fits}
 use Rattle.engine.specs.Laws.Loaded.{config_in_lem}
-use borrow.Author.Rules.{rules}
 use Rattle.engine.proofs.exchange.Goals as goal
 
 pub returns-in_default : goal.returns-in_default

@@ -6,8 +6,6 @@ use Rattle.rules.specs.Rules.Channel.{peripheral, put}
 use Rattle.rules.specs.Rules.Fits.{plain_say}
 use Rattle.rules.specs.Rules.Lift.{with_status}
 use Rattle.engine.specs.Laws.Stored.{lift-carried}
-use borrow.Author.Rules.{rules}
-use Rattle.engine.proofs.peripheral_channel.store.Reads as store-reads
 use Rattle.engine.proofs.lift_peripheral.Goals as goal
 
 -- src/lib.rt:62:1

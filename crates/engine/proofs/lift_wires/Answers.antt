@@ -1,16 +1,11 @@
 use mathlib.Core.Path.{ap, ◌∙◌}
 use Rattle.rules.specs.Rules.Lift.{with_status}
-use Rattle.rules.specs.Rules.Channel.{wires, put}
+use Rattle.rules.specs.Rules.Channel.{wires}
 use Rattle.state.specs.Layout.{unpacked}
 use Rattle.engine.specs.Carried.{beside}
 use Rattle.engine.specs.Laws.Stored.{lift-carried}
 use Rattle.engine.specs.Laws.Loaded.{groups-status}
 use native.Mathlib.Omega.{arith}
-use borrow.Author.Rules.{rules}
-use Rattle.engine.proofs.reply_with.Reads as reply-with-reads
-use Rattle.engine.proofs.wires_channel.store.Reads as store-reads
-use Rattle.peripheral.proofs.Peripheral.status_in.Reads as Peripheral-status-in-reads
-use Rattle.wires.proofs.Wires.status_in.Reads as Wires-status-in-reads
 use Rattle.engine.proofs.lift_wires.Goals as goal
 
 -- src/lib.rt:84:1

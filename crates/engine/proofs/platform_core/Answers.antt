@@ -1,13 +1,9 @@
-use mathlib.Core.Path.{◌≡◌, refl, sym, ap, ◌∙◌}
+use mathlib.Core.Path.{ap}
 use Rattle.peripheral.specs.Queues.{idle}
 use Rattle.registers.specs.Registers.{fresh010}
 use Rattle.state.specs.Core.{quiet_state}
 use Rattle.state.specs.declared.Core.{Core}
 use Rattle.wires.specs.Groups.{platform_wires}
-use borrow.Author.Rules.{rules}
-use Rattle.peripheral.proofs.Peripheral.idle.Reads as idle-reads
-use Rattle.registers.proofs.Reg010.fresh.Reads as fresh-reads
-use Rattle.wires.proofs.Wires.platform.Reads as platform-reads
 use Rattle.engine.proofs.platform_core.Goals as goal
 
 -- src/lib.rt:270:1

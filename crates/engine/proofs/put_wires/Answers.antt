@@ -1,5 +1,4 @@
 use native.Mathlib.Omega.{arith}
-use mathlib.Core.Path.{ap, sym, ◌∙◌}
 use lib.ListN.{take, drop}
 use Prim.Native.Nat.{◌*◌}
 use Rattle.state.specs.Layout.{unpacked}
@@ -7,12 +6,6 @@ use Rattle.rules.specs.Rules.Wires.{Act}
 use Rattle.rules.specs.Rules.Channel.{wires}
 use Rattle.engine.specs.Laws.Stored.{acting_stays}
 use Rattle.engine.specs.Laws.Loaded.{wires_there, put_there, put-plain, lifted_by, high-carried, low_carried}
-use borrow.Author.Rules.{rules}
-use Rattle.engine.proofs.lift_wires.Reads as lift-wires-reads
-use Rattle.engine.proofs.platform_reset.Reads as platform-reset-reads
-use Rattle.engine.proofs.wires_channel.pltrst.Reads as pltrst-reads
-use Rattle.engine.proofs.wires_channel.put_vwire.Reads as put-vwire-reads
-use Rattle.wires.proofs.Wires.unpack.Reads as unpack-reads
 use Rattle.engine.proofs.put_wires.Goals as goal
 
 -- src/lib.rt:136:9

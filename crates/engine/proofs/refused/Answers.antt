@@ -1,6 +1,5 @@
 use mathlib.Core.Path.{sym, ap, ◌∙◌}
 use Rattle.engine.specs.Carried.{refused_by}
-use borrow.Author.Rules.{rules}
 use Rattle.engine.proofs.refused.Goals as goal
 
 pub returns-in-Known : goal.returns-in-Known

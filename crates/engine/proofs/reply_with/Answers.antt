@@ -1,7 +1,6 @@
 use mathlib.Core.Path.{ap, sym}
 use Rattle.rules.specs.Rules.Lift.{with_status}
 use Rattle.rules.specs.declared.Say.{Say}
-use borrow.Author.Rules.{rules}
 use Rattle.engine.proofs.reply_with.Goals as goal
 
 pub returns-in-Said : goal.returns-in-Said

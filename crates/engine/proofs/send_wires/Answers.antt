@@ -1,8 +1,4 @@
 use Rattle.engine.specs.Laws.Wires.{send_none, send-done}
-use borrow.Author.Rules.{rules}
-use Rattle.engine.proofs.fatally.Reads as fatally-reads
-use Rattle.state.proofs.status_in.Reads as status-in-reads
-use Rattle.wires.proofs.Wires.any_pending.Reads as any-pending-reads
 use mathlib.Core.Path.{ap}
 use mathlib.Core.Bool.{not}
 use Rattle.engine.proofs.send_wires.Goals as goal

@@ -1,14 +1,10 @@
-use mathlib.Core.Path.{◌≡◌, refl, ap, ◌∙◌}
+use mathlib.Core.Path.{refl, ap, ◌∙◌}
 use Rattle.registers.specs.declared.Config.{Config}
 use Rattle.wires.specs.Layout.{all_in}
 use Rattle.state.specs.Layout.{unpacked}
 use Rattle.rules.specs.Rules.Wires as W
 use Rattle.engine.specs.Carried.{settled_by}
 use Rattle.engine.specs.Laws.Wires.{settled-carried}
-use borrow.Author.Rules.{rules}
-use Rattle.engine.proofs.silently.Reads as silently-reads
-use Rattle.engine.proofs.wires_channel.set_line.Reads as set-line-reads
-use Rattle.registers.proofs.Config.unpack.Reads as unpack-reads
 use Rattle.engine.proofs.set_line.Goals as goal
 
 -- src/lib.rt:351:1

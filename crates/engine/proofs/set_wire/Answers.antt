@@ -5,12 +5,6 @@ use Rattle.rules.specs.Rules.Channel.{wires}
 use Rattle.engine.specs.Carried.{settled_to}
 use Rattle.engine.specs.Laws.Loaded.{set_there, lifted_by}
 use Rattle.engine.specs.Laws.Wires.{settled-carried}
-use borrow.Author.Rules.{rules}
-use Rattle.engine.proofs.silently.Reads as silently-reads
-use Rattle.engine.proofs.wires_channel.setting.Reads as setting-reads
-use Rattle.engine.proofs.wires_channel.store.Reads as store-reads
-use Rattle.registers.proofs.Config.unpack.Reads as Config-unpack-reads
-use Rattle.wires.proofs.Wires.unpack.Reads as Wires-unpack-reads
 use Rattle.engine.proofs.set_wire.Goals as goal
 
 -- src/lib.rt:328:1

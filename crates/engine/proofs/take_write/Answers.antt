@@ -5,7 +5,6 @@ use Rattle.rules.specs.Rules.Peripheral as P
 use Rattle.rules.specs.Rules.Channel.{peripheral}
 use Rattle.engine.specs.Laws.Stored.{settle_stays}
 use Rattle.engine.specs.Laws.Loaded.{peripheral_in_lem, lifted_by, settle-silent}
-use borrow.Author.Rules.{rules}
 use Rattle.engine.proofs.take_write.Goals as goal
 
 pub lift_peripheral-requires : goal.lift_peripheral-requires

@@ -5,7 +5,7 @@ use mathlib.Core.List.{List, [], ◌∷◌}
 use Rattle.std.proofs.Math.Path.{refl, ap, ap₂}
 use Rattle.std.proofs.lemmas.Bool.{not-true, not-false}
 use Rattle.std.proofs.Math.Dec.{ltb}
-use Rattle.base.specs.Pick.{pick, taken, passed}
+use Rattle.base.specs.Pick.{taken, passed}
 use Rattle.base.specs.Bytes as Z
 use Rattle.registers.specs.Registers.{operating_count, on1, write_at}
 use Rattle.registers.specs.declared.Config.{Config}
@@ -15,7 +15,7 @@ use Rattle.wires.specs.Groups.{settable, set_wire}
 use Rattle.wires.specs.Lines as N
 use Rattle.wires.specs.Lines.{Lines, line_bit, line_level_ok, can_pulse, lines_in, lines_bytes}
 use Rattle.wires.specs.Senders.{AllWires, with_groups, with_lines, sent, any_pending, packet_of, after_sent, wires_status}
-use Rattle.wires.specs.Layout.{wires_bytes, wires_in, tidy_wires, all_in}
+use Rattle.wires.specs.Layout.{wires_bytes, tidy_wires, all_in}
 use Rattle.wires.specs.MapBytes.{stored-groups, stored_lines, lines_beside}
 use Rattle.wires.specs.AllKept.{sound-all-place}
 use Rattle.wires.specs.ForRules.{sizes_fit}
@@ -48,8 +48,8 @@ use Rattle.rules.specs.declared.Kept.{Kept}
 use Rattle.rules.specs.declared.Kept.TheVariants as K
 use Rattle.rules.specs.declared.Out.{Out}
 use Rattle.rules.specs.declared.GroupsChange.{GroupsChange}
-use Rattle.rules.specs.Rules.Plan.{Plan, WiresChange}
-use Rattle.engine.specs.Carried.{Packs, Loadable, carried, carried_by, outgoing, groups_change, beside, Numbered, settled_to, settled_by, put_part, stored_by, failing, quiet}
+use Rattle.rules.specs.Rules.Plan.{WiresChange}
+use Rattle.engine.specs.Carried.{Loadable, carried, carried_by, groups_change, beside, Numbered, settled_to, settled_by, put_part, failing, quiet}
 use Rattle.engine.specs.Laws.Tests.{denied}
 use Rattle.engine.specs.Laws.Stored.{outgoing-carried, stays_carried, part-stored, unchanged, change-stored, settle_stays}
 use Rattle.engine.specs.declared.Outgoing.{Outgoing}

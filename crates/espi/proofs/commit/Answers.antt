@@ -1,9 +1,6 @@
 use native.Mathlib.Omega.{arith}
 use lib.ListN.{length}
 use Rattle.espi.specs.Boundary.{kept_wider, committed_by}
-use borrow.Author.Rules.{rules}
-use Rattle.espi.proofs.say.Reads as say-reads
-use Rattle.reply.proofs.keep.Reads as keep-reads
 use Rattle.espi.proofs.commit.Goals as goal
 
 -- src/lib.rt:106:5

@@ -7,7 +7,6 @@ use Rattle.espi.specs.Boundary.{ok_is, loadable, kept_by, answer-fits, kept_wide
 use Rattle.state.specs.Layout.{unpacked}
 use Rattle.rules.specs.Rules.Peripheral as P
 use Rattle.rules.specs.Rules.Calls.{answer_call}
-use borrow.Author.Rules.{rules}
 use mathlib.Core.Path.{ap}
 use mathlib.Core.Bool.{not}
 use Rattle.espi.proofs.espi_answer.Goals as goal

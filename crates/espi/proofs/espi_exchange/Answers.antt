@@ -1,13 +1,9 @@
 use native.Mathlib.Omega.{arith}
-use mathlib.Core.Path.{refl, sym, ap, ◌∙◌}
+use mathlib.Core.Path.{refl, ap}
 use borrow.Author.Tests.{lt-ltb, le-ltb}
 use Rattle.base.specs.Pick.{taken, passed}
 use Rattle.rules.specs.Rules.Calls.{exchange_call}
 use Rattle.espi.specs.Boundary.{ok_is, loadable, exchange-fits, exchanged_by}
-use borrow.Author.Rules.{rules}
-use Rattle.engine.proofs.exchange.Reads as exchange-reads
-use Rattle.espi.proofs.commit.Reads as commit-reads
-use Rattle.state.proofs.holds.Reads as holds-reads
 use mathlib.Core.Bool.{not}
 use Rattle.espi.proofs.espi_exchange.Goals as goal
 

@@ -5,7 +5,6 @@ use mathlib.Core.Path.{sym}
 use Rattle.base.specs.Bytes.{over_none}
 use Rattle.espi.specs.Boundary.{ok_is, looked_by}
 use Rattle.rules.specs.Rules.Calls.{look_call}
-use borrow.Author.Rules.{rules}
 use mathlib.Core.Path.{ap}
 use mathlib.Core.Bool.{not}
 use Rattle.espi.proofs.espi_look.Goals as goal

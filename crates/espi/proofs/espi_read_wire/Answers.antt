@@ -6,7 +6,6 @@ use mathlib.Core.Path.{sym, ◌∙◌}
 use borrow.Author.Tests.{not-false}
 use Rattle.espi.specs.Boundary.{ok_is, wire_by, wire_refused}
 use Rattle.rules.specs.Rules.Calls.{read_wire_call}
-use borrow.Author.Rules.{rules}
 use mathlib.Core.Path.{ap}
 use mathlib.Core.Bool.{not}
 use Rattle.espi.proofs.espi_read_wire.Goals as goal

@@ -1,12 +1,8 @@
-use native.Mathlib.Omega.{arith}
-use mathlib.Core.Path.{refl, sym, ap, ◌∙◌}
+use mathlib.Core.Path.{refl, ap}
 use borrow.Author.Tests.{lt-ltb, le-ltb}
 use Rattle.base.specs.Pick.{taken, passed}
 use Rattle.rules.specs.Rules.Calls.{done, reset_call, espi_reset_call}
 use Rattle.espi.specs.Boundary.{ok_is}
-use borrow.Author.Rules.{rules}
-use Rattle.engine.proofs.espi_reset.Reads as espi-reset-reads
-use Rattle.state.proofs.holds.Reads as holds-reads
 use mathlib.Core.Bool.{not}
 use Rattle.espi.proofs.espi_reset.Goals as goal
 

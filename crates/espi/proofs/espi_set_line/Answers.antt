@@ -1,14 +1,11 @@
 use native.Mathlib.Omega.{arith}
-use mathlib.Core.Path.{refl, sym, ap, ◌∙◌}
+use mathlib.Core.Path.{refl, ap}
 use borrow.Author.Tests.{lt-ltb, le-ltb}
 use Rattle.base.specs.Pick.{taken, passed}
 use Rattle.state.specs.Layout.{unpacked}
 use Rattle.rules.specs.Rules.Calls.{set_line_call}
 use Rattle.rules.specs.Rules.Wires as W
 use Rattle.espi.specs.Boundary.{ok_is, loadable, settled_by_lem, board_plain}
-use borrow.Author.Rules.{rules}
-use Rattle.engine.proofs.set_line.Reads as set-line-reads
-use Rattle.state.proofs.holds.Reads as holds-reads
 use mathlib.Core.Bool.{not}
 use Rattle.espi.proofs.espi_set_line.Goals as goal
 

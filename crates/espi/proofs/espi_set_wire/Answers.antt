@@ -6,7 +6,6 @@ use native.Mathlib.Omega.{arith}
 use Rattle.espi.specs.Boundary.{ok_is, loadable, settled_by_lem, board_plain}
 use Rattle.rules.specs.Rules.Wires as W
 use Rattle.rules.specs.Rules.Calls.{set_wire_call}
-use borrow.Author.Rules.{rules}
 use mathlib.Core.Path.{ap}
 use mathlib.Core.Bool.{not}
 use Rattle.espi.proofs.espi_set_wire.Goals as goal

@@ -1,12 +1,8 @@
-use native.Mathlib.Omega.{arith}
-use mathlib.Core.Path.{refl, sym, ap, ◌∙◌}
+use mathlib.Core.Path.{refl}
 use borrow.Author.Tests.{lt-ltb, le-ltb}
 use Rattle.base.specs.Pick.{taken, passed}
 use Rattle.rules.specs.Rules.Calls.{start_call}
 use Rattle.espi.specs.Boundary.{started_by}
-use borrow.Author.Rules.{rules}
-use Rattle.state.proofs.Core.fresh.Reads as fresh-reads
-use Rattle.state.proofs.pack.Reads as pack-reads
 use Rattle.espi.proofs.espi_start.Goals as goal
 
 -- src/lib.rt:41:9

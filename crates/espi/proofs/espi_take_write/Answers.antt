@@ -6,7 +6,6 @@ use native.Mathlib.Omega.{arith}
 use Rattle.espi.specs.Boundary.{ok_is, loadable, taken_by, take-plain}
 use Rattle.rules.specs.Rules.Peripheral as P
 use Rattle.rules.specs.Rules.Calls.{take_write_call}
-use borrow.Author.Rules.{rules}
 use mathlib.Core.Path.{ap}
 use mathlib.Core.Bool.{not}
 use Rattle.espi.proofs.espi_take_write.Goals as goal

@@ -1,7 +1,4 @@
 use Rattle.espi.specs.Boundary.{fits_reply, fits-packet, spoken_reply, spoken_packet}
-use borrow.Author.Rules.{rules}
-use Rattle.reply.proofs.put_packet.Reads as put-packet-reads
-use Rattle.reply.proofs.put_reply.Reads as put-reply-reads
 use Rattle.espi.proofs.say.Goals as goal
 
 -- src/lib.rt:83:9

@@ -4,7 +4,7 @@ use Rattle.std.proofs.Common.{true≢false, inl, inr, sym, subst, ◌∙◌, eq-
 use Rattle.std.proofs.lemmas.Bool.{eqb-false}
 use Rattle.base.specs.Pick.{and_left, goes_on}
 use Rattle.housefile.specs.Kinds.{kind_of, body_fits, row_fits_value}
-use Rattle.housefile.specs.Format.{longest, count_of, rows_end, row, row_at, total, all_fit, entries, read}
+use Rattle.housefile.specs.Format.{longest, count_of, rows_end, row, row_at, total, all_fit, entries}
 use Rattle.housefile.specs.Statements.{AddsUp, WrongLength, answer_under, failure_over, wire_not, bodied}
 use Rattle.housefile.specs.Statements.{Refused, longer, unequal, unknown, wrong, Good, Spoilt}
 use Rattle.housefile.specs.Laws.{fit_at, length-entries, is_good, bad_longer, bad_unequal, bad_unfit}

@@ -1,4 +1,3 @@
-use borrow.Author.Rules.{rules}
 use Rattle.housefile.proofs.body_fits.Goals as goal
 
 pub returns-in-Success : goal.returns-in-Success

@@ -1,6 +1,5 @@
 use mathlib.Core.Path.{refl}
 use native.Mathlib.Omega.{arith}
-use borrow.Author.Rules.{rules}
 use borrow.Author.Tests.{not-true, not-false}
 use Rattle.housefile.specs.Answers.{too_long, cut_off, not_summed, not_fit, all_read}
 use Rattle.housefile.proofs.read.Goals as goal

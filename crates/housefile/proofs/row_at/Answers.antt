@@ -1,4 +1,3 @@
-use borrow.Author.Rules.{rules}
 use Rattle.housefile.specs.Tables.{row_read}
 use Rattle.housefile.proofs.row_at.Goals as goal
 

@@ -1,4 +1,3 @@
-use borrow.Author.Rules.{rules}
 use Rattle.housefile.proofs.row_fits.Goals as goal
 
 pub returns : goal.returns

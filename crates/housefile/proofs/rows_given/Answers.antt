@@ -1,9 +1,8 @@
 -- `rows_given` meets its contract. The invariant: the table is that of the first i rows.
-use Prim.Native.Nat.{ℕ, ◌≤◌, ◌-◌}
+use Prim.Native.Nat.{ℕ}
 use mathlib.Core.Path.{subst, ap}
 use native.Mathlib.Omega.{arith}
-use lib.ListN.{length, get_or}
-use borrow.Author.Rules.{rules}
+use lib.ListN.{get_or}
 use Rattle.housefile.specs.Format.{row, row_of}
 use Rattle.housefile.specs.Tables.{Kept, none_yet, one_more}
 use Rattle.housefile.proofs.rows_given.Goals as goal

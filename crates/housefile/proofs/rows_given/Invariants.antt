@@ -1,10 +1,7 @@
-use Prim.Native.Nat.{ℕ, ◌≤◌, ◌-◌}
-use mathlib.Core.Path.{subst, ap}
-use native.Mathlib.Omega.{arith}
-use lib.ListN.{length, get_or}
-use borrow.Author.Rules.{rules}
-use Rattle.housefile.specs.Format.{row, row_of}
-use Rattle.housefile.specs.Tables.{Kept, none_yet, one_more}
+use Prim.Native.Nat.{◌≤◌, ◌-◌}
+use lib.ListN.{length}
+use Rattle.housefile.specs.Format.{row_of}
+use Rattle.housefile.specs.Tables.{Kept}
 use Rattle.housefile.proofs.rows_given.Given as goal
 
 abbrev pub invariant-loop-i : goal.invariant-loop-i

@@ -1,8 +1,7 @@
 -- `rows_in` meets its contract. The invariant: the table is that of the first i rows.
-use Prim.Native.Nat.{ℕ, ◌≤◌, ◌-◌}
+use Prim.Native.Nat.{ℕ}
 use mathlib.Core.Path.{subst}
 use native.Mathlib.Omega.{arith}
-use borrow.Author.Rules.{rules}
 use Rattle.housefile.specs.Format.{row_at}
 use Rattle.housefile.specs.Tables.{Kept, none_yet, one_more}
 use Rattle.housefile.proofs.rows_in.Goals as goal

@@ -1,9 +1,6 @@
-use Prim.Native.Nat.{ℕ, ◌≤◌, ◌-◌}
-use mathlib.Core.Path.{subst}
-use native.Mathlib.Omega.{arith}
-use borrow.Author.Rules.{rules}
+use Prim.Native.Nat.{◌≤◌, ◌-◌}
 use Rattle.housefile.specs.Format.{row_at}
-use Rattle.housefile.specs.Tables.{Kept, none_yet, one_more}
+use Rattle.housefile.specs.Tables.{Kept}
 use Rattle.housefile.proofs.rows_in.Given as goal
 
 abbrev pub invariant-loop-i : goal.invariant-loop-i

@@ -1,4 +1,3 @@
-use borrow.Author.Rules.{rules}
 use Rattle.housefile.proofs.with.Goals as goal
 
 pub returns : goal.returns

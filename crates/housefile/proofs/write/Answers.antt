@@ -1,8 +1,5 @@
-use borrow.Author.Rules.{rules}
 use borrow.Author.Tests.{not-true, not-false}
 use Rattle.housefile.specs.Answers.{unlike, too_many, other_bodies, unfit, too_large, no_room, all-written}
-use mathlib.Core.Path.{ap}
-use mathlib.Core.Bool.{not}
 use Rattle.housefile.proofs.write.Goals as goal
 
 pub returns-then-n-lengths : goal.returns-then-n-lengths

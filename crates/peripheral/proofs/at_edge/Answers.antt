@@ -1,5 +1,4 @@
 use Rattle.peripheral.specs.Coded.{edge_low}
-use Rattle.std.proofs.Common.{rules}
 use Rattle.peripheral.proofs.at_edge.Goals as goal
 
 pub returns : goal.returns

@@ -1,5 +1,4 @@
 use Rattle.peripheral.specs.Coded.{blank_by}
-use Rattle.std.proofs.Common.{rules}
 use Rattle.peripheral.proofs.blank.Goals as goal
 
 pub returns : goal.returns

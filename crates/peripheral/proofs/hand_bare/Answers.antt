@@ -1,4 +1,3 @@
-use Rattle.std.proofs.Common.{rules}
 use Rattle.peripheral.proofs.hand_bare.Goals as goal
 
 pub returns : goal.returns

@@ -1,4 +1,4 @@
-use Rattle.std.proofs.Common.{arith, rules}
+use Rattle.std.proofs.Common.{arith}
 use Rattle.pieces.specs.Edges.{next_le}
 use Rattle.peripheral.specs.Coded.{piece-handed}
 use Rattle.peripheral.proofs.hand_piece.Goals as goal

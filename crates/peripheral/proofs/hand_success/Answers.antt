@@ -1,5 +1,4 @@
 use Rattle.peripheral.specs.Coded.{success_handed}
-use Rattle.std.proofs.Common.{rules}
 use Rattle.peripheral.proofs.hand_success.Goals as goal
 
 pub returns-in-MemoryRead : goal.returns-in-MemoryRead

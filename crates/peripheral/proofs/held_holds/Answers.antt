@@ -1,4 +1,4 @@
-use Rattle.std.proofs.Common.{Bool, ◌&&◌, eqb, leb, sym, ap, ◌∙◌, rules}
+use Rattle.std.proofs.Common.{Bool, ◌&&◌, eqb, leb, sym, ap, ◌∙◌}
 use Rattle.base.specs.Pick.{pick, stops, goes_on}
 use Rattle.peripheral.specs.Sound.{sent_right}
 use Rattle.peripheral.proofs.Facts.{request_made_lem}

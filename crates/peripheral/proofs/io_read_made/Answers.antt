@@ -1,4 +1,3 @@
-use Rattle.std.proofs.Common.{rules}
 use Rattle.peripheral.proofs.io_read_made.Goals as goal
 
 pub returns : goal.returns

@@ -1,6 +1,5 @@
 use Rattle.base.specs.Pick.{stops, goes_on}
 use Rattle.peripheral.specs.Coded.{io_short, refused, admitted}
-use Rattle.std.proofs.Common.{rules}
 use mathlib.Core.Path.{ap}
 use mathlib.Core.Bool.{not}
 use Rattle.peripheral.proofs.io_write_made.Goals as goal

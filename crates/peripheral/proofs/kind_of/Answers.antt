@@ -1,5 +1,4 @@
 use Rattle.peripheral.specs.Coded.{kind_of_rest}
-use Rattle.std.proofs.Common.{rules}
 use Rattle.peripheral.proofs.kind_of.Goals as goal
 
 pub returns-in_default : goal.returns-in_default

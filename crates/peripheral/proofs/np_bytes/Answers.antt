@@ -1,4 +1,4 @@
-use Rattle.std.proofs.Common.{sym, ap, ◌∙◌, rules}
+use Rattle.std.proofs.Common.{sym, ap, ◌∙◌}
 use Rattle.peripheral.specs.Layout.{np_bytes}
 use Rattle.peripheral.proofs.np_bytes.Goals as goal
 

@@ -1,4 +1,4 @@
-use Rattle.std.proofs.Common.{ap, ◌∙◌, rules}
+use Rattle.std.proofs.Common.{ap, ◌∙◌}
 use Rattle.peripheral.specs.Coded.{np_of_rest}
 use Rattle.peripheral.specs.declared.Np.TheVariants.{Failed}
 use Rattle.peripheral.proofs.np_in.Goals as goal

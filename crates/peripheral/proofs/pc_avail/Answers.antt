@@ -1,5 +1,4 @@
 use Rattle.peripheral.specs.Upward.{upward}
-use Rattle.std.proofs.Common.{rules}
 use Rattle.peripheral.proofs.pc_avail.Goals as goal
 
 pub returns-in-Free : goal.returns-in-Free

@@ -1,5 +1,4 @@
 use Rattle.peripheral.specs.Coded.{left-last, left_more}
-use Rattle.std.proofs.Common.{rules}
 use Rattle.peripheral.proofs.put_left.Goals as goal
 
 pub returns-then-gone-q : goal.returns-then-gone-q

@@ -1,4 +1,4 @@
-use Rattle.std.proofs.Common.{◌∙◌, arith, rules}
+use Rattle.std.proofs.Common.{◌∙◌, arith}
 use Rattle.peripheral.specs.Sound.{sound_request}
 use Rattle.peripheral.specs.Coded.{phase-at, phase-held, phase_rest, then_true}
 use Rattle.peripheral.proofs.request_holds.Goals as goal

@@ -1,4 +1,3 @@
-use Rattle.std.proofs.Common.{rules}
 use Rattle.peripheral.proofs.request_in.Goals as goal
 
 pub returns : goal.returns

@@ -1,5 +1,5 @@
 use Rattle.peripheral.specs.Coded.{refused, admitted}
-use Rattle.std.proofs.Common.{◌∙◌, arith, rules}
+use Rattle.std.proofs.Common.{◌∙◌}
 use Rattle.base.specs.Pick.{stops, goes_on}
 use Rattle.peripheral.specs.Facts.{payload_block, read_block}
 use mathlib.Core.Path.{ap}

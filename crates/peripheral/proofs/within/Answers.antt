@@ -1,5 +1,4 @@
 use Rattle.peripheral.specs.Coded.{low_in}
-use Rattle.std.proofs.Common.{rules}
 use Rattle.peripheral.proofs.within.Goals as goal
 
 pub returns : goal.returns

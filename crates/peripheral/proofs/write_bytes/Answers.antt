@@ -1,4 +1,4 @@
-use Rattle.std.proofs.Common.{sym, ap, ◌∙◌, rules}
+use Rattle.std.proofs.Common.{sym, ap, ◌∙◌}
 use Rattle.peripheral.specs.Layout.{write_bytes_value}
 use Rattle.peripheral.proofs.write_bytes.Goals as goal
 

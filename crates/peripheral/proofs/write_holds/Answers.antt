@@ -1,6 +1,5 @@
 use Rattle.peripheral.specs.Sound.{sound_write}
 use Rattle.peripheral.specs.Coded.{write-at, write_rest, then_true}
-use Rattle.std.proofs.Common.{rules}
 use Rattle.peripheral.proofs.write_holds.Goals as goal
 
 pub returns-in-0 : goal.returns-in-0

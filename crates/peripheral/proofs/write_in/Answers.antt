@@ -1,4 +1,4 @@
-use Rattle.std.proofs.Common.{ap, ◌∙◌, rules}
+use Rattle.std.proofs.Common.{ap, ◌∙◌}
 use Rattle.peripheral.specs.Coded.{write_of_rest}
 use Rattle.peripheral.specs.declared.Write.TheVariants.{Held}
 use Rattle.peripheral.proofs.write_in.Goals as goal

@@ -1,6 +1,5 @@
 use Rattle.peripheral.specs.Coded.{refused, admitted}
 use Rattle.base.specs.Pick.{stops, goes_on}
-use Rattle.std.proofs.Common.{arith, rules}
 use Rattle.peripheral.specs.Facts.{payload_block}
 use mathlib.Core.Path.{ap}
 use mathlib.Core.Bool.{not}

@@ -1,7 +1,6 @@
 use native.Mathlib.Omega.{arith}
 use Rattle.pieces.specs.Edges.{place_low}
 use Rattle.pieces.specs.Pieces.{next_size}
-use borrow.Author.Rules.{rules}
 use Rattle.pieces.proofs.next_size.Goals as goal
 
 pub returns-then-left-room : goal.returns-then-left-room

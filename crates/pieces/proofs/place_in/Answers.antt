@@ -1,7 +1,6 @@
 use native.Mathlib.Nat.{mod-lt}
 use native.Mathlib.Omega.{arith}
 use Rattle.pieces.specs.Blocks.{low_bits}
-use borrow.Author.Rules.{rules}
 use Rattle.pieces.proofs.place_in.Goals as goal
 
 pub returns : goal.returns

@@ -1,6 +1,6 @@
 -- The digits of a tenth, then the last one.
-use Rattle.std.proofs.Common.{◌≡◌, ◌+◌, ◌*◌, ◌/◌, ◌≤◌, ℕ, List, length, ap, ◌∙◌, arith}
-use Rattle.base.specs.Bytes.{put, length-put}
+use Rattle.std.proofs.Common.{◌/◌, ◌≤◌, length, ap, ◌∙◌, arith}
+use Rattle.base.specs.Bytes.{length-put}
 use Rattle.playback.specs.Lines.{decimal_of}
 use Rattle.playback.specs.Laws.{decimal_small}
 use Rattle.playback.specs.Written.{decimal_length, decimal_put}

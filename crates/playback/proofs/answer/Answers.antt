@@ -1,5 +1,4 @@
 use Rattle.base.specs.Bytes.{tail_lent}
-use borrow.Author.Rules.{rules}
 use Rattle.playback.proofs.answer.Goals as goal
 
 pub returns : goal.returns

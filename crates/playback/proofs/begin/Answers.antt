@@ -3,7 +3,6 @@ use native.Mathlib.Omega.{arith}
 use Rattle.base.specs.Bytes.{put_first}
 use Rattle.playback.specs.Lines.{bad_line}
 use Rattle.playback.specs.Playing.{begun_bad, begun_good, begun_few}
-use borrow.Author.Rules.{rules}
 use Rattle.playback.proofs.begin.Goals as goal
 
 pub overflow_mul-result : goal.overflow_mul-result

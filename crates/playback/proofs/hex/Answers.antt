@@ -1,12 +1,12 @@
 use lib.Seq.{take_all}
-use Prim.Native.Nat.{ℕ, ◌+◌, ◌-◌, ◌*◌, ◌≤◌}
+use Prim.Native.Nat.{ℕ}
 use mathlib.Core.Path.{ap, ◌∙◌, refl, sym, ◌≡◌}
 use mathlib.Core.List.{List}
 use native.Mathlib.Omega.{arith}
 use Rattle.playback.specs.Laws.{length_hex}
 use Rattle.base.specs.Bytes.{put_none, put}
 use Rattle.playback.specs.Written.{hex_turn}
-use lib.ListN.{length, take}
+use lib.ListN.{take}
 use Rattle.playback.specs.Lines.{hex_of}
 use Rattle.playback.proofs.hex.Goals as goal
 

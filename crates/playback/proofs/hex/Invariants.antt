@@ -1,11 +1,6 @@
-use lib.Seq.{take_all}
-use Prim.Native.Nat.{ℕ, ◌+◌, ◌-◌, ◌*◌, ◌≤◌}
-use mathlib.Core.Path.{ap, ◌∙◌, refl, sym, ◌≡◌}
-use mathlib.Core.List.{List}
-use native.Mathlib.Omega.{arith}
-use Rattle.playback.specs.Laws.{length_hex}
-use Rattle.base.specs.Bytes.{put_none, put}
-use Rattle.playback.specs.Written.{hex_turn}
+use Prim.Native.Nat.{◌+◌, ◌-◌, ◌*◌, ◌≤◌}
+use mathlib.Core.Path.{◌≡◌}
+use Rattle.base.specs.Bytes.{put}
 use lib.ListN.{length, take}
 use Rattle.playback.specs.Lines.{hex_of}
 use Rattle.playback.proofs.hex.Given as goal

@@ -1,6 +1,5 @@
 use Rattle.playback.specs.Obeying.{success_body, failure_body, wire_body, by_command, by_success, by_failure, by_wire, by_platform_reset, by_espi_reset}
 use Rattle.playback.specs.Obeying.{by_take}
-use borrow.Author.Rules.{rules}
 use Rattle.playback.proofs.obey.Goals as goal
 
 pub answer-requires : goal.answer-requires

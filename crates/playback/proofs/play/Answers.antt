@@ -3,7 +3,6 @@ use native.Mathlib.Omega.{arith}
 use lib.Seq.{length-take-le}
 use Rattle.playback.specs.Laws.{few}
 use Rattle.playback.specs.Playing.{part-ends, part-fits, reply_part, line_most, play_by}
-use borrow.Author.Rules.{rules}
 use Rattle.playback.proofs.play.Goals as goal
 
 pub overflow_add-end : goal.overflow_add-end

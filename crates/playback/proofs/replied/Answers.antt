@@ -1,4 +1,3 @@
-use borrow.Author.Rules.{rules}
 use Rattle.playback.proofs.replied.Goals as goal
 
 pub returns-in-Command : goal.returns-in-Command

@@ -1,4 +1,3 @@
-use borrow.Author.Rules.{rules}
 use Rattle.playback.proofs.set.Goals as goal
 
 pub returns : goal.returns

@@ -2,7 +2,6 @@ use mathlib.Core.Path.{ap}
 use native.Mathlib.Omega.{arith}
 use lib.ListN.{length}
 use Rattle.playback.specs.Written.{shown_none, shown_some}
-use borrow.Author.Rules.{rules}
 use Rattle.playback.proofs.shown.Goals as goal
 
 pub put_at-requires : goal.put_at-requires

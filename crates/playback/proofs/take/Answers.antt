@@ -1,7 +1,6 @@
 use mathlib.Core.Path.{ap}
 use Rattle.rules.specs.Rules.Calls.{Stored, done}
 use Rattle.playback.specs.Play.{taking}
-use borrow.Author.Rules.{rules}
 use Rattle.playback.proofs.take.Goals as goal
 
 pub returns : goal.returns

@@ -1,6 +1,5 @@
 use native.Mathlib.Omega.{arith}
 use Rattle.playback.specs.Written.{line_sum, told_by}
-use borrow.Author.Rules.{rules}
 use Rattle.playback.proofs.tell.Goals as goal
 
 pub decimal-a-requires : goal.decimal-a-requires

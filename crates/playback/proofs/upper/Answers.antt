@@ -1,7 +1,6 @@
 use mathlib.Core.Path.{refl}
 use borrow.Author.Tests.{lt-ltb, le-ltb}
 use Rattle.base.specs.Pick.{taken, passed}
-use borrow.Author.Rules.{rules}
 use Rattle.playback.proofs.upper.Goals as goal
 
 pub returns-then-d-lt10 : goal.returns-then-d-lt10

@@ -1,5 +1,5 @@
 -- The lifting proved: one law a call, those of the board in the channels' folders, then runs by induction.
-use Rattle.std.specs.Prelude.{ℕ, ◌≤◌, true, false, ◌≡◌, ltb, length}
+use Rattle.std.specs.Prelude.{ℕ, ◌≤◌, true, ◌≡◌, ltb, length}
 use Rattle.std.proofs.Common.{true≢false, ap, ◌∙◌, le-ltb}
 use mathlib.Core.List.{List, [], ◌∷◌}
 use Rattle.std.proofs.Math.Path.{refl, sym}

@@ -5,7 +5,7 @@ use Rattle.base.specs.Bytes.{over}
 use Rattle.registers.specs.Registers.{payload_size}
 use Rattle.pieces.specs.Pieces.{blocks}
 use Rattle.wires.specs.Table.{is_group}
-use Rattle.wires.specs.Groups.{mark_at, group_byte}
+use Rattle.wires.specs.Groups.{mark_at}
 use Rattle.peripheral.specs.declared.Np.TheVariants.{Free, Waiting}
 use Rattle.peripheral.specs.declared.Request.{Request}
 use Rattle.state.specs.Status.{status}

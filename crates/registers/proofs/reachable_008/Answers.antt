@@ -1,4 +1,3 @@
-use borrow.Author.Rules.{rules}
 use Rattle.registers.specs.Registers.{reachable008}
 use Rattle.registers.proofs.reachable_008.Goals as goal
 

@@ -1,4 +1,3 @@
-use borrow.Author.Rules.{rules}
 use Rattle.registers.specs.Registers.{reachable010}
 use Rattle.registers.proofs.reachable_010.Goals as goal
 

@@ -1,4 +1,3 @@
-use borrow.Author.Rules.{rules}
 use Rattle.registers.specs.Registers.{reachable020}
 use Rattle.registers.proofs.reachable_020.Goals as goal
 

@@ -2,7 +2,6 @@
 use Prim.Native.Nat.{◌-◌}
 use native.Mathlib.Omega.{arith}
 use lib.Pow.{shl_exact}
-use borrow.Author.Rules.{rules}
 use Rattle.registers.specs.Registers.{size_of}
 use Rattle.registers.proofs.size_of.Goals as goal
 

@@ -1,14 +1,9 @@
 use native.Mathlib.Omega.{arith}
-use mathlib.Core.Path.{refl, sym, ap, ◌∙◌}
 use Rattle.wires.specs.Layout.{all_in}
 use Rattle.wires.specs.AllKept.{sound-all_level}
 use Rattle.wires.specs.Rows.{up_group}
 use Rattle.reply.specs.Packets.{packet-put}
 use borrow.Author.Rules.{rules}
-use Rattle.base.proofs.put_at.Reads as put-at-reads
-use Rattle.reply.proofs.finish.Reads as finish-reads
-use Rattle.wires.proofs.Wires.status_in.Reads as status-in-reads
-use Rattle.wires.proofs.send.Reads as send-reads
 use Rattle.reply.proofs.fill_packet.Goals as goal
 
 -- src/lib.rt:140:9

@@ -1,7 +1,6 @@
 use native.Mathlib.Omega.{arith}
 use Rattle.reply.specs.Written.{finish_by}
 use native.Mathlib.Omega.{arith}
-use borrow.Author.Rules.{rules}
 use Rattle.reply.proofs.finish.Goals as goal
 
 pub returns : goal.returns

@@ -4,7 +4,6 @@ use Rattle.base.specs.Bytes.{over_none}
 use Rattle.rules.specs.Rules.Fits.{KeptFits}
 use Rattle.rules.specs.declared.Kept.{Kept}
 use Rattle.reply.specs.Written.{by_kept}
-use borrow.Author.Rules.{rules}
 use Rattle.reply.proofs.keep.Goals as goal
 
 pub keep_data-requires : goal.keep_data-requires

@@ -2,7 +2,6 @@ use native.Mathlib.Omega.{arith}
 use Rattle.base.specs.Bytes.{tail_lent}
 use Rattle.reply.specs.Written.{data_by}
 use native.Mathlib.Omega.{arith}
-use borrow.Author.Rules.{rules}
 use Rattle.reply.proofs.keep_data.Goals as goal
 
 pub returns : goal.returns

@@ -1,14 +1,10 @@
 use native.Mathlib.Omega.{arith}
-use mathlib.Core.Path.{refl, sym, ap, subst, ◌∙◌}
+use mathlib.Core.Path.{refl, subst, ◌∙◌}
 use Rattle.base.specs.Bytes.{put_first}
 use Rattle.wires.specs.Senders.{fresh_all}
 use Rattle.rules.specs.Rules.Fits.{BodyFits}
 use Rattle.rules.specs.declared.Body.{Body}
 use Rattle.reply.specs.Written.{by_body, piece-length, no_packet}
-use borrow.Author.Rules.{rules}
-use Rattle.base.proofs.put_at.Reads as put-at-reads
-use Rattle.reply.proofs.put_piece.Reads as put-piece-reads
-use Rattle.reply.proofs.put_word.Reads as put-word-reads
 use Rattle.reply.proofs.put_body.Goals as goal
 
 -- src/lib.rt:85:27

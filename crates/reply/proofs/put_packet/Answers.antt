@@ -1,10 +1,4 @@
 use Rattle.reply.specs.Packets.{packet_named, fillable_as, filled_as}
-use borrow.Author.Rules.{rules}
-use Rattle.peripheral.proofs.Peripheral.status_in.Reads as status-in-reads
-use Rattle.registers.proofs.Config.unpack.Reads as Config-unpack-reads
-use Rattle.registers.proofs.Reg020.operating_count.Reads as operating-count-reads
-use Rattle.reply.proofs.fill_packet.Reads as fill-packet-reads
-use Rattle.wires.proofs.Wires.unpack.Reads as Wires-unpack-reads
 use Rattle.reply.proofs.put_packet.Goals as goal
 
 -- src/lib.rt:158:5

@@ -3,7 +3,6 @@ use native.Mathlib.Omega.{arith}
 use Rattle.base.specs.Bytes.{tail_lent}
 use Rattle.reply.specs.Written.{piece_by}
 use native.Mathlib.Omega.{arith}
-use borrow.Author.Rules.{rules}
 use Rattle.reply.proofs.put_piece.Goals as goal
 
 pub returns : goal.returns

@@ -1,5 +1,5 @@
 use native.Mathlib.Omega.{arith}
-use mathlib.Core.Path.{◌≡◌, refl, sym, ap, subst, ◌∙◌}
+use mathlib.Core.Path.{◌≡◌, refl, sym, subst}
 use mathlib.Core.Bool.{true}
 use Rattle.base.specs.Bytes.{over_none}
 use Rattle.wires.specs.Senders.{fresh_all}
@@ -7,9 +7,6 @@ use Rattle.rules.specs.Rules.Fits.{ReplyFits, plain}
 use Rattle.rules.specs.Rules.Reply.{reply_bytes}
 use Rattle.rules.specs.declared.Reply.{Reply}
 use Rattle.reply.specs.Written.{by_reply}
-use borrow.Author.Rules.{rules}
-use Rattle.reply.proofs.response_byte.Reads as response-byte-reads
-use Rattle.reply.proofs.say.Reads as say-reads
 use Rattle.reply.proofs.put_reply.Goals as goal
 
 -- src/lib.rt:122:48

@@ -1,6 +1,5 @@
 use mathlib.Core.Path.{refl, ◌∙◌}
 use Rattle.base.specs.Bytes.{put_first}
-use borrow.Author.Rules.{rules}
 use Rattle.reply.proofs.put_word.Goals as goal
 
 pub returns : goal.returns

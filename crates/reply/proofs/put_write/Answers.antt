@@ -2,7 +2,6 @@ use mathlib.Core.Path.{sym, ap, ◌∙◌}
 use Rattle.base.specs.Bytes.{over, over_none}
 use Rattle.peripheral.specs.declared.Write.{Write}
 use Rattle.rules.specs.Rules.Peripheral.{take_report}
-use borrow.Author.Rules.{rules}
 use Rattle.reply.proofs.put_write.Goals as goal
 
 pub returns-in-Empty : goal.returns-in-Empty

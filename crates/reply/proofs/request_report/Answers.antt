@@ -1,4 +1,3 @@
-use borrow.Author.Rules.{rules}
 use Rattle.reply.proofs.request_report.Goals as goal
 
 pub returns : goal.returns

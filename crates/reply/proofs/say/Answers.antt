@@ -3,9 +3,6 @@ use Prim.Native.Nat.{ℕ, ◌+◌}
 use mathlib.Core.Path.{sym, ap, ◌∙◌}
 use Rattle.rules.proofs.Proofs.Reply.{closed-length}
 use Rattle.reply.specs.Written.{said_by_lem}
-use borrow.Author.Rules.{rules}
-use Rattle.reply.proofs.finish.Reads as finish-reads
-use Rattle.reply.proofs.put_body.Reads as put-body-reads
 use Rattle.reply.proofs.say.Goals as goal
 
 -- src/lib.rt:102:1

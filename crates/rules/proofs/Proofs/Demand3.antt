@@ -29,7 +29,7 @@ use Rattle.rules.specs.Statements.Fields.{byte, is_read, is_io_write, request_ki
 use Rattle.rules.specs.Statements.Reads.{request_in}
 use Rattle.rules.specs.Statements.Events.{unended}
 use Rattle.rules.specs.Statements.Requests.{tells, since, answers_with, held, read_handed_on}
-use Rattle.rules.specs.Statements.View.{Move, asked, told, answered_as}
+use Rattle.rules.specs.Statements.View.{Move, told, answered_as}
 use Rattle.rules.specs.Statements.Peripheral.SoundMeans.{MadeAs, Made, RequestMade}
 use Rattle.rules.specs.Statements.Peripheral.Steps.{pieces_of, edge_of}
 use Rattle.rules.specs.Statements.Demand3.{header, piece_body, Answered, HandsOver, Delivers, ReadAnswered, FailureAnswered, IoWriteAnswered, Demand3}

@@ -1,5 +1,5 @@
 -- The decoder held against Fields, opcode by opcode.
-use Prim.Native.Nat.{ℕ, ◌+◌, ◌-◌, ◌/◌, ◌≤◌}
+use Prim.Native.Nat.{ℕ, ◌+◌, ◌/◌, ◌≤◌}
 use Rattle.std.specs.Prelude.{Bool, true, false, ◌||◌, ◌↔◌, ◌≡◌, eqb, ltb, length, get_or, take, drop}
 use Rattle.std.proofs.Common.{true≢false, sym, subst, ◌∙◌, mul_comm, arith, length-take, get_or-take, get_or-drop, ltb-true, ltb-false}
 use mathlib.Core.List.{List, [], ◌∷◌}

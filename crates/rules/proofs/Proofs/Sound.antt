@@ -13,7 +13,7 @@ use Rattle.state.specs.Facts.{fresh-sound}
 use Rattle.state.specs.State.{State}
 use Rattle.state.specs.Sound.{Sound}
 use Rattle.rules.specs.Rules.Reset.{Reset, platform_reset}
-use Rattle.rules.specs.Rules.Channel.{Channel, peripheral, wires, Part, Command, Board, Change, next_of, part, put, each, on, act_of, enable_edge, reset}
+use Rattle.rules.specs.Rules.Channel.{Channel, peripheral, wires, Part, Command, Board, Change, next_of, part, put, on, act_of, enable_edge, reset}
 use Rattle.rules.specs.Rules.Lift as L
 use Rattle.rules.specs.Rules.Lift.{lift}
 use Rattle.rules.specs.Rules.Exchange.{reconfigured, hindered, config_reset, was_reset, reset008h, exchange}

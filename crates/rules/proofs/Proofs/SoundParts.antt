@@ -1,5 +1,5 @@
 -- Sound states part by part: a clause reads the configuration or one channel's part, and passes unchanged through a change of any other.
-use Rattle.std.specs.Prelude.{true, ◌≡◌, refl}
+use Rattle.std.specs.Prelude.{true, ◌≡◌}
 use Rattle.std.proofs.Common.{sym, subst}
 use Rattle.registers.specs.Registers.{operating_count, fresh008, fresh010, reachable}
 use Rattle.registers.specs.Laws.{Fitting, fits_fresh, fresh_008, fresh_010, reachable-fresh, reachable-all, reachable_r008, reachable_r010, reachable_r020}

@@ -1,5 +1,5 @@
 -- Proof of P9: the bits from the rows of P6, the status shown from the plan's law.
-use Rattle.std.specs.Prelude.{ℕ, ◌+◌, ◌-◌, ◌*◌, Bool, true, false, List, [], ◌≢◌, ◌≡◌, refl, eqb, length}
+use Rattle.std.specs.Prelude.{ℕ, ◌+◌, ◌*◌, Bool, true, false, List, [], ◌≢◌, ◌≡◌, refl, eqb, length}
 use Rattle.std.proofs.Common.{true≢false, sym, ◌∙◌, subst, arith, le-ltb}
 use Rattle.std.proofs.Math.Path.{ap}
 use Rattle.base.specs.Pick.{pick, pick_ind}

@@ -6,11 +6,9 @@ use Rattle.state.specs.State.{State}
 use Rattle.state.specs.Layout.{state_length, unpacked, holds}
 use Rattle.state.specs.Packing.{packed-holds, packed-found, holds-bytes, holds-sound}
 use Rattle.rules.specs.Rules.Reset.{Reset, espi_reset, platform_reset}
-use Rattle.rules.specs.Rules.Peripheral.{look, answer, take_write}
-use Rattle.rules.specs.Rules.Wires.{set_wire, read_wire}
 use Rattle.rules.specs.Rules.Exchange as E
 use Rattle.rules.specs.Rules.Step.{reply_length, write_length, read_length}
-use Rattle.rules.specs.Rules.Calls.{word, Done, Exchanged, start_call, reset_call, espi_reset_call, platform_reset_call, exchange_call, exchange_planned}
+use Rattle.rules.specs.Rules.Calls.{Done, Exchanged, start_call, reset_call, espi_reset_call, platform_reset_call, exchange_call, exchange_planned}
 use Rattle.rules.specs.Statements.Rows.{first_of}
 use Rattle.rules.specs.Statements.FirstApplies.{Packs, Packing, command_rows, exchange_rows, start_rows, reset_rows, FirstApplies}
 use Rattle.rules.proofs.Proofs.Rows.{first, read_off}

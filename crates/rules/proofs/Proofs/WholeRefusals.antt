@@ -6,7 +6,6 @@ use Rattle.base.specs.Bytes.{drop-over}
 use Rattle.state.specs.Fresh.{fresh_state}
 use Rattle.state.specs.State.{State}
 use Rattle.state.specs.Layout.{state_length, unpacked, holds}
-use Rattle.rules.specs.Rules.Out.{number}
 use Rattle.rules.specs.Rules.Reset.{Reset, espi_reset, platform_reset}
 use Rattle.rules.specs.Rules.Exchange as E
 use Rattle.rules.specs.Rules.Reply.{reply_bytes}

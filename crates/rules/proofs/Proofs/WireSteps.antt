@@ -5,7 +5,7 @@ use mathlib.Core.List.{List, ◌∷◌, Memᴰ}
 use Rattle.std.proofs.lemmas.Bool.{eqb-false, not-true}
 use Rattle.base.specs.Pick.{or_second, pick, and_left, and_right}
 use Rattle.registers.specs.declared.Config.{Config}
-use Rattle.wires.specs.Table.{row_at, is_group, senders}
+use Rattle.wires.specs.Table.{row_at, is_group}
 use Rattle.wires.specs.Groups as G
 use Rattle.wires.specs.Groups.{level_at, mark_at, settable}
 use Rattle.wires.specs.Rows.{undefined_bit, settable-bit}

@@ -13,7 +13,7 @@ use Rattle.rules.specs.Statements.Fields.{byte, pairs, register_at, register_val
 use Rattle.rules.specs.Statements.Reads.{request_in}
 use Rattle.rules.specs.Statements.Events as E
 use Rattle.rules.specs.Statements.Events.{accepted, disables, lowers_pltrst, ending, enables_at}
-use Rattle.rules.specs.Statements.Requests.{asks, tells, gets, ends, event, is_end}
+use Rattle.rules.specs.Statements.Requests.{asks, tells, gets, event, is_end}
 use Rattle.rules.specs.Statements.WireSteps.{wire_of}
 use Rattle.rules.specs.Statements.Words.{GetPc, get_pc, NonPosted, non_posted, Answer, answer, enable_bit, pltrst_read, Ending, by_reset, by_write_lem, by_packet, Accepted, AsksFor, ByteWords}
 use Rattle.rules.proofs.Proofs.Requests.{Is, ask, get, tell, accepted-event, event-was, asked-event, got-event, end_is, ended-event}

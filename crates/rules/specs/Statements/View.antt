@@ -12,7 +12,6 @@ use Rattle.peripheral.specs.declared.Request.{Request}
 use Rattle.peripheral.specs.Queues as F
 use Rattle.state.specs.Status.{status}
 use Rattle.rules.specs.Rules.Peripheral.{next_serial, succeeded, bytes_for}
-use Rattle.rules.specs.Rules.Channel.{peripheral}
 use Rattle.rules.specs.Rules.Reply.{closed, header_bytes, data_bytes}
 use Rattle.rules.specs.Rules.Step.{World, Call, exchange, lend, Outcome, step}
 use Rattle.rules.specs.Statements.Reads.{request_in}

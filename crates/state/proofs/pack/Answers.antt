@@ -1,7 +1,4 @@
-use native.Mathlib.Omega.{arith}
 use mathlib.Core.Path.{refl, ap, ◌∙◌}
-use mathlib.Core.List.{List}
-use Prim.Native.Nat.{ℕ}
 use Rattle.base.specs.Bytes.{put, put-put}
 use Rattle.wires.specs.Layout.{wires_bytes}
 use Rattle.wires.specs.Lines.{lines_bytes, no_lines}
@@ -9,10 +6,6 @@ use Rattle.state.specs.Channel as K
 use Rattle.state.specs.Core.{quiet_state}
 use Rattle.state.specs.Coded.{packed_start, packed-then, packed-done}
 use borrow.Author.Rules.{rules}
-use Rattle.peripheral.proofs.Peripheral.pack.Reads as Peripheral-pack-reads
-use Rattle.registers.proofs.Config.pack.Reads as Config-pack-reads
-use Rattle.wires.proofs.Wires.pack.Reads as Wires-pack-reads
-use Rattle.wires.proofs.lines.clear_lines.Reads as clear-lines-reads
 use Rattle.state.proofs.pack.Goals as goal
 
 -- src/lib.rt:33:1

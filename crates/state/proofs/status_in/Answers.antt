@@ -1,6 +1,5 @@
 use Rattle.state.specs.Status.{status}
 use Rattle.state.specs.Layout.{unpacked}
-use borrow.Author.Rules.{rules}
 use Rattle.state.proofs.status_in.Goals as goal
 
 pub returns : goal.returns

@@ -1,5 +1,4 @@
 use borrow.Author.Tests.{le-leb, lt-leb, lt-ltb, le-ltb}
-use borrow.Author.Rules.{rules}
 use Rattle.wires.proofs.defined_bit.Goals as goal
 
 pub returns-then-index-lt2 : goal.returns-then-index-lt2

@@ -1,6 +1,5 @@
 use native.Mathlib.Omega.{arith}
 use Rattle.wires.specs.Rows.{row_right}
-use borrow.Author.Rules.{rules}
 use Rattle.wires.proofs.in_row.Goals as goal
 
 pub overflow_sub-result : goal.overflow_sub-result

@@ -4,7 +4,6 @@ use mathlib.Core.Path.{◌≡◌, sym, ap}
 use Rattle.wires.specs.Table.{row_at}
 use Rattle.wires.specs.Groups.{pair_at}
 use Rattle.wires.specs.Rows.{last_group}
-use borrow.Author.Rules.{rules}
 use Rattle.wires.proofs.pair.Goals as goal
 
 by : {group : ℕ} (level i : ℕ) → group ≡ i → group ∷ ((row_at (i - 2)).defined * 16 + level) ∷ [] ≡ pair_at group level

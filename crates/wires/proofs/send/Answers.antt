@@ -1,9 +1,8 @@
 use Prim.Native.Nat.{ℕ}
-use mathlib.Core.Path.{◌≡◌, refl, ap, ◌∙◌}
+use mathlib.Core.Path.{refl, ap, ◌∙◌}
 use native.Mathlib.Omega.{arith}
-use borrow.Author.Rules.{rules}
-use lib.ListN.{length, length-set}
-use Rattle.wires.specs.Going.{state_end, reply_end, count_end, InRange, first_range, send-done}
+use lib.ListN.{length-set}
+use Rattle.wires.specs.Going.{first_range, send-done}
 use Rattle.wires.proofs.send.Goals as goal
 
 pub loop-g-init : goal.loop-g-init

@@ -1,9 +1,6 @@
-use Prim.Native.Nat.{ℕ}
-use mathlib.Core.Path.{◌≡◌, refl, ap, ◌∙◌}
-use native.Mathlib.Omega.{arith}
-use borrow.Author.Rules.{rules}
-use lib.ListN.{length, length-set}
-use Rattle.wires.specs.Going.{state_end, reply_end, count_end, InRange, first_range, send-done}
+use mathlib.Core.Path.{◌≡◌}
+use lib.ListN.{length}
+use Rattle.wires.specs.Going.{state_end, reply_end, count_end, InRange}
 use Rattle.wires.proofs.send.Given as goal
 
 abbrev pub invariant-loop-g : goal.invariant-loop-g

@@ -1,7 +1,6 @@
 use mathlib.Core.Path.{sym, ◌∙◌}
 use native.Mathlib.Omega.{arith}
 use borrow.Author.Tests.{not-true, not-false}
-use borrow.Author.Rules.{rules}
 use Rattle.base.specs.Pick.{stops, goes_on}
 use Rattle.wires.specs.Rows.{defined-bit}
 use mathlib.Core.Path.{ap}

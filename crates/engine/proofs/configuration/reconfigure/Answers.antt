@@ -4,7 +4,6 @@ use Rattle.state.specs.Packing.{unpacked-fits}
 use Rattle.rules.specs.Rules.Channel as K
 use Rattle.rules.specs.Rules.Exchange.{channels_of}
 use Rattle.engine.specs.Laws.Stored.{configured_start, configured_then, configured_done}
-use borrow.Author.Rules.{rules}
 use Rattle.engine.proofs.configuration.reconfigure.Goals as goal
 
 pub returns : goal.returns

@@ -6,7 +6,6 @@ use Rattle.registers.specs.declared.Reg008.{Reg008}
 use Rattle.registers.specs.declared.Config.{Config}
 use Rattle.state.specs.Layout.{unpacked}
 use Rattle.engine.specs.Laws.Stored.{cleared_by}
-use borrow.Author.Rules.{rules}
 use Rattle.engine.proofs.configuration.reset_008.Goals as goal
 
 pub returns : goal.returns

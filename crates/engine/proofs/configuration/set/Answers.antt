@@ -1,4 +1,4 @@
-use mathlib.Core.Path.{refl, ap, ◌∙◌}
+use mathlib.Core.Path.{ap, ◌∙◌}
 use Rattle.registers.specs.Registers.{write_at}
 use Rattle.registers.specs.declared.Config.{Config}
 use Rattle.rules.specs.declared.Body.TheVariants as B
@@ -6,14 +6,6 @@ use Rattle.state.specs.Layout.{unpacked}
 use Rattle.engine.specs.Laws.Wires.{hindered-is}
 use Rattle.engine.specs.Laws.Loaded.{shown_is, forbidden_is}
 use Rattle.engine.specs.Laws.Exchange.{set_forbidden, set-hindered, set-done}
-use borrow.Author.Rules.{rules}
-use Rattle.engine.proofs.configuration.non_fatally.Reads as non-fatally-reads
-use Rattle.engine.proofs.configuration.reconfigure.Reads as reconfigure-reads
-use Rattle.engine.proofs.shown.Reads as shown-reads
-use Rattle.engine.proofs.wires_channel.hinders.Reads as hinders-reads
-use Rattle.registers.proofs.Config.write.Reads as write-reads
-use Rattle.registers.proofs.forbidden.Reads as forbidden-reads
-use Rattle.state.proofs.status_in.Reads as status-in-reads
 use Rattle.engine.proofs.configuration.set.Goals as goal
 
 -- src/configuration.rt:60:9

@@ -1,6 +1,5 @@
 use mathlib.Core.Path.{sym, ap, ◌∙◌}
 use Rattle.rules.specs.Rules.Peripheral.{answer_to, answering}
-use borrow.Author.Rules.{rules}
 use Rattle.engine.proofs.peripheral_channel.answer_to.Goals as goal
 
 pub returns-in-Free : goal.returns-in-Free

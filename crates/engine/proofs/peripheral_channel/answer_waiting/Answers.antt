@@ -1,6 +1,5 @@
 use borrow.Author.Tests.{eq-eqb, ne_eqb}
 use Rattle.engine.specs.Laws.Peripheral.{answer_late, answer-counted, answer_right}
-use borrow.Author.Rules.{rules}
 use Rattle.engine.proofs.peripheral_channel.answer_waiting.Goals as goal
 
 pub returns-then-serial-p : goal.returns-then-serial-p

@@ -4,7 +4,6 @@ use Rattle.rules.specs.Rules.Out.{keep}
 use Rattle.rules.specs.Rules.Peripheral.{answered}
 use Rattle.rules.specs.declared.Kept.TheVariants as K
 use Rattle.engine.specs.Laws.Peripheral.{changed}
-use borrow.Author.Rules.{rules}
 use Rattle.engine.proofs.peripheral_channel.answered.Goals as goal
 
 pub returns-then-success : goal.returns-then-success

@@ -6,7 +6,6 @@ use Rattle.peripheral.specs.declared.Np.TheVariants.{Waiting}
 use Rattle.rules.specs.Rules.Out as O
 use Rattle.rules.specs.Rules.Peripheral as P
 use Rattle.engine.specs.Laws.Peripheral.{ask-held, ask_large, ask-done, size_there, refused_there, stored_there}
-use borrow.Author.Rules.{rules}
 use mathlib.Core.Path.{ap}
 use mathlib.Core.Bool.{not}
 use Rattle.engine.proofs.peripheral_channel.ask.Goals as goal

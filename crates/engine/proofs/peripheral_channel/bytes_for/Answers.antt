@@ -1,6 +1,5 @@
 use mathlib.Core.Path.{refl}
 use Rattle.base.specs.Pick.{taken, passed}
-use borrow.Author.Rules.{rules}
 use Rattle.engine.proofs.peripheral_channel.bytes_for.Goals as goal
 
 pub returns-then-success : goal.returns-then-success

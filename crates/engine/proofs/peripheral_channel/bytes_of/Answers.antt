@@ -3,7 +3,6 @@ use Prim.Native.Nat.{ℕ}
 use native.Mathlib.Omega.{arith}
 use Rattle.rules.specs.Rules.Peripheral.{bytes_of}
 use Rattle.engine.specs.Laws.Peripheral.{bytes_one, bytes_two, bytes_four, last-size}
-use borrow.Author.Rules.{rules}
 use Rattle.engine.proofs.peripheral_channel.bytes_of.Goals as goal
 
 pub returns-then-size-eq1 : goal.returns-then-size-eq1

@@ -5,7 +5,6 @@ use Rattle.peripheral.specs.Layout.{peripheral_in}
 use Rattle.peripheral.specs.declared.Kind.TheVariants as R
 use Rattle.rules.specs.Rules.Peripheral.{post, ask, act_of, acting, decide}
 use Rattle.engine.specs.Laws.Peripheral.{request_sizes, as_change}
-use borrow.Author.Rules.{rules}
 use Rattle.engine.proofs.peripheral_channel.decide.Goals as goal
 
 pub ask-requires : goal.ask-requires

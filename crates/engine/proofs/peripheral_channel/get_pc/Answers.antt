@@ -7,7 +7,6 @@ use Rattle.rules.specs.Rules.Peripheral as P
 use Rattle.rules.specs.declared.Body.TheVariants as B
 use Rattle.rules.specs.declared.Kept.TheVariants as K
 use Rattle.engine.specs.Laws.Peripheral.{get_none, get_one, refused_there, stored_there}
-use borrow.Author.Rules.{rules}
 use Rattle.engine.proofs.peripheral_channel.get_pc.Goals as goal
 
 pub returns-in-Nothing : goal.returns-in-Nothing

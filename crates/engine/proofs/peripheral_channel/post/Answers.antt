@@ -8,7 +8,6 @@ use Rattle.rules.specs.Rules.Peripheral as P
 use Rattle.rules.specs.declared.Body.TheVariants as B
 use Rattle.rules.specs.declared.Kept.TheVariants as K
 use Rattle.engine.specs.Laws.Peripheral.{payload_there, post_held, post_large, post-done, refused_there, stored_there}
-use borrow.Author.Rules.{rules}
 use mathlib.Core.Path.{ap}
 use mathlib.Core.Bool.{not}
 use Rattle.engine.proofs.peripheral_channel.post.Goals as goal

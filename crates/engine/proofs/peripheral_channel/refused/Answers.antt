@@ -1,4 +1,3 @@
-use borrow.Author.Rules.{rules}
 use Rattle.engine.proofs.peripheral_channel.refused.Goals as goal
 
 pub returns : goal.returns

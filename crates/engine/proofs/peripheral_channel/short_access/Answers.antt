@@ -8,7 +8,6 @@ use Rattle.peripheral.specs.Layout.{peripheral_in}
 use Rattle.peripheral.specs.declared.Kind.TheVariants as R
 use Rattle.rules.specs.Rules.Peripheral.{ask, acting, short_act, request_of}
 use Rattle.engine.specs.Laws.Peripheral.{request_sizes, as_change}
-use borrow.Author.Rules.{rules}
 use Rattle.engine.proofs.peripheral_channel.short_access.Goals as goal
 
 pub ask-requires : goal.ask-requires

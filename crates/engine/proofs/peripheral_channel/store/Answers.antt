@@ -1,7 +1,6 @@
 use mathlib.Core.Path.{refl}
 use borrow.Author.Tests.{eq-eqb, ne_eqb}
 use Rattle.base.specs.Pick.{taken, passed}
-use borrow.Author.Rules.{rules}
 use Rattle.engine.proofs.peripheral_channel.store.Goals as goal
 
 pub returns-then-number-ne0 : goal.returns-then-number-ne0

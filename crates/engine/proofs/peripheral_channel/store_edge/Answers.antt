@@ -4,7 +4,6 @@ use Rattle.peripheral.specs.Queues.{dropped}
 use Rattle.peripheral.specs.declared.Peripheral.{Peripheral}
 use Rattle.rules.specs.Rules.Channel.{peripheral}
 use Rattle.engine.specs.Carried.{put_part}
-use borrow.Author.Rules.{rules}
 use Rattle.engine.proofs.peripheral_channel.store_edge.Goals as goal
 
 pub returns-then-was-is : goal.returns-then-was-is

@@ -1,7 +1,6 @@
 use mathlib.Core.Path.{sym, ap, ◌∙◌}
 use Rattle.rules.specs.Rules.Peripheral.{taken, taking}
 use Rattle.engine.specs.Laws.Peripheral.{changed}
-use borrow.Author.Rules.{rules}
 use Rattle.engine.proofs.peripheral_channel.taken.Goals as goal
 
 pub returns-in-Empty : goal.returns-in-Empty

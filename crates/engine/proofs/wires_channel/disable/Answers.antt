@@ -6,11 +6,6 @@ use Rattle.wires.specs.declared.Wires.{Wires}
 use Rattle.rules.specs.Rules.Channel.{wires}
 use Rattle.engine.specs.Carried.{put_part}
 use Rattle.engine.specs.Laws.Wires.{both_stored}
-use borrow.Author.Rules.{rules}
-use Rattle.wires.proofs.Wires.disabled.Reads as disabled-reads
-use Rattle.wires.proofs.Wires.pack.Reads as pack-reads
-use Rattle.wires.proofs.Wires.unpack.Reads as unpack-reads
-use Rattle.wires.proofs.lines.drop_lines.Reads as drop-lines-reads
 use Rattle.engine.proofs.wires_channel.disable.Goals as goal
 
 -- src/wires_channel.rt:125:1

@@ -1,5 +1,3 @@
-use borrow.Author.Rules.{rules}
-use Rattle.engine.proofs.out.fatal.Reads as fatal-reads
 use Rattle.engine.proofs.wires_channel.fatally.Goals as goal
 
 -- src/wires_channel.rt:23:1

@@ -1,10 +1,6 @@
 use borrow.Author.Tests.{eq-eqb, ne_eqb}
 use Rattle.wires.specs.Layout.{all_in}
 use Rattle.engine.specs.Laws.Wires.{hinders_off, hinders_many, hinders_one}
-use borrow.Author.Rules.{rules}
-use Rattle.registers.proofs.Reg020.on.Reads as on-reads
-use Rattle.registers.proofs.Reg020.operating_count.Reads as operating-count-reads
-use Rattle.wires.proofs.lines.any_edge.Reads as any-edge-reads
 use mathlib.Core.Path.{ap}
 use mathlib.Core.Bool.{not}
 use Rattle.engine.proofs.wires_channel.hinders.Goals as goal

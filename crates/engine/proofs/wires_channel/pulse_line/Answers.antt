@@ -1,16 +1,10 @@
 use native.Mathlib.Omega.{arith}
-use mathlib.Core.Path.{◌≡◌, refl, sym, ap, ap₂, ◌∙◌}
-use mathlib.Core.Bool.{Bool, not, ◌&&◌}
-use Prim.Native.Nat.{ℕ}
+use mathlib.Core.Path.{ap}
+use mathlib.Core.Bool.{not}
 use borrow.Author.Tests.{lt-ltb, le-ltb}
-use lib.Dec.{ltb}
 use Rattle.engine.specs.Laws.Loaded.{tidy_there}
 use Rattle.engine.specs.Laws.Wires.{pulse_none, can_pulse_lem, pulse_busy, pulse_done}
 use borrow.Author.Rules.{rules}
-use Rattle.registers.proofs.Reg020.on.Reads as on-reads
-use Rattle.registers.proofs.Reg020.operating_count.Reads as operating-count-reads
-use Rattle.wires.proofs.lines.line_waits.Reads as line-waits-reads
-use Rattle.wires.proofs.lines.pulse_line.Reads as pulse-line-reads
 use Rattle.engine.proofs.wires_channel.pulse_line.Goals as goal
 
 -- src/wires_channel.rt:101:9

@@ -1,14 +1,9 @@
-use mathlib.Core.Path.{◌≡◌, refl, sym, ap, ◌∙◌}
 use borrow.Author.Tests.{lt-ltb, le-ltb}
 use Rattle.base.specs.Bytes.{tail_lent}
 use Rattle.registers.specs.Registers.{on1}
 use Rattle.wires.specs.Course.{small_sound}
 use Rattle.engine.specs.Laws.Wires.{put-over-count, put_third, put-done}
 use borrow.Author.Rules.{rules}
-use Rattle.engine.proofs.out.accept.Reads as accept-reads
-use Rattle.engine.proofs.wires_channel.fatally.Reads as fatally-reads
-use Rattle.registers.proofs.Reg020.operating_count.Reads as operating-count-reads
-use Rattle.wires.proofs.Wires.put.Reads as put_reads
 use Rattle.engine.proofs.wires_channel.put_vwire.Goals as goal
 
 -- src/wires_channel.rt:39:9

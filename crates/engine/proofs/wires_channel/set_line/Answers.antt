@@ -1,14 +1,10 @@
 use native.Mathlib.Omega.{arith}
-use mathlib.Core.Path.{refl, sym, ap, ◌∙◌}
+use mathlib.Core.Path.{refl, ap}
 use borrow.Author.Tests.{not-false}
-use lib.Dec.{ltb}
 use Rattle.base.specs.Pick.{and_left}
 use Rattle.engine.specs.Laws.Loaded.{tidy_there}
 use Rattle.engine.specs.Laws.Wires.{line_none, line_busy_lem, line_set}
 use borrow.Author.Rules.{rules}
-use Rattle.registers.proofs.Reg020.on.Reads as on-reads
-use Rattle.wires.proofs.lines.edge_waits.Reads as edge-waits-reads
-use Rattle.wires.proofs.lines.set_line.Reads as set-line-reads
 use mathlib.Core.Bool.{not}
 use Rattle.engine.proofs.wires_channel.set_line.Goals as goal
 

@@ -1,12 +1,6 @@
 use borrow.Author.Tests.{not-false}
 use Rattle.engine.specs.Laws.Tests.{denied}
 use Rattle.engine.specs.Laws.Wires.{set_refused, set_changed}
-use borrow.Author.Rules.{rules}
-use Rattle.engine.proofs.out.keep.Reads as keep-reads
-use Rattle.engine.proofs.out.number.Reads as number-reads
-use Rattle.registers.proofs.Reg020.on.Reads as on-reads
-use Rattle.wires.proofs.Wires.set.Reads as set_Reads
-use Rattle.wires.proofs.settable.Reads as settable-reads
 use mathlib.Core.Path.{ap}
 use mathlib.Core.Bool.{not}
 use Rattle.engine.proofs.wires_channel.setting.Goals as goal

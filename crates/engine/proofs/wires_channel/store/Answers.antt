@@ -3,8 +3,6 @@ use mathlib.Core.Path.{refl}
 use borrow.Author.Tests.{eq-eqb, ne_eqb}
 use Rattle.base.specs.Pick.{taken, passed}
 use Rattle.engine.specs.Laws.Wires.{groups-stored}
-use borrow.Author.Rules.{rules}
-use Rattle.wires.proofs.Wires.pack.Reads as pack-reads
 use Rattle.engine.proofs.wires_channel.store.Goals as goal
 
 -- src/wires_channel.rt:120:9

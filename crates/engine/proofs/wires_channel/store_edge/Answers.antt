@@ -1,8 +1,5 @@
 use mathlib.Core.Path.{refl}
 use Rattle.base.specs.Pick.{taken, passed}
-use borrow.Author.Rules.{rules}
-use Rattle.engine.proofs.wires_channel.disable.Reads as disable-reads
-use Rattle.engine.proofs.wires_channel.enable.Reads as enable-reads
 use Rattle.engine.proofs.wires_channel.store_edge.Goals as goal
 
 -- src/wires_channel.rt:151:9

@@ -1,4 +1,4 @@
-use Rattle.std.proofs.Common.{sym, refl, ◌∙◌, rules}
+use Rattle.std.proofs.Common.{sym, refl, ◌∙◌}
 use Rattle.peripheral.specs.Coded.{free_handed, waiting-handed, ready_handed, failed_handed}
 use Rattle.peripheral.proofs.Coded.{piece_facts}
 use Rattle.peripheral.proofs.Peripheral.hand_over.Goals as goal

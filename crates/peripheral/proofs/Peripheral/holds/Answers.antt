@@ -1,5 +1,4 @@
 use Rattle.peripheral.specs.Coded.{holds_by}
-use Rattle.std.proofs.Common.{rules}
 use Rattle.peripheral.proofs.Peripheral.holds.Goals as goal
 
 pub returns : goal.returns

@@ -1,5 +1,4 @@
 use Rattle.peripheral.specs.Coded.{packed_by}
-use Rattle.std.proofs.Common.{rules}
 use Rattle.peripheral.proofs.Peripheral.pack.Goals as goal
 
 pub returns : goal.returns

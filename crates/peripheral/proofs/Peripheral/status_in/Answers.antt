@@ -1,5 +1,4 @@
 use Rattle.peripheral.specs.Coded.{status_by}
-use Rattle.std.proofs.Common.{rules}
 use Rattle.peripheral.proofs.Peripheral.status_in.Goals as goal
 
 pub returns : goal.returns

@@ -1,4 +1,4 @@
-use Rattle.std.proofs.Common.{get_or, rules}
+use Rattle.std.proofs.Common.{get_or}
 use Rattle.base.specs.Bytes.{number4}
 use Rattle.peripheral.specs.Layout.{request_in}
 use Rattle.peripheral.specs.Coded.{np_none}

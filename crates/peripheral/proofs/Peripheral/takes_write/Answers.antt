@@ -1,4 +1,4 @@
-use Rattle.std.proofs.Common.{get_or, rules}
+use Rattle.std.proofs.Common.{get_or}
 use Rattle.peripheral.specs.Layout.{posted_in}
 use Rattle.peripheral.specs.Coded.{write_none}
 use Rattle.peripheral.proofs.Peripheral.takes_write.Goals as goal

@@ -1,4 +1,3 @@
-use Rattle.std.proofs.Common.{rules}
 use Rattle.peripheral.proofs.Peripheral.unpack.Goals as goal
 
 pub returns : goal.returns

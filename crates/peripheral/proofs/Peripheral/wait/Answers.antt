@@ -1,4 +1,3 @@
-use Rattle.std.proofs.Common.{ap, ◌∙◌, rules}
 use Rattle.peripheral.specs.Coded.{waits_by}
 use Rattle.peripheral.proofs.Peripheral.wait.Goals as goal
 

@@ -1,4 +1,3 @@
-use borrow.Author.Rules.{rules}
 use Rattle.registers.proofs.Config.pack.Goals as goal
 
 pub returns : goal.returns

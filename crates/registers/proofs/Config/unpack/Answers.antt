@@ -1,4 +1,3 @@
-use borrow.Author.Rules.{rules}
 use Rattle.registers.proofs.Config.unpack.Goals as goal
 
 pub returns : goal.returns

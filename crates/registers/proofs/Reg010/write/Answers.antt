@@ -1,4 +1,3 @@
-use borrow.Author.Rules.{rules}
 use Rattle.registers.proofs.Reg010.write.Goals as goal
 
 pub returns : goal.returns

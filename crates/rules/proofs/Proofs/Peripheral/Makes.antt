@@ -1,6 +1,6 @@
 -- A command for every request and every write that the clauses allow: PUT_NP of type 02h, a short I/O access, PUT_PC of type 03h, on a state whose
 -- 010h has the recorded sizes. Back by soundness, which every call keeps.
-use Rattle.std.specs.Prelude.{ℕ, zero, suc, ◌+◌, ◌-◌, ◌*◌, ◌/◌, ◌%◌, ◌^◌, ◌≤◌, ◌<◌, Bool, true, false, ◌||◌, not, List, [], ◌∷◌, ◌++◌, ◌⊎◌, ◌≡◌, eqb, ltb, length, replicate}
+use Rattle.std.specs.Prelude.{ℕ, zero, suc, ◌+◌, ◌*◌, ◌/◌, ◌%◌, ◌^◌, ◌≤◌, ◌<◌, Bool, true, false, ◌||◌, not, List, [], ◌∷◌, ◌++◌, ◌⊎◌, ◌≡◌, eqb, ltb, length, replicate}
 use Rattle.std.proofs.Common.{inl, inr, sym, subst, ◌∙◌, mod-lt, arith, lt-ltb, le-ltb, ne_eqb, eq-eqb, eqb-true, le-leb}
 use Rattle.std.proofs.Math.Path.{refl, ap}
 use Rattle.std.proofs.lemmas.List.{length-replicate}

@@ -1,5 +1,5 @@
 -- The test of channel 0 says its clauses of "Sound state", both ways.
-use Rattle.std.specs.Prelude.{ℕ, zero, suc, ◌+◌, ◌-◌, ◌/◌, ◌%◌, ◌^◌, ◌<◌, Bool, true, false, ◌||◌, ◌≡◌, refl, eqb, ltb}
+use Rattle.std.specs.Prelude.{ℕ, zero, suc, ◌+◌, ◌/◌, ◌%◌, ◌^◌, ◌<◌, Bool, true, false, ◌||◌, ◌≡◌, refl, eqb, ltb}
 use Rattle.std.proofs.Common.{sym, ap, subst, ◌∙◌, arith, ltb-true, eq-eqb, lt-ltb, le-leb}
 use Rattle.std.proofs.Math.Nat.{mul-mod_left}
 use Rattle.base.specs.Pick.{and_left, and_right, and_true}

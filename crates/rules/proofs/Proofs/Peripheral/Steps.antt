@@ -1,12 +1,12 @@
 -- One accepted GET_PC by what is held: the completion that `upward` has is the piece that begins where the bytes sent end. And the look and the take.
-use Rattle.std.specs.Prelude.{ℕ, suc, ◌<◌, Bool, true, false, List, [], ◌∷◌, ◌++◌, ◌≡◌, eqb}
+use Rattle.std.specs.Prelude.{ℕ, suc, ◌<◌, Bool, true, List, [], ◌∷◌, ◌≡◌}
 use Rattle.std.proofs.Math.Bool.{true≢false}
 use Rattle.std.proofs.Math.Path.{refl, ap}
-use Rattle.std.proofs.Common.{sym, subst, ◌∙◌, arith, eq-eqb, ne_eqb}
+use Rattle.std.proofs.Common.{sym, ◌∙◌, arith, eq-eqb, ne_eqb}
 use Rattle.base.specs.Pick.{pick}
 use Rattle.pieces.specs.Edges.{edge_of_lem}
 use Rattle.peripheral.specs.Upward.{upward, handed, bare, success_of, after_success}
-use Rattle.peripheral.specs.Facts.{MadeRequest, ReadyRequest}
+use Rattle.peripheral.specs.Facts.{ReadyRequest}
 use Rattle.peripheral.proofs.Facts.{ready_request, failed_request}
 use Rattle.peripheral.specs.declared.Completion.{Completion}
 use Rattle.peripheral.specs.declared.Kind.{Kind}

@@ -9,7 +9,7 @@ use Rattle.rules.specs.Rules.Peripheral.{look, answer, take_write}
 use Rattle.rules.specs.Rules.Channel.{peripheral}
 use Rattle.rules.specs.Rules.Lift.{lift}
 use Rattle.rules.specs.Rules.Step.{write_length, read_length, look_length, take_length}
-use Rattle.rules.specs.Rules.Calls.{word, Stored, Looked, look_call, answer_call, take_write_call}
+use Rattle.rules.specs.Rules.Calls.{Stored, Looked, look_call, answer_call, take_write_call}
 use Rattle.rules.specs.Statements.Rows.{first_of}
 use Rattle.rules.specs.Statements.FirstApplies.{look_rows, take_rows, answer_rows}
 use Rattle.rules.proofs.Proofs.Rows.{read_off}

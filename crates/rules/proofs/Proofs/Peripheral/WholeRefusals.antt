@@ -8,7 +8,6 @@ use Rattle.peripheral.specs.declared.Np.TheVariants.{Free, Waiting, Ready, Faile
 use Rattle.peripheral.specs.declared.Write.{Write}
 use Rattle.peripheral.specs.declared.Write.TheVariants.{Empty, Held}
 use Rattle.state.specs.Layout.{state_length, unpacked, holds}
-use Rattle.rules.specs.Rules.Out.{number}
 use Rattle.rules.specs.Rules.Peripheral as P
 use Rattle.rules.specs.Rules.Channel.{peripheral}
 use Rattle.rules.specs.Rules.Lift as M

@@ -8,7 +8,7 @@ use Rattle.state.specs.Layout.{state_length, unpacked, holds}
 use Rattle.rules.specs.Rules.Wires.{set_wire, read_wire, set_line, pulse_line}
 use Rattle.rules.specs.Rules.Channel.{wires}
 use Rattle.rules.specs.Rules.Lift.{lift}
-use Rattle.rules.specs.Rules.Calls.{word, Done, set_wire_call, read_wire_call, set_line_call, pulse_line_call}
+use Rattle.rules.specs.Rules.Calls.{Done, set_wire_call, read_wire_call, set_line_call, pulse_line_call}
 use Rattle.rules.specs.Statements.Rows.{first_of}
 use Rattle.rules.specs.Statements.FirstApplies.{board_rows, set_rows, read_rows, line_rows, pulse_rows}
 use Rattle.rules.proofs.Proofs.Rows.{read_off}

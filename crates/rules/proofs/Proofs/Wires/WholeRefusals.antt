@@ -3,7 +3,6 @@ use Rattle.std.specs.Prelude.{ℕ, Bool, true, false, not, List, ◌≢◌, ◌�
 use Rattle.base.specs.Pick.{pick, pick_ind}
 use Rattle.wires.specs.Groups.{defined_bit, read_wire as read_wire_of}
 use Rattle.state.specs.Layout.{state_length, unpacked, holds}
-use Rattle.rules.specs.Rules.Out.{number}
 use Rattle.rules.specs.Rules.Wires as W
 use Rattle.rules.specs.Rules.Channel.{wires}
 use Rattle.rules.specs.Rules.Lift as M

@@ -1,6 +1,5 @@
 use native.Mathlib.Omega.{arith}
 use Rattle.wires.specs.Course.{past_over, past_as}
-use borrow.Author.Rules.{rules}
 use Rattle.wires.proofs.Course.past.Goals as goal
 
 pub returns-then-index-gt7 : goal.returns-then-index-gt7

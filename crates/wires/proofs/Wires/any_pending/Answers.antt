@@ -1,7 +1,6 @@
 use mathlib.Core.Path.{sym}
 use Rattle.wires.specs.Layout.{all_in}
 use Rattle.wires.specs.Pending.{pending_is}
-use borrow.Author.Rules.{rules}
 use Rattle.wires.proofs.Wires.any_pending.Goals as goal
 
 pub returns : goal.returns

@@ -1,6 +1,5 @@
 use native.Mathlib.Omega.{arith}
 use Rattle.wires.specs.Tidy.{holds_by}
-use borrow.Author.Rules.{rules}
 use Rattle.wires.proofs.Wires.groups_hold.Goals as goal
 
 pub returns : goal.returns

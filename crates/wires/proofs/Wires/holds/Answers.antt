@@ -2,7 +2,6 @@ use Rattle.wires.specs.Groups.{sound_wires}
 use Rattle.wires.specs.Lines.{sound_lines, lines_in}
 use Rattle.wires.specs.Layout.{tidy_wires, wires_in}
 use Rattle.wires.specs.Pending.{both_hold}
-use borrow.Author.Rules.{rules}
 use Rattle.wires.proofs.Wires.holds.Goals as goal
 
 pub returns : goal.returns

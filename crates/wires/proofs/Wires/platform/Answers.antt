@@ -1,5 +1,4 @@
 use mathlib.Core.Path.{ap, ◌∙◌}
-use borrow.Author.Rules.{rules}
 use Rattle.wires.specs.declared.Wires.{Wires}
 use Rattle.wires.specs.Groups.{reset_group}
 use Rattle.wires.proofs.Wires.platform.Goals as goal

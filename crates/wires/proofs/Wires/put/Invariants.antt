@@ -1,13 +1,7 @@
-use Prim.Native.Nat.{ℕ, ◌≤◌, ◌+◌, ◌*◌, ◌-◌}
-use mathlib.Core.Path.{◌≡◌, sym, ap, ◌∙◌}
-use native.Mathlib.Omega.{arith}
-use lib.ListN.{length, take, drop}
-use borrow.Author.Tests.{eq-eqb}
-use Rattle.base.specs.Pick.{and_true}
-use Rattle.wires.specs.declared.Course.{Course}
-use Rattle.wires.specs.Course.{course_of, past_pairs, pairs_next, pairs-done}
-use Rattle.wires.proofs.WholePacket.{put-done}
-use borrow.Author.Rules.{rules}
+use Prim.Native.Nat.{◌≤◌, ◌*◌, ◌-◌}
+use mathlib.Core.Path.{◌≡◌}
+use lib.ListN.{take, drop}
+use Rattle.wires.specs.Course.{course_of, past_pairs}
 use Rattle.wires.proofs.Wires.put.Given as goal
 
 abbrev pub invariant-loop-i : goal.invariant-loop-i

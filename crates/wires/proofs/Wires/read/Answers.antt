@@ -1,5 +1,4 @@
 use native.Mathlib.Omega.{arith}
-use borrow.Author.Rules.{rules}
 use Rattle.wires.specs.Rows.{defined-bit}
 use Rattle.wires.proofs.Wires.read.Goals as goal
 

@@ -1,12 +1,7 @@
 use Prim.Native.Nat.{◌-◌, ◌≤◌, ◌<◌}
-use mathlib.Core.Path.{◌≡◌, refl, ap, ◌∙◌}
-use native.Mathlib.Omega.{arith}
-use lib.ListN.{length}
-use lib.Seq.{paste, paste-zero}
+use mathlib.Core.Path.{◌≡◌}
+use lib.Seq.{paste}
 use Rattle.wires.specs.Groups.{remarked}
-use Rattle.wires.specs.Kept.{remarked_next, remarked-all}
-use Rattle.wires.specs.declared.Wires.{Wires}
-use borrow.Author.Rules.{rules}
 use Rattle.wires.proofs.Wires.remarked.Given as goal
 
 abbrev pub invariant-loop-i : goal.invariant-loop-i

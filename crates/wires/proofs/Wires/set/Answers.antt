@@ -1,6 +1,5 @@
 use native.Mathlib.Omega.{arith}
 use lib.Pow.{pow-lt}
-use borrow.Author.Rules.{rules}
 use Rattle.wires.specs.Rows.{settable-bit, bit_exact, bit_alone}
 use Rattle.wires.proofs.Wires.set.Goals as goal
 

@@ -2,7 +2,6 @@ use Prim.Native.Nat.{ℕ, ◌+◌, ◌*◌}
 use mathlib.Core.Path.{ap, ◌∙◌}
 use native.Mathlib.Omega.{arith}
 use Rattle.base.specs.Bytes.{bit}
-use borrow.Author.Rules.{rules}
 use Rattle.wires.proofs.Wires.status_in.Goals as goal
 
 pub returns : goal.returns

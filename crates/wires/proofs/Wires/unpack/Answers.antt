@@ -1,4 +1,3 @@
-use borrow.Author.Rules.{rules}
 use Rattle.wires.proofs.Wires.unpack.Goals as goal
 
 pub returns : goal.returns

@@ -2,7 +2,6 @@ use Prim.Native.Nat.{◌/◌, ◌%◌}
 use mathlib.Core.Path.{ap, ◌∙◌}
 use Rattle.wires.specs.Course.{with_level}
 use Rattle.wires.specs.declared.Wires.{Wires}
-use borrow.Author.Rules.{rules}
 use Rattle.wires.proofs.Wires.with_levels.Goals as goal
 
 pub returns : goal.returns

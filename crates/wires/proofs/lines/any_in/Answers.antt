@@ -1,6 +1,5 @@
 use native.Mathlib.Omega.{arith}
 use Rattle.wires.specs.LineWords.{any_words}
-use borrow.Author.Rules.{rules}
 use Rattle.wires.proofs.lines.any_in.Goals as goal
 
 pub returns : goal.returns

@@ -3,7 +3,6 @@ use mathlib.Core.Path.{ap}
 use lib.Bits.{bit_and, bit_or}
 use Rattle.base.specs.Pick.{taken, passed}
 use Rattle.wires.specs.LineCode.{power_exact}
-use borrow.Author.Rules.{rules}
 use Rattle.wires.proofs.lines.byte_with.Goals as goal
 
 pub returns-then-on : goal.returns-then-on

@@ -1,9 +1,7 @@
 use Prim.Native.Nat.{◌-◌, ◌≤◌}
 use mathlib.Core.Path.{◌≡◌}
-use native.Mathlib.Omega.{arith}
-use borrow.Author.Rules.{rules}
-use lib.ListN.{length, length-set}
-use Rattle.wires.specs.LineCode.{cleared_to, cleared_none, cleared_next, cleared-all}
+use lib.ListN.{length}
+use Rattle.wires.specs.LineCode.{cleared_to}
 use Rattle.wires.proofs.lines.clear_from.Given as goal
 
 abbrev pub invariant-loop-i : goal.invariant-loop-i

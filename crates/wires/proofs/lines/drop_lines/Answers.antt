@@ -1,7 +1,6 @@
 use mathlib.Core.Path.{◌∙◌}
 use native.Mathlib.Omega.{arith}
 use Rattle.wires.specs.LineCode.{dropped-put}
-use borrow.Author.Rules.{rules}
 use Rattle.wires.proofs.lines.drop_lines.Goals as goal
 
 pub returns : goal.returns

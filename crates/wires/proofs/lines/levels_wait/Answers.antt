@@ -1,8 +1,6 @@
-use Prim.Native.Nat.{◌-◌, ◌≤◌}
-use mathlib.Core.Path.{◌≡◌}
 use native.Mathlib.Omega.{arith}
-use lib.ListN.{length, length-set}
-use Rattle.wires.specs.LineCode.{waits_from, waits_none, waits_next, waits_all}
+use lib.ListN.{length-set}
+use Rattle.wires.specs.LineCode.{waits_none, waits_next, waits_all}
 use borrow.Author.Rules.{rules}
 use Rattle.wires.proofs.lines.levels_wait.Goals as goal
 

@@ -1,9 +1,7 @@
 use Prim.Native.Nat.{◌-◌, ◌≤◌}
 use mathlib.Core.Path.{◌≡◌}
-use native.Mathlib.Omega.{arith}
-use lib.ListN.{length, length-set}
-use Rattle.wires.specs.LineCode.{waits_from, waits_none, waits_next, waits_all}
-use borrow.Author.Rules.{rules}
+use lib.ListN.{length}
+use Rattle.wires.specs.LineCode.{waits_from}
 use Rattle.wires.proofs.lines.levels_wait.Given as goal
 
 abbrev pub invariant-loop-i : goal.invariant-loop-i

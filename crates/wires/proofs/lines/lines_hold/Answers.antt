@@ -1,6 +1,5 @@
 use native.Mathlib.Omega.{arith}
 use lib.Dec.{ltb}
-use borrow.Author.Rules.{rules}
 use Rattle.wires.specs.LineWords.{sound_words}
 use Rattle.wires.proofs.lines.lines_hold.Goals as goal
 

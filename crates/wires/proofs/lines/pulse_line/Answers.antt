@@ -5,7 +5,6 @@ use mathlib.Core.Path.{ap, ◌∙◌}
 use native.Mathlib.Omega.{arith}
 use borrow.Author.Tests.{ltb-true}
 use Rattle.wires.specs.LineCode.{bit_put, edge-put}
-use borrow.Author.Rules.{rules}
 use Rattle.wires.proofs.lines.pulse_line.Goals as goal
 
 pub returns : goal.returns

@@ -1,7 +1,6 @@
 use Prim.Native.Nat.{◌+◌, ◌/◌}
 use mathlib.Core.Path.{ap}
 use lib.ListN.{set}
-use borrow.Author.Rules.{rules}
 use Rattle.wires.proofs.lines.put_bit.Goals as goal
 
 pub returns : goal.returns

@@ -3,7 +3,6 @@ use native.Mathlib.Omega.{arith}
 use Rattle.base.specs.Bytes.{put}
 use Rattle.wires.specs.Lines.{no_bits_value}
 use Rattle.wires.specs.LineCode.{raised-put}
-use borrow.Author.Rules.{rules}
 use Rattle.wires.proofs.lines.raise_lines.Goals as goal
 
 pub returns : goal.returns

@@ -3,9 +3,7 @@ use mathlib.Core.List.{List}
 use Prim.Native.Nat.{ℕ}
 use mathlib.Core.Path.{ap, sym, ◌∙◌}
 use native.Mathlib.Omega.{arith}
-use borrow.Author.Tests.{not-true, not-false}
 use Rattle.wires.specs.LineCode.{bit_put, line_small, line_stays, line_off, line_on}
-use borrow.Author.Rules.{rules}
 use Rattle.wires.proofs.lines.set_line.Goals as goal
 
 pub value_at-requires : goal.value_at-requires

@@ -1,7 +1,6 @@
 use mathlib.Core.Path.{sym}
 use native.Mathlib.Omega.{arith}
 use Rattle.wires.specs.LineCode.{value_in}
-use borrow.Author.Rules.{rules}
 use Rattle.wires.proofs.lines.value_at.Goals as goal
 
 pub returns : goal.returns

@@ -1,6 +1,5 @@
 use native.Mathlib.Omega.{arith}
 use Rattle.wires.specs.Going.{after_next, after_last}
-use borrow.Author.Rules.{rules}
 use Rattle.wires.proofs.sending.after.Goals as goal
 
 pub returns-then-sender-lt258 : goal.returns-then-sender-lt258

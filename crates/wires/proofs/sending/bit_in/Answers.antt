@@ -1,7 +1,6 @@
 use native.Mathlib.Omega.{arith}
 use mathlib.Core.Path.{sym}
 use Rattle.wires.specs.Places.{line_get}
-use borrow.Author.Rules.{rules}
 use Rattle.wires.proofs.sending.bit_in.Goals as goal
 
 pub returns : goal.returns

@@ -1,5 +1,4 @@
 use Rattle.wires.specs.Going.{bit-cleared}
-use borrow.Author.Rules.{rules}
 use Rattle.wires.proofs.sending.clear_bit.Goals as goal
 
 pub returns : goal.returns

@@ -1,7 +1,6 @@
 use mathlib.Core.Path.{ap, ◌∙◌}
 use Rattle.wires.specs.Places.{cleared}
 use Rattle.wires.specs.Going.{edge_full, edge-taken}
-use borrow.Author.Rules.{rules}
 use Rattle.wires.proofs.sending.edge_step.Goals as goal
 
 pub returns-then-g-lt2 : goal.returns-then-g-lt2

@@ -4,7 +4,6 @@ use mathlib.Core.Path.{sym, ap, ◌∙◌}
 use lib.Dec.{eqb}
 use borrow.Author.Tests.{eq-eqb, ne_eqb}
 use Rattle.base.specs.Bytes.{number8}
-use borrow.Author.Rules.{rules}
 use Rattle.wires.proofs.sending.empty_word.Goals as goal
 
 pub returns-then-line-ne0 : goal.returns-then-line-ne0

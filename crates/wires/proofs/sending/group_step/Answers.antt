@@ -2,7 +2,6 @@ use mathlib.Core.Path.{refl}
 use native.Mathlib.Omega.{arith}
 use lib.ListN.{length-set}
 use Rattle.wires.specs.Going.{group_up, group_small, group_passed, group_taken, pair_put}
-use borrow.Author.Rules.{rules}
 use Rattle.wires.proofs.sending.group_step.Goals as goal
 
 pub returns-then-state-sender-ne1 : goal.returns-then-state-sender-ne1

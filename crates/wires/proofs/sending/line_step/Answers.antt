@@ -1,7 +1,6 @@
 use native.Mathlib.Omega.{arith}
 use mathlib.Core.Path.{sym, ◌∙◌}
 use Rattle.wires.specs.Going.{lines_passed, line_taken}
-use borrow.Author.Rules.{rules}
 use Rattle.wires.proofs.sending.line_step.Goals as goal
 
 pub returns-then-bit_in-eq0 : goal.returns-then-bit_in-eq0

@@ -1,7 +1,6 @@
 use native.Mathlib.Omega.{arith}
 use lib.ListN.{length-set}
 use Rattle.wires.specs.Going.{put_two}
-use borrow.Author.Rules.{rules}
 use Rattle.wires.proofs.sending.put_level.Goals as goal
 
 pub bounds-reply-at-2 : goal.bounds-reply-at-2

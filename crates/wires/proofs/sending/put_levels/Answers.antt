@@ -3,7 +3,6 @@ use Prim.Native.Nat.{◌+◌}
 use native.Mathlib.Omega.{arith}
 use Rattle.base.specs.Bytes.{put, put-put}
 use Rattle.wires.specs.Lines.{line_entry}
-use borrow.Author.Rules.{rules}
 use Rattle.wires.proofs.sending.put_levels.Goals as goal
 
 pub returns : goal.returns

@@ -1,6 +1,5 @@
 use mathlib.Core.Path.{sym, ◌∙◌}
 use Rattle.wires.specs.Going.{quiet_1, quiet_8, quiet_64}
-use borrow.Author.Rules.{rules}
 use Rattle.wires.proofs.sending.quiet_run.Goals as goal
 
 pub returns-then-empty_word : goal.returns-then-empty_word
