@@ -1,4 +1,4 @@
-// One call of an exported function, and the line that tells it.
+// One of the eleven calls, and the line that tells it.
 use crate::print;
 use std::io;
 

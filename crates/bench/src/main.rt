@@ -1,4 +1,4 @@
-// Plays the script on standard input through the exported functions: a line for each call, with its number, command and reply.
+// Plays the script on standard input through the eleven calls: a line for each call, with its number, command and reply.
 #![tactic(auto)]
 
 ghost use Rattle.std.specs.Prelude.{◌≤◌, length, IfOk};
@@ -9,9 +9,6 @@ mod print;
 mod script;
 
 use std::io::{self, Read};
-
-// Room for a whole script.
-const ROOM: usize = 65536;
 
 // Reads until the input ends or there is no more room; how many bytes.
 fn read_full(rt: &impl Input, into: &mut [u8]) -> io::Result<usize>
@@ -33,6 +30,7 @@ fn main(rt: HostRuntime) -> io::Result<()> {
     let mut state = [0; 174];
     let mut write_store = [0; 256];
     let mut read_store = [0; 4096];
+    // room for a whole script
     let mut text = [0; 65536];
     let n = read_full(&rt, &mut text)?;
     script::play(

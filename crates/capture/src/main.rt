@@ -29,15 +29,14 @@ fn read_full(rt: &impl Input, into: &mut [u8]) -> io::Result<usize>
 }
 
 // Where the next line goes in the block: behind the last one, or at its start, all before it written, if it might not fit.
-fn room(rt: &impl Print, block: &[u8], at: usize) -> io::Result<usize>
+fn room(block: &[u8], at: usize) -> usize
     requires { (at ≤ 65536) × (length block.now ≡ 65536) }
-    ensures { IfOk result (λ r. (r ≡ pick (leb at 64999) at 0) × (r + line_length ≤ 65536)) }
+    ensures { (result ≡ pick (leb at 64999) at 0) × (result + line_length ≤ 65536) }
 {
     if at <= BLOCK - LINE {
-        return Ok(at);
+        return at;
     }
-    io::writer(rt).write_all(&block[..at])?;
-    Ok(0)
+    0
 }
 
 fn play(rt: &impl Print, file: &[u8]) -> io::Result<()> {
@@ -50,7 +49,11 @@ fn play(rt: &impl Print, file: &[u8]) -> io::Result<()> {
     let mut place = begun.next;
     let mut at = begun.size;
     while 0 < place.left {
-        at = room(rt, &block, at)?;
+        let next = room(&block, at);
+        if next < at {
+            io::writer(rt).write_all(&block[..at])?;
+        }
+        at = next;
         let said = playback::play(
             file,
             place,

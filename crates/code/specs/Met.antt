@@ -1,4 +1,4 @@
--- The code of each exported function meets its contract: `statement` is the checker's own, that the function's routine, run on anything that its types
+-- The code of each of the eleven calls meets its contract: `statement` is the checker's own, that the function's routine, run on anything that its types
 -- allow, ends and gives what its `ensures` says; `Contracts` of promises says what that is in bytes.
 use Rattle.espi.proofs.espi_start.Statement as Start
 use Rattle.espi.proofs.espi_reset.Statement as EspiReset

@@ -1,4 +1,4 @@
--- The code: each exported function's routine meets its contract. These are the checker's theorems of the functions, cited by name.
+-- The code: the routine of each of the eleven calls meets its contract. These are the checker's theorems of the functions, cited by name.
 use Rattle.espi.proofs.espi_start.Met as Start
 use Rattle.espi.proofs.espi_reset.Met as EspiReset
 use Rattle.espi.proofs.espi_platform_reset.Met as PlatformReset

@@ -206,9 +206,9 @@ pub record EntryAt (w : AllWires) (ks : List ℕ) (g : ℕ) : Type 0 where
   pub long : length front ≡ at * 2
   pub within : at + sender_size w g ≤ entries w ks
 
-pub entry_at : (w : AllWires) (g : ℕ) (ks : List ℕ) → Memᴰ g ks → EntryAt w ks g
+entry_in : (w : AllWires) (g : ℕ) (ks : List ℕ) → Memᴰ g ks → EntryAt w ks g
 unfolding pair_bytes sizes
-entry_at w g ks (Memᴰ.head {x = x} {xs = xs} q) =
+entry_in w g ks (Memᴰ.head {x = x} {xs = xs} q) =
     record {
       at = 0;
       front = [];
@@ -217,8 +217,8 @@ entry_at w g ks (Memᴰ.head {x = x} {xs = xs} q) =
       long = refl;
       within = let e = ap (sender_size w) q in omega arith;
     }
-entry_at w g ks (Memᴰ.tail {x = x} {xs = xs} m) =
-    let p = entry_at w g xs m in
+entry_in w g ks (Memᴰ.tail {x = x} {xs = xs} m) =
+    let p = entry_in w g xs m in
     record {
       at = sender_size w x + p.at;
       front = entries_of w x ++ p.front;
@@ -227,3 +227,6 @@ entry_at w g ks (Memᴰ.tail {x = x} {xs = xs} m) =
       long = omega (arith, length-append (entries_of w x) p.front, entry_length w x, p.long);
       within = omega (arith, p.within);
     }
+
+pub entry_at : (w : AllWires) (ks : List ℕ) (g : ℕ) → Memᴰ g ks → EntryAt w ks g
+entry_at w ks g m = entry_in w g ks m

@@ -11,7 +11,7 @@ loop-place-init g c =
 pub overflow_add-at : goal.overflow_add-at
 overflow_add-at g c =
     let l = c.loop-place in let t = c.loop-place-test.true in
-    omega (arith, c.in_ok-at.ensures.1, play_size _ _ (l.invariant.1 t) t _ _ _ _ _ _ _ _ _ _ _ c.play-said.ensures)
+    omega (arith, c.room-next.ensures.1, play_size _ _ (l.invariant.1 t) t _ _ _ _ _ _ _ _ _ _ _ c.play-said.ensures)
 
 pub loop-place-smaller : goal.loop-place-smaller
 loop-place-smaller g c =
@@ -21,8 +21,8 @@ loop-place-smaller g c =
 pub loop-place-preserved : goal.loop-place-preserved
 loop-place-preserved g c =
     let l = c.loop-place in let t = c.loop-place-test.true in
-    let e = same_len_mid c.in_ok-at.at (65536 - c.in_ok-at.at) l.block c.play-said.new.line c.play-said.auto.line in (
-      omega (arith, c.in_ok-at.ensures.1, play_size _ _ (l.invariant.1 t) t _ _ _ _ _ _ _ _ _ _ _ c.play-said.ensures),
+    let e = same_len_mid c.room-next.result (65536 - c.room-next.result) l.block c.play-said.new.line c.play-said.auto.line in (
+      omega (arith, c.room-next.ensures.1, play_size _ _ (l.invariant.1 t) t _ _ _ _ _ _ _ _ _ _ _ c.play-said.ensures),
       λ _. play_stands _ _ (l.invariant.1 t) t _ _ _ _ _ _ _ _ _ _ _ c.play-said.ensures,
       search rules,
       search rules,

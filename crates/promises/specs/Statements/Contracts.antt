@@ -1,4 +1,4 @@
--- P2, and the link to the code: the contracts of the eleven exported functions, named as the crate espi has them. `Post` of a function is its `ensures`
+-- P2, and the link to the code: the contracts of the eleven calls, named as the crate espi has them. `Post` of a function is its `ensures`
 -- at the arguments a, the result r and what stands behind the arguments at exit, s. Two outcomes that it allows for the same arguments are the same
 -- (01, What each contract must settle), and each is the outcome of the call over bytes, `byte_step_value`, of which Lifted and Promises speak.
 use Rattle.std.specs.Prelude.{ℕ, List, ◌≡◌}

@@ -51,7 +51,7 @@ take-front (x ∷ a) b = ap (λ (l : List ℕ). x ∷ l) (take-front a b)
 carried_in : (v : AllWires) (ks : List ℕ) (g : ℕ) (behind : List ℕ) → 1 ≤ length ks → Memᴰ g ks
     → Carries (0x08 ∷ (A.entries v ks - 1) ∷ (A.pair_bytes v ks ++ behind)) (A.entries_of v g)
 carried_in v ks g behind some m =
-    let p = F.entry_at v g ks m in
+    let p = F.entry_at v ks g m in
     let e = A.entries_of v g in
     let q : 2 + p.at * 2 ≡ suc (suc (length p.front + 0)) = omega (arith, p.long) in
     record {
