@@ -7,6 +7,7 @@ An edit holds wrong bodies or definitions; before each, lines say who must refus
 Where a definition is the only wrong thing in its edit, the file that is named first has the log's first error, and docs/PROMISES.md, 'Definitions that ..',
 names the same files if it has the edit.
 An error that says that a goal, a field or a name is missing does not count: then the proof does not fit the code, and nothing was refused for its own sake.
+No function has such errors alone, named or not: then the shape was changed.
 Every public function is named by two edits of its crate, each with a wrong thing in that function's own body.
 The logs stay in target/must-fail.
 """
@@ -24,7 +25,7 @@ from collections import namedtuple
 import listed
 
 Wrong = namedtuple("Wrong", "places file old new")  # one replacement
-Log = namedtuple("Log", "first own functions proved")
+Log = namedtuple("Log", "first own functions unfit proved")
 
 ERROR = re.compile(r"^(?:\./)?(\S+):\d+:\d+: error: (.*)")
 BELOW = re.compile(r"declarations? that depends? on .*, which was (?:rejected|not admitted)")
@@ -109,19 +110,22 @@ def wrongs(edit):
 
 
 def said(path):
-    """The file of the first error; the files with an error of their own; the functions not proved: whether a search failed; whether all is proved."""
-    first, own, functions, proved = "", set(), {}, False
+    """The file of the first error; the files with an error of their own; the functions not proved: whether a search failed; the folders of proofs that do
+    not fit; whether all is proved."""
+    first, own, functions, unfit, proved = "", set(), {}, set(), False
     for line in listed.read(path).split("\n"):
         error, verdict = ERROR.match(line), VERDICT.match(line)
         if error:
             file = error.group(1)
             first = first or file
-            if not BELOW.search(error.group(2)) and not UNFIT.search(error.group(2)):
+            if UNFIT.search(error.group(2)):
+                unfit.add(os.path.dirname(file))
+            elif not BELOW.search(error.group(2)):
                 own.add(file)
         if verdict:
             functions[verdict.group(1)] = verdict.group(2) != "not proved"
         proved = line.startswith("logic=proved")
-    return Log(first, own, functions, proved)
+    return Log(first, own, functions, unfit - {os.path.dirname(file) for file in own}, proved)
 
 
 def refuses(place, log):
@@ -145,6 +149,7 @@ def judge(wrong, log):
     faults = [f"{w.old}: no line 'refused:' before it" for w in wrong if not w.places]
     if log.proved:
         faults.append("is not refused")
+    faults += [f"{folder} does not fit: the shape was changed" for folder in sorted(log.unfit)]
     faults += [f"{p} does not refuse it" for w in wrong for p in w.places if not refuses(p, log)]
     if len(wrong) == 1 and wrong[0].file.startswith("specs/") and [log.first] != wrong[0].places[:1]:
         faults.append(f"{log.first} refuses it first")
