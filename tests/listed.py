@@ -32,24 +32,48 @@ Function = namedtuple("Function", "public exported contract body")
 
 FUNCTION = re.compile(r'^(\s*)(pub |pub\(crate\) )?(extern "C" )?fn (\w+)')
 
+IMPL = re.compile(r"^impl(?:<.*?>)? (?:(?P<trait>\w+)(?:<(?P<of>\w+)>)? for )?(?P<type>\w+)")
+
+
+def capital(name):
+    return name[:1].upper() + name[1:]
+
+
+def owned(line):
+    """How the prover names what a line opens, and whether what stands in it is public without `pub`: an `impl` of a trait, or a public trait."""
+    impl = IMPL.match(line)
+    if impl:
+        of, trait = capital(impl["of"] or ""), impl["trait"] or ""
+        return (capital(impl["type"]) + trait + of if trait else impl["type"]) + "::", bool(trait)
+    trait = re.match(r"^(pub )?trait (\w+)", line)
+    return (trait[2] + "::", bool(trait[1])) if trait else None
+
 
 def functions(path):
+    """A method of a trait's `impl` promises what the ghost members above it say: that is its ensures. A method without a body is its trait's to promise."""
     module = os.path.basename(path)[: -len(".rt")]
     prefix = "" if module == "lib" else module + "::"
-    found, owner, lines = {}, "", read(path).split("\n")
+    found, owner, shown, ghosts, lines = {}, "", False, [], read(path).split("\n")
     for at, line in enumerate(lines):
-        impl = re.match(r"^impl (\w+)", line)
-        if impl:
-            owner = impl.group(1) + "::"
+        opened = owned(line)
+        if opened:
+            (owner, shown), ghosts = opened, []
         elif line.startswith("}"):
-            owner = ""
+            owner, shown = "", False
+        ghost = re.match(r"^    ghost (\w+) = \{ (.*) \};$", line)
+        if ghost and shown:
+            ghosts.append(ghost[2])
         head = FUNCTION.match(line)
         if not head:
             continue
-        begin = next(k for k in range(at, len(lines)) if lines[k].rstrip().endswith("{")) + 1
+        begin = next(k for k in range(at, len(lines)) if lines[k].rstrip().endswith(("{", ";"))) + 1
+        if lines[begin - 1].rstrip().endswith(";"):
+            continue
         end = next(k for k in range(begin, len(lines)) if lines[k].startswith(head.group(1) + "}"))
         contract, body = "\n".join(lines[at:begin]), "\n".join(lines[begin:end])
-        found[prefix + owner + head.group(4)] = Function(head.group(2) == "pub ", bool(head.group(3)), contract, body)
+        if ghosts:
+            contract = contract.rstrip("{") + "\n    ensures { " + " × ".join(ghosts) + " }\n    {"
+        found[prefix + owner + head.group(4)] = Function(head.group(2) == "pub " or shown, bool(head.group(3)), contract, body)
     return found
 
 

@@ -1,132 +1,103 @@
 // Number 10: each lent store one byte too short.
+use crate::calls::Board;
 use crate::{calls, print};
 use std::io;
 
-fn short_state(
-    rt: &impl Print,
-    write_store: &mut [u8; 256],
-    read_store: &[u8; 4096],
-) -> io::Result<()> {
+const STATUS: [u8; 2] = [0x25, 0xFB];
+
+// Stays: each lends another store too short; one function for all would be lent all five, and each call of it would be as long as these.
+fn short_state(rt: &(impl Print + AllocGlobal), board: &mut Board) -> io::Result<()> {
     print::title(rt, b"10: exchange with a state of 173 bytes")?;
-    let mut short = [0; 173];
-    let mut reply = [0; 263];
     calls::lent(
         rt,
-        &mut short,
-        &[0x25, 0xFB],
-        &mut reply,
-        write_store,
-        read_store,
-    )?;
-    Ok(())
+        &mut [0; 173],
+        &STATUS,
+        &mut [0; 263],
+        &mut board.write_store,
+        &board.read_store,
+    )
 }
 
-fn short_reply(
-    rt: &impl Print,
-    state: &mut [u8; 174],
-    write_store: &mut [u8; 256],
-    read_store: &[u8; 4096],
-) -> io::Result<()> {
+fn short_reply(rt: &(impl Print + AllocGlobal), board: &mut Board) -> io::Result<()> {
     print::title(rt, b"10: a reply of 262")?;
-    let mut reply = [0; 262];
     calls::lent(
         rt,
-        state,
-        &[0x25, 0xFB],
-        &mut reply,
-        write_store,
-        read_store,
-    )?;
-    Ok(())
+        &mut board.state,
+        &STATUS,
+        &mut [0; 262],
+        &mut board.write_store,
+        &board.read_store,
+    )
 }
 
-fn short_write_store(
-    rt: &impl Print,
-    state: &mut [u8; 174],
-    read_store: &[u8; 4096],
-) -> io::Result<()> {
+fn short_write_store(rt: &(impl Print + AllocGlobal), board: &mut Board) -> io::Result<()> {
     print::title(rt, b"10: a write store of 255")?;
-    let mut short = [0; 255];
-    let mut reply = [0; 263];
-    calls::lent(rt, state, &[0x25, 0xFB], &mut reply, &mut short, read_store)?;
-    Ok(())
+    calls::lent(
+        rt,
+        &mut board.state,
+        &STATUS,
+        &mut [0; 263],
+        &mut [0; 255],
+        &board.read_store,
+    )
 }
 
-fn short_read_store(
-    rt: &impl Print,
-    state: &mut [u8; 174],
-    write_store: &mut [u8; 256],
-) -> io::Result<()> {
+fn short_read_store(rt: &(impl Print + AllocGlobal), board: &mut Board) -> io::Result<()> {
     print::title(rt, b"10: a read store of 4,095")?;
-    let short = [0; 4095];
-    let mut reply = [0; 263];
-    calls::lent(rt, state, &[0x25, 0xFB], &mut reply, write_store, &short)?;
-    Ok(())
+    calls::lent(
+        rt,
+        &mut board.state,
+        &STATUS,
+        &mut [0; 263],
+        &mut board.write_store,
+        &[0; 4095],
+    )
 }
 
-fn short_states(rt: &impl Print) -> io::Result<()> {
+fn short_states(rt: &(impl Print + AllocGlobal)) -> io::Result<()> {
     print::title(rt, b"10: the board calls with a state of 173")?;
-    let mut a = [0; 173];
-    print::done(rt, b"start", espi::espi_start(&mut a))?;
-    let mut b = [0; 173];
-    print::done(rt, b"reset", espi::espi_reset(&mut b))?;
-    let mut c = [0; 173];
-    print::done(rt, b"platform reset", espi::espi_platform_reset(&mut c))?;
-    let mut d = [0; 173];
-    print::done(rt, b"set wire", espi::espi_set_wire(&mut d, 4, 0, 1))?;
-    let e = [0; 173];
-    print::done(rt, b"read wire", espi::espi_read_wire(&e, 4, 0))?;
-    let mut f = [0; 173];
-    print::done(rt, b"set line", espi::espi_set_line(&mut f, 1, 1))?;
-    let mut g = [0; 173];
-    print::done(rt, b"pulse line", espi::espi_pulse_line(&mut g, 1))?;
-    Ok(())
+    print::done(rt, "start", espi::espi_start(&mut [0; 173]))?;
+    print::done(rt, "reset", espi::espi_reset(&mut [0; 173]))?;
+    print::done(
+        rt,
+        "platform reset",
+        espi::espi_platform_reset(&mut [0; 173]),
+    )?;
+    print::done(rt, "set wire", espi::espi_set_wire(&mut [0; 173], 4, 0, 1))?;
+    print::done(rt, "read wire", espi::espi_read_wire(&[0; 173], 4, 0))?;
+    print::done(rt, "set line", espi::espi_set_line(&mut [0; 173], 1, 1))?;
+    print::done(rt, "pulse line", espi::espi_pulse_line(&mut [0; 173], 1))
 }
 
-fn short_reports(
-    rt: &impl Print,
-    state: &mut [u8; 174],
-    write_store: &[u8; 256],
-) -> io::Result<()> {
+fn short_reports(rt: &(impl Print + AllocGlobal), board: &mut Board) -> io::Result<()> {
     print::title(
         rt,
         b"10: look with a report of 18, take with one of 9 and with a write store of 255, answer with a read store of 4,095",
     )?;
-    let mut look = [0; 18];
-    print::done(rt, b"look", espi::espi_look(state, &mut look))?;
-    let mut take = [0; 9];
+    let state = &mut board.state;
+    print::done(rt, "look", espi::espi_look(state, &mut [0; 18]))?;
     print::done(
         rt,
-        b"take",
-        espi::espi_take_write(state, write_store, &mut take),
+        "take",
+        espi::espi_take_write(state, &board.write_store, &mut [0; 9]),
     )?;
-    let store = [0; 255];
-    let mut report = [0; 10];
     print::done(
         rt,
-        b"take",
-        espi::espi_take_write(state, &store, &mut report),
+        "take",
+        espi::espi_take_write(state, &[0; 255], &mut [0; 10]),
     )?;
-    let mut read = [0; 4095];
     print::done(
         rt,
-        b"answer",
-        espi::espi_answer(state, &mut read, 1, 1, b""),
-    )?;
-    Ok(())
+        "answer",
+        espi::espi_answer(state, &mut [0; 4095], 1, 1, b""),
+    )
 }
 
-pub fn run(
-    rt: &impl Print,
-    state: &mut [u8; 174],
-    write_store: &mut [u8; 256],
-    read_store: &mut [u8; 4096],
-) -> io::Result<()> {
-    short_state(rt, write_store, read_store)?;
-    short_reply(rt, state, write_store, read_store)?;
-    short_write_store(rt, state, read_store)?;
-    short_read_store(rt, state, write_store)?;
+pub fn run(rt: &(impl Print + AllocGlobal), board: &mut Board) -> io::Result<()> {
+    short_state(rt, board)?;
+    short_reply(rt, board)?;
+    short_write_store(rt, board)?;
+    short_read_store(rt, board)?;
     short_states(rt)?;
-    short_reports(rt, state, write_store)?;
-    Ok(())
+    short_reports(rt, board)
 }

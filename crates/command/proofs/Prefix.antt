@@ -6,7 +6,7 @@ use Rattle.std.proofs.Math.Path.{refl, sym}
 use Rattle.std.proofs.lemmas.Bool.{not-false}
 use Rattle.std.proofs.Math.ListN.{get_or-append}
 use Rattle.base.specs.Pick.{pick, pick_ind, taken, passed, and_left, and_right, and_true}
-use Rattle.command.specs.Rows.{plain, row_of}
+use Rattle.command.specs.Rows.{types, plain, row_of}
 use Rattle.command.specs.Needs.{channel_on, cycle_listed, all_ff, need_data, need_row, need_listed, need_in}
 use Rattle.command.specs.Decode.{checked_as, read_off_value, admit_listed, admit}
 use Rattle.command.specs.Facts.{IsBytes, SizeFits, length-fits, by_row, cycle_wrong}
@@ -15,19 +15,18 @@ use Rattle.command.specs.declared.Opcode.TheVariants as O
 use Rattle.command.specs.declared.Channels.{Channels}
 use Rattle.command.specs.declared.Channel.{Channel}
 use Rattle.command.specs.declared.Channel.TheVariants.{Independent}
-use Rattle.command.specs.declared.Cycle.TheVariants.{Types, Absent}
 use Rattle.command.specs.declared.Data.{Data}
 use Rattle.command.specs.declared.Data.TheVariants.{Fixed, Length, Pairs, Ones}
 use Rattle.command.specs.declared.Row.{Row}
-use Rattle.command.specs.declared.Listed.{Listed}
-use Rattle.command.specs.declared.Listed.TheVariants.{As, Unlisted}
 use Rattle.command.specs.declared.Need.{Need}
 use Rattle.command.specs.declared.Need.TheVariants.{Whole, More, Open, Never}
 use Rattle.command.specs.declared.Command.TheVariants as C
-use Rattle.command.specs.declared.Decoded.{Decoded}
-use Rattle.command.specs.declared.Decoded.TheVariants.{Known, Refused}
 use Rattle.command.proofs.Facts.{Passes, need_is, passes_tells, ListedTells, row_tells}
 use Rattle.command.specs.Prefix.{endless, overlong, ReadsOff, Prefix}
+use Rattle.std.specs.Prelude.{Option, Some, None, Result, Ok, Err}
+use Rattle.command.specs.declared.Refusal.{Refusal}
+use Rattle.command.specs.declared.Refusal.TheVariants.{LengthWrong, OpcodeUnknown, CycleUnlisted}
+use Rattle.command.specs.declared.Command.{Command}
 
 -- ---- which need
 
@@ -35,30 +34,30 @@ abbrev is_whole : Need → Bool
 is_whole (Whole n) = true
 is_whole (More k) = false
 is_whole Open = false
-is_whole (Never n) = false
+is_whole (Never z) = false
 
 abbrev is_more : Need → Bool
 is_more (Whole n) = false
 is_more (More k) = true
 is_more Open = false
-is_more (Never n) = false
+is_more (Never z) = false
 
 abbrev is_open : Need → Bool
 is_open (Whole n) = false
 is_open (More k) = false
 is_open Open = true
-is_open (Never n) = false
+is_open (Never z) = false
 
 abbrev k_of : Need → ℕ
 k_of (Whole n) = 0
 k_of (More k) = k
 k_of Open = 0
-k_of (Never n) = 0
+k_of (Never z) = 0
 
 not_more : {x : Need} {k : ℕ} → is_more x ≡ false → x ≡ More k → ⊥
 not_more h e = true≢false (sym (ap is_more e) ∙ h)
 
-not_whole : {x : Need} {n : ℕ} → is_whole x ≡ true → x ≡ Never n → ⊥
+not_whole : {x : Need} {z : Refusal} → is_whole x ≡ true → x ≡ Never z → ⊥
 not_whole h e = true≢false (sym h ∙ ap is_whole e)
 
 -- none or some
@@ -74,30 +73,30 @@ Alike n b d = (i : ℕ) → i < n → get_or d i 0 ≡ get_or b i 0
 record RowReads (b d : List ℕ) (r : Row) : Type 0 where
   pub cycle : cycle_listed r.cycle (get_or d 1 0) ≡ cycle_listed r.cycle (get_or b 1 0)
   pub whole : (n : ℕ) → need_data r b r.carries ≡ Whole n → need_data r d r.carries ≡ Whole n
-  pub never : (all_ff b ≡ false → all_ff d ≡ false) → (n : ℕ) → need_data r b r.carries ≡ Never n → need_data r d r.carries ≡ Never n
+  pub never : (all_ff b ≡ false → all_ff d ≡ false) → (z : Refusal) → need_data r b r.carries ≡ Never z → need_data r d r.carries ≡ Never z
 
 module _ (b d : List ℕ) where
-  abbrev ListedReads : Listed → Type 0
-  ListedReads (As r) = (1 ≤ r.told) × (Alike r.told b d → RowReads b d r)
-  ListedReads Unlisted = Unit {0}
+  abbrev ListedReads : Option Row → Type 0
+  ListedReads (Some r) = (1 ≤ r.told) × (Alike r.told b d → RowReads b d r)
+  ListedReads None = Unit {0}
 
   plain_reads : (op : Opcode) (k : Channel) (a n : ℕ) → ListedReads (plain op k a n)
   plain_reads op k a n = (lit≤ tt, λ _. record { cycle = refl; whole = λ m e. e; never = λ _ m e. absurd (not_whole refl e) })
 
-  reset_whole : (n : ℕ) (t : Bool) (y : Need) → pick t Open (Never 13) ≡ Whole n → y ≡ Whole n
+  reset_whole : (n : ℕ) (t : Bool) (y : Need) → pick t Open (Never OpcodeUnknown) ≡ Whole n → y ≡ Whole n
   reset_whole n true y e = absurd (true≢false (sym (ap is_whole e)))
   reset_whole n false y e = absurd (true≢false (sym (ap is_whole e)))
 
-  reset-never : (n : ℕ) (t u : Bool) → (t ≡ false → u ≡ false) → pick t Open (Never 13) ≡ Never n → pick u Open (Never 13) ≡ Never n
-  reset-never n true u h e = absurd (true≢false (ap is_open e))
-  reset-never n false u h e = ap (λ (v : Bool). pick v Open (Never 13)) (h refl) ∙ e
+  reset-never : (z : Refusal) (t u : Bool) → (t ≡ false → u ≡ false) → pick t Open (Never OpcodeUnknown) ≡ Never z → pick u Open (Never OpcodeUnknown) ≡ Never z
+  reset-never z true u h e = absurd (true≢false (ap is_open e))
+  reset-never z false u h e = ap (λ (v : Bool). pick v Open (Never OpcodeUnknown)) (h refl) ∙ e
 
   rows-read : (op : ℕ) → ListedReads (row_of op)
   rows-read =
       by_row ListedReads (
         lit≤ tt,
         λ h. record {
-          cycle = ap (cycle_listed (Types 1 3)) (h 1 (omega arith));
+          cycle = ap (cycle_listed (types 1 3)) (h 1 (omega arith));
           whole = λ n e. rw (h 1 (omega arith), h 2 (omega arith), h 3 (omega arith)) e;
           never = λ _ n e. absurd (not_whole refl e);
         },
@@ -105,7 +104,7 @@ module _ (b d : List ℕ) where
       (plain_reads _ _ _ _) (
         lit≤ tt,
         λ h. record {
-          cycle = ap (cycle_listed (Types 0 2)) (h 1 (omega arith));
+          cycle = ap (cycle_listed (types 0 2)) (h 1 (omega arith));
           whole = λ n e. rw (h 1 (omega arith)) e;
           never = λ _ n e. absurd (not_whole refl e);
         },
@@ -134,20 +133,20 @@ more_ff (x ∷ xs) c e = go (eqb x 0xFF) (more_ff xs c) e
     go false rest f = refl
 
 module _ (on : Channels) where
-  need_some : (b : List ℕ) → 1 ≤ length b → need_in on b ≡ need_listed on b (row_of (get_or b 0 0))
+  pub need_some : (b : List ℕ) → 1 ≤ length b → need_in on b ≡ need_listed on b (row_of (get_or b 0 0))
   unfolding need_in
   need_some b h = sym (passed _ _ (ne_eqb (length b) 0 (λ e. omega arith)) refl)
 
-  need_none : (b : List ℕ) → length b ≡ 0 → need_in on b ≡ More 1
+  pub need_none : (b : List ℕ) → length b ≡ 0 → need_in on b ≡ More 1
   unfolding need_in
   need_none b h = sym (taken _ _ (eq-eqb (length b) 0 h) refl)
 
   -- the same row, with bytes like these
-  need_row_lem : (b d : List ℕ) (r : Row) → 1 ≤ length d → get_or d 0 0 ≡ get_or b 0 0 → row_of (get_or b 0 0) ≡ As r → need_in on d ≡ need_row on d r
+  need_row_lem : (b d : List ℕ) (r : Row) → 1 ≤ length d → get_or d 0 0 ≡ get_or b 0 0 → row_of (get_or b 0 0) ≡ Some r → need_in on d ≡ need_row on d r
   need_row_lem b d r h e f = need_some d h ∙ ap (need_listed on d) (ap row_of e ∙ f)
 
   module _ (b d : List ℕ) (r : Row) where
-    row_reads : row_of (get_or b 0 0) ≡ As r → (1 ≤ r.told) × (Alike r.told b d → RowReads b d r)
+    row_reads : row_of (get_or b 0 0) ≡ Some r → (1 ≤ r.told) × (Alike r.told b d → RowReads b d r)
     row_reads e = subst (ListedReads b d) e (rows-read b d (get_or b 0 0))
 
     -- the tests before the data come out the same
@@ -185,26 +184,26 @@ module _ (on : Channels) where
         ∙ and_left (not (cycle_listed r.cycle (get_or b 1 0))) (ltb 1 (length b)) e)
         (lt-ltb 1 (length (b ++ c)) (omega (arith, longer)))
 
-    longer_listed : (l : Listed) → 1 ≤ length b → row_of (get_or b 0 0) ≡ l → need_in on (b ++ c) ≡ need_listed on (b ++ c) l
+    longer_listed : (l : Option Row) → 1 ≤ length b → row_of (get_or b 0 0) ≡ l → need_in on (b ++ c) ≡ need_listed on (b ++ c) l
     longer_listed l h f = need_some (b ++ c) (omega (arith, longer)) ∙ ap (need_listed on (b ++ c)) (ap row_of (append_alike 1 h 0 (omega arith)) ∙ f)
 
-    listed-never : (n : ℕ) (l : Listed) → 1 ≤ length b → row_of (get_or b 0 0) ≡ l → need_listed on b l ≡ Never n → need_in on (b ++ c) ≡ Never n
-    listed-never n Unlisted h f = λ e. longer_listed Unlisted h f ∙ e
-    listed-never n (As r) h f =
-        let Q : Need → Type 0 = λ x. x ≡ Never n → need_in on (b ++ c) ≡ Never n in
-        let g = longer_listed (As r) h f in
+    listed-never : (z : Refusal) (l : Option Row) → 1 ≤ length b → row_of (get_or b 0 0) ≡ l → need_listed on b l ≡ Never z → need_in on (b ++ c) ≡ Never z
+    listed-never z None h f = λ e. longer_listed None h f ∙ e
+    listed-never z (Some r) h f =
+        let Q : Need → Type 0 = λ x. x ≡ Never z → need_in on (b ++ c) ≡ Never z in
+        let g = longer_listed (Some r) h f in
         pick_ind Q (not (channel_on on r.channel)) (λ k e. g ∙ sym (taken _ _ k (sym e)))
         λ k. pick_ind Q (cycle_wrong r b) (λ y e. g ∙ sym (passed _ _ k (taken _ _ (wrong_stays r y) (sym e))))
         λ y. pick_ind Q (ltb (length b) r.told) (λ _ e. absurd (true≢false (ap is_more e)))
         λ t e. let l = ltb-false (length b) r.told t in
-        let p : Passes on b r (Never n) = record { some = h; row = f; channel = not-false (channel_on on r.channel) k; cycle = y; told = l; needs = e } in
+        let p : Passes on b r (Never z) = record { some = h; row = f; channel = not-false (channel_on on r.channel) k; cycle = y; told = l; needs = e } in
         let a = append_alike r.told l in
-        through b (b ++ c) r p a (omega (arith, longer)) (((row_reads b (b ++ c) r f).1 a).never (more_ff b c) n e)
+        through b (b ++ c) r p a (omega (arith, longer)) (((row_reads b (b ++ c) r f).1 a).never (more_ff b c) z e)
 
-    never_stays : (n : ℕ) → need_in on b ≡ Never n → need_in on (b ++ c) ≡ Never n
-    never_stays n e =
+    never_stays : (z : Refusal) → need_in on b ≡ Never z → need_in on (b ++ c) ≡ Never z
+    never_stays z e =
         by_length b (λ z. absurd (true≢false (ap is_more (sym (need_none b z) ∙ e))))
-        (λ h. listed-never n (row_of (get_or b 0 0)) h refl (sym (need_some b h) ∙ e))
+        (λ h. listed-never z (row_of (get_or b 0 0)) h refl (sym (need_some b h) ∙ e))
 
     data_more : (r : Row) (d : Data) (k : ℕ) → need_data r b d ≡ More k → ⊥
     data_more r (Fixed n) k = not_more refl
@@ -212,18 +211,18 @@ module _ (on : Channels) where
     data_more r Pairs k = not_more refl
     data_more r Ones k = go (all_ff b)
       where
-        go : (t : Bool) → pick t Open (Never 13) ≡ More k → ⊥
+        go : (t : Bool) → pick t Open (Never OpcodeUnknown) ≡ More k → ⊥
         go true = not_more refl
         go false = not_more refl
 
     abbrev Left : ℕ → Type 0
-    Left k = (need_in on (b ++ c) ≡ More (k - length c)) ⊎ (need_in on (b ++ c) ≡ Never 15)
+    Left k = (need_in on (b ++ c) ≡ More (k - length c)) ⊎ (need_in on (b ++ c) ≡ Never CycleUnlisted)
 
-    listed_more : (k : ℕ) (l : Listed) → 1 ≤ length b → row_of (get_or b 0 0) ≡ l → length c < k → need_listed on b l ≡ More k → Left k
-    listed_more k Unlisted h f s = λ e. absurd (not_more refl e)
-    listed_more k (As r) h f s =
+    listed_more : (k : ℕ) (l : Option Row) → 1 ≤ length b → row_of (get_or b 0 0) ≡ l → length c < k → need_listed on b l ≡ More k → Left k
+    listed_more k None h f s = λ e. absurd (not_more refl e)
+    listed_more k (Some r) h f s =
         let Q : Need → Type 0 = λ x. x ≡ More k → Left k in
-        let g = longer_listed (As r) h f in
+        let g = longer_listed (Some r) h f in
         pick_ind Q (not (channel_on on r.channel)) (λ _ e. absurd (not_more refl e))
         λ o. pick_ind Q (cycle_wrong r b) (λ _ e. absurd (not_more refl e))
         λ _. pick_ind Q (ltb (length b) r.told)
@@ -235,7 +234,7 @@ module _ (on : Channels) where
         (λ _ e. absurd (data_more r r.carries k e))
       where
         go : (t : Bool) → cycle_wrong r (b ++ c) ≡ t → (cycle_wrong r (b ++ c) ≡ false → need_in on (b ++ c) ≡ More (k - length c))
-            → (cycle_wrong r (b ++ c) ≡ true → need_in on (b ++ c) ≡ Never 15) → Left k
+            → (cycle_wrong r (b ++ c) ≡ true → need_in on (b ++ c) ≡ Never CycleUnlisted) → Left k
         go true e left unlisted = inr (unlisted e)
         go false e left unlisted = inl (left e)
 
@@ -252,18 +251,18 @@ module _ (on : Channels) where
 -- ---- the decoder reads off what is needed
 
 module _ (checked : Bool) (b : List ℕ) where
-  abbrev Says : Listed → Type 0
-  Says (As r) = ReadsOff checked b (need_data r b r.carries) (read_off_value checked b r (need_data r b r.carries))
-  Says Unlisted = Unit {0}
+  abbrev Says : Option Row → Type 0
+  Says (Some r) = ReadsOff checked b (need_data r b r.carries) (read_off_value checked b r (need_data r b r.carries))
+  Says None = Unit {0}
 
-  reset_says : (r : Row) (t : Bool) → checked_as checked b r ≡ Known C.Reset
-      → ReadsOff checked b (pick t Open (Never 13)) (read_off_value checked b r (pick t Open (Never 13)))
-  reset_says r true e = ap (pick (not (leb 2 (length b))) (Refused 13)) e
+  reset_says : (r : Row) (t : Bool) → checked_as checked b r ≡ Ok C.Reset
+      → ReadsOff checked b (pick t Open (Never OpcodeUnknown)) (read_off_value checked b r (pick t Open (Never OpcodeUnknown)))
+  reset_says r true e = ap (pick (not (leb 2 (length b))) (Err OpcodeUnknown)) e
   reset_says r false e = refl
 
   -- the row of RESET, as `resets` has it
   abbrev reset_row : Row
-  reset_row = record { opcode = O.Reset; channel = Independent; cycle = Absent; told = 1; from = 1; address = 0; carries = Ones; crc = false }
+  reset_row = record { opcode = O.Reset; channel = Independent; cycle = None; told = 1; from = 1; address = 0; carries = Ones; crc = false }
 
   row_says : (op : ℕ) → Says (row_of op)
   row_says =
@@ -272,9 +271,9 @@ module _ (checked : Bool) (b : List ℕ) where
       (λ n _. (_, refl)) (λ n _. (_, refl)) (λ n _. (_, refl)) (λ n _. (_, refl)) tt
 
   module _ (on : Channels) where
-    listed_says : (l : Listed) → row_of (get_or b 0 0) ≡ l → ReadsOff checked b (need_listed on b l) (admit_listed on checked b l)
-    listed_says Unlisted e = refl
-    listed_says (As r) e =
+    listed_says : (l : Option Row) → row_of (get_or b 0 0) ≡ l → ReadsOff checked b (need_listed on b l) (admit_listed on checked b l)
+    listed_says None e = refl
+    listed_says (Some r) e =
         let Q : Need → Type 0 = λ x. ReadsOff checked b x (read_off_value checked b r x) in
         pick_ind Q (not (channel_on on r.channel)) (λ _. refl)
         λ _. pick_ind Q (cycle_wrong r b) (λ _. refl)
@@ -286,7 +285,7 @@ module _ (checked : Bool) (b : List ℕ) where
     reads_off = go (eqb (length b) 0)
       where
         go : (t : Bool) → ReadsOff checked b (pick t (More 1) (need_listed on b (row_of (get_or b 0 0))))
-            (pick t (Refused 12) (admit_listed on checked b (row_of (get_or b 0 0))))
+            (pick t (Err LengthWrong) (admit_listed on checked b (row_of (get_or b 0 0))))
         go true = refl
         go false = listed_says (row_of (get_or b 0 0)) refl
 
@@ -297,11 +296,11 @@ module _ (on : Channels) (checked : Bool) (b : List ℕ) (bytes : IsBytes b) whe
   Fits (Whole n) = (2 ≤ n) × (n ≤ 4109)
   Fits (More k) = Unit {0}
   Fits Open = Unit {0}
-  Fits (Never n) = Unit {0}
+  Fits (Never z) = Unit {0}
 
-  abbrev Ends : Listed → Type 0
-  Ends (As r) = Fits (need_data r b r.carries)
-  Ends Unlisted = Unit {0}
+  abbrev Ends : Option Row → Type 0
+  Ends (Some r) = Fits (need_data r b r.carries)
+  Ends None = Unit {0}
 
   small : (n : ℕ) → SizeFits n → n ≤ 4
   small n (inl e) = omega arith
@@ -312,7 +311,7 @@ module _ (on : Channels) (checked : Bool) (b : List ℕ) (bytes : IsBytes b) whe
   wide_most true = omega arith
   wide_most false = omega arith
 
-  open_fits : (t : Bool) → Fits (pick t Open (Never 13))
+  open_fits : (t : Bool) → Fits (pick t Open (Never OpcodeUnknown))
   open_fits true = tt
   open_fits false = tt
 
@@ -335,7 +334,7 @@ module _ (on : Channels) (checked : Bool) (b : List ℕ) (bytes : IsBytes b) whe
       tt
 
   -- none has so many bytes, but a RESET
-  whole_over : (r : Row) (n : ℕ) → n ≤ 4109 → 4109 < length b → read_off_value checked b r (Whole n) ≡ Refused 12
+  whole_over : (r : Row) (n : ℕ) → n ≤ 4109 → 4109 < length b → read_off_value checked b r (Whole n) ≡ Err LengthWrong
   whole_over r n m h = sym (taken _ _ (ap not (ne_eqb (length b) n (λ q. omega arith))) refl)
 
   data_over : (r : Row) (d : Data) → Fits (need_data r b d) → ReadsOff checked b (need_data r b d) (read_off_value checked b r (need_data r b d))
@@ -345,8 +344,8 @@ module _ (on : Channels) (checked : Bool) (b : List ℕ) (bytes : IsBytes b) whe
   data_over r Pairs f w h = whole_over r _ f.1 h
   data_over r Ones f w h = go (all_ff b) w
     where
-      go : (t : Bool) → ReadsOff checked b (pick t Open (Never 13)) (read_off_value checked b r (pick t Open (Never 13)))
-          → read_off_value checked b r (pick t Open (Never 13)) ≡ pick t (Known C.Reset) (Refused 13)
+      go : (t : Bool) → ReadsOff checked b (pick t Open (Never OpcodeUnknown)) (read_off_value checked b r (pick t Open (Never OpcodeUnknown)))
+          → read_off_value checked b r (pick t Open (Never OpcodeUnknown)) ≡ pick t (Ok C.Reset) (Err OpcodeUnknown)
       go true e = e ∙ sym (passed _ _ (ap not (le-leb 2 (length b) (omega arith))) refl)
       go false e = refl
 
@@ -358,17 +357,17 @@ module _ (on : Channels) (checked : Bool) (b : List ℕ) (bytes : IsBytes b) whe
   there true u e = e
   there false u e = refl
 
-  along : (f : Need → Decoded) (t u : Bool) {x y : Need} {v w : Decoded} → t ≡ u → f x ≡ v → f y ≡ w → f (pick t x y) ≡ pick u v w
+  along : (f : Need → Result Command Refusal) (t u : Bool) {x y : Need} {v w : Result Command Refusal} → t ≡ u → f x ≡ v → f y ≡ w → f (pick t x y) ≡ pick u v w
   along f t u {x} {y} {v} {w} e g h = subst (λ (z : Bool). f (pick t x y) ≡ pick z v w) e (go t)
     where
       go : (z : Bool) → f (pick z x y) ≡ pick z v w
       go true = g
       go false = h
 
-  listed-over : (l : Listed) → ListedTells on b l → Ends l → Says checked b l → 4109 < length b
+  listed-over : (l : Option Row) → ListedTells on b l → Ends l → Says checked b l → 4109 < length b
       → admit_listed on checked b l ≡ overlong on l (get_or b 1 0) (all_ff b)
-  listed-over Unlisted w q x h = refl
-  listed-over (As r) w q x h =
+  listed-over None w q x h = refl
+  listed-over (Some r) w q x h =
       let f = read_off_value checked b r in
       let all : ltb (length b) r.told ≡ false = le-ltb (length b) r.told (omega (arith, w.readable.told)) in
       along f (not (channel_on on r.channel)) _ refl refl

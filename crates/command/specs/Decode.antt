@@ -1,17 +1,14 @@
--- Which command the bytes are, or the number of the refusal: 12 to 16 in document 01's order (01, Commands; Replies and refusals).
+-- Which command the bytes are, or why they are none: 12 to 16 in document 01's order (01, Commands; Replies and refusals).
 use Rattle.std.specs.Prelude.{ℕ, zero, suc, ◌+◌, ◌-◌, ◌*◌, ◌/◌, ◌%◌, Bool, ◌&&◌, not, List, eqb, leb, length, get_or, take}
 use Rattle.base.specs.Pick.{pick}
 use Rattle.base.specs.Bytes.{joined4}
 use Rattle.crc.specs.Crc.{crc}
-use Rattle.command.specs.Numbers.{length_wrong, opcode_unknown, crc_refused}
 use Rattle.command.specs.Rows.{row_of}
 use Rattle.command.specs.Needs.{wide_cycle, address_bytes, length_of, group_count, need_row}
 use Rattle.command.specs.declared.Opcode.{Opcode}
 use Rattle.command.specs.declared.Opcode.TheVariants as O
 use Rattle.command.specs.declared.Channels.{Channels}
 use Rattle.command.specs.declared.Row.{Row}
-use Rattle.command.specs.declared.Listed.{Listed}
-use Rattle.command.specs.declared.Listed.TheVariants.{As, Unlisted}
 use Rattle.command.specs.declared.Need.{Need}
 use Rattle.command.specs.declared.Need.TheVariants.{Whole, More, Open, Never}
 use Rattle.command.specs.declared.Head.{Head}
@@ -19,8 +16,9 @@ use Rattle.command.specs.declared.PeripheralCommand.TheVariants as P
 use Rattle.command.specs.declared.WiresCommand.TheVariants as W
 use Rattle.command.specs.declared.Command.{Command}
 use Rattle.command.specs.declared.Command.TheVariants as C
-use Rattle.command.specs.declared.Decoded.{Decoded}
-use Rattle.command.specs.declared.Decoded.TheVariants.{Known, Refused}
+use Rattle.std.specs.Prelude.{Option, Some, None, Result, Ok, Err}
+use Rattle.command.specs.declared.Refusal.{Refusal}
+use Rattle.command.specs.declared.Refusal.TheVariants.{LengthWrong, OpcodeUnknown, CrcWrong}
 
 -- ---- the fields of a command
 
@@ -80,21 +78,21 @@ abbrev pub crc_wrong : Bool → Bool → List ℕ → Bool
 crc_wrong checked has b = checked && (has && not (crc_good b))
 
 -- 16, "CRC wrong while checked"; else the command is known
-abbrev pub checked_as : Bool → List ℕ → Row → Decoded
-checked_as checked b r = pick (crc_wrong checked r.crc b) (Refused crc_refused) (Known (command_of r b))
+abbrev pub checked_as : Bool → List ℕ → Row → Result Command Refusal
+checked_as checked b r = pick (crc_wrong checked r.crc b) (Err CrcWrong) (Ok (command_of r b))
 
 -- "exact length (12)"; "RESET: two or more bytes", else 13
-abbrev pub read_off_value : Bool → List ℕ → Row → Need → Decoded
-read_off_value checked b r (Whole n) = pick (not (eqb (length b) n)) (Refused length_wrong) (checked_as checked b r)
-read_off_value checked b r (More k) = Refused length_wrong
-read_off_value checked b r Open = pick (not (leb 2 (length b))) (Refused opcode_unknown) (checked_as checked b r)
-read_off_value checked b r (Never n) = Refused n
+abbrev pub read_off_value : Bool → List ℕ → Row → Need → Result Command Refusal
+read_off_value checked b r (Whole n) = pick (not (eqb (length b) n)) (Err LengthWrong) (checked_as checked b r)
+read_off_value checked b r (More k) = Err LengthWrong
+read_off_value checked b r Open = pick (not (leb 2 (length b))) (Err OpcodeUnknown) (checked_as checked b r)
+read_off_value checked b r (Never z) = Err z
 
 -- "unknown opcode" is 13
-abbrev pub admit_listed : Channels → Bool → List ℕ → Listed → Decoded
-admit_listed on checked b Unlisted = Refused opcode_unknown
-admit_listed on checked b (As r) = read_off_value checked b r (need_row on b r)
+abbrev pub admit_listed : Channels → Bool → List ℕ → Option Row → Result Command Refusal
+admit_listed on checked b None = Err OpcodeUnknown
+admit_listed on checked b (Some r) = read_off_value checked b r (need_row on b r)
 
 -- "empty (12)"
-unfoldable pub admit : Channels → Bool → List ℕ → Decoded
-admit on checked b = pick (eqb (length b) 0) (Refused length_wrong) (admit_listed on checked b (row_of (get_or b 0 0)))
+unfoldable pub admit : Channels → Bool → List ℕ → Result Command Refusal
+admit on checked b = pick (eqb (length b) 0) (Err LengthWrong) (admit_listed on checked b (row_of (get_or b 0 0)))

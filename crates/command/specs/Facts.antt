@@ -17,8 +17,6 @@ use Rattle.command.specs.declared.Channels.{Channels}
 use Rattle.command.specs.declared.Channel.TheVariants.{Peripheral, Wires, Independent}
 use Rattle.command.specs.declared.Data.TheVariants.{Fixed, Length}
 use Rattle.command.specs.declared.Row.{Row}
-use Rattle.command.specs.declared.Listed.{Listed}
-use Rattle.command.specs.declared.Listed.TheVariants.{Unlisted}
 use Rattle.command.specs.declared.Need.{Need}
 use Rattle.command.specs.declared.Need.TheVariants.{Whole, More, Open, Never}
 use Rattle.command.specs.declared.Head.{Head}
@@ -29,6 +27,7 @@ use Rattle.command.specs.declared.WiresCommand.{WiresCommand}
 use Rattle.command.specs.declared.WiresCommand.TheVariants as W
 use Rattle.command.specs.declared.Command.{Command}
 use Rattle.command.specs.declared.Command.TheVariants as C
+use Rattle.std.specs.Prelude.{Option, None}
 
 -- ---- how many bytes
 
@@ -157,16 +156,16 @@ CommandOn on C.Reset = Unit {0}
 
 -- ---- row by row
 
-sized : (Q : Listed → Type 0) (a : Access) (address : ℕ) (writes : Bool)
+sized : (Q : Option Row → Type 0) (a : Access) (address : ℕ) (writes : Bool)
     → ((n : ℕ) → SizeFits n → Q (plain (O.Short a n) Peripheral address (pick writes n 0)))
-    → Q Unlisted → (c : ℕ) → Q (short a address writes c)
+    → Q None → (c : ℕ) → Q (short a address writes c)
 sized Q a n w h none c =
     pick_ind Q (eqb c 2) (λ _. none)
     (λ _. h (size_of_code c) (pick_ind SizeFits (eqb c 0) (λ _. inl refl)
     (λ _. pick_ind SizeFits (eqb c 1) (λ _. inr (inl refl)) (λ _. inr (inr refl)))))
 
 -- what holds of each row, and where there is none, holds of every opcode's
-pub by_row : (Q : Listed → Type 0)
+pub by_row : (Q : Option Row → Type 0)
     → Q (headed O.PutPc 0x01 0x03 4 Length)
     → Q (plain O.GetPc Peripheral 0 0)
     → Q (headed O.PutNp 0x00 0x02 2 (Fixed 0))
@@ -180,7 +179,7 @@ pub by_row : (Q : Listed → Type 0)
     → ((n : ℕ) → SizeFits n → Q (plain (O.Short IoWrite n) Peripheral 2 n))
     → ((n : ℕ) → SizeFits n → Q (plain (O.Short MemoryRead n) Peripheral 4 0))
     → ((n : ℕ) → SizeFits n → Q (plain (O.Short MemoryWrite n) Peripheral 4 n))
-    → Q Unlisted
+    → Q None
     → (op : ℕ) → Q (row_of op)
 by_row Q put_pc_value get_pc put_np_value put_vwire get_vwire get_configuration set_configuration get_status reset io_read io_write_lem
     memory_read_value memory_write none op =
@@ -222,7 +221,7 @@ abbrev pub LengthRight : Need → ℕ → Type 0
 LengthRight (Whole n) m = m ≡ n
 LengthRight (More k) m = ⊥
 LengthRight Open m = 2 ≤ m
-LengthRight (Never n) m = ⊥
+LengthRight (Never z) m = ⊥
 
 -- the cycle type, if it is there, is not listed
 abbrev pub cycle_wrong : Row → List ℕ → Bool

@@ -1,10 +1,11 @@
 -- Laws of the definitions, for the proofs of the code.
-use Rattle.std.specs.Prelude.{ℕ, zero, suc, ◌+◌, ◌-◌, ◌*◌, ◌/◌, ◌^◌, ◌<◌, ◌≤◌, true, false, List, [], ◌∷◌, ◌≡◌, refl, length, get_or, drop}
-use Rattle.std.proofs.Common.{subst, arith, zero-add, suc-add, add-one, eq-eqb, ne_eqb, drop-cons}
+use Rattle.std.specs.Prelude.{ℕ, zero, suc, ◌+◌, ◌-◌, ◌*◌, ◌/◌, ◌^◌, ◌<◌, ◌≤◌, true, false, List, [], ◌∷◌, ◌≡◌, refl, length, get_or, drop, take}
+use Rattle.std.proofs.Math.Nat.{pow-le-pow_right}
+use Rattle.std.proofs.Common.{length-take, get_or-take, get_or-drop, ◌∙◌, arith, add-one, eq-eqb, ne_eqb, drop-cons}
 use Rattle.command.specs.Rows.{short_row, row_of}
 use Rattle.command.specs.Needs.{all_ff}
 use Rattle.command.specs.Decode.{high_first}
-use Rattle.command.specs.declared.Listed.TheVariants.{Unlisted}
+use Rattle.std.specs.Prelude.{None}
 
 -- ---- opcodes
 
@@ -47,17 +48,18 @@ middle op l h =
 pub quad : (q op : ℕ) → q * 4 ≤ op → op ≤ q * 4 + 3 → op / 4 ≡ q
 quad q op l h = omega arith
 
-short_none : (op : ℕ) → (op / 4 ≡ 0x10 → ⊥) → (op / 4 ≡ 0x11 → ⊥) → (op / 4 ≡ 0x12 → ⊥) → (op / 4 ≡ 0x13 → ⊥) → short_row op ≡ Unlisted
+short_none : (op : ℕ) → (op / 4 ≡ 0x10 → ⊥) → (op / 4 ≡ 0x11 → ⊥) → (op / 4 ≡ 0x12 → ⊥) → (op / 4 ≡ 0x13 → ⊥) → short_row op ≡ None
 short_none op h0 h1 h2 h3 = simp (ne_eqb (op / 4) 0x10 h0, ne_eqb (op / 4) 0x11 h1, ne_eqb (op / 4) 0x12 h2, ne_eqb (op / 4) 0x13 h3)
 
-pub short_below : (op : ℕ) → op < 0x40 → short_row op ≡ Unlisted
+pub short_below : (op : ℕ) → op < 0x40 → short_row op ≡ None
 short_below op h = short_none op (λ e. omega arith) (λ e. omega arith) (λ e. omega arith) (λ e. omega arith)
 
-pub short_above : (op : ℕ) → 0x4F < op → short_row op ≡ Unlisted
+pub short_above : (op : ℕ) → 0x4F < op → short_row op ≡ None
 short_above op h = short_none op (λ e. omega arith) (λ e. omega arith) (λ e. omega arith) (λ e. omega arith)
 
 -- ---- all bytes FFh
 
+-- from a place on
 pub all_ff-end : (b : List ℕ) (i : ℕ) → length b ≤ i → all_ff (drop i b) ≡ true
 unfolding all_ff
 all_ff-end [] zero h = refl
@@ -75,16 +77,19 @@ all_ff_stop b i h e = rw (drop-cons b i 0, ne_eqb (get_or b i 0) 0xFF e)
 
 -- ---- numbers of bytes
 
+-- a byte of the n from a place on
+pub byte_from : (b : List ℕ) (from n i : ℕ) → i < length (take (from + n - from) (drop from b))
+    → (get_or (take (from + n - from) (drop from b)) i 0 ≡ get_or b (from + i) 0) × (i < n)
+byte_from b from n i h =
+    let l : i < from + n - from = omega (arith, length-take (from + n - from) (drop from b)) in
+    (get_or-take (from + n - from) (drop from b) i 0 l ∙ get_or-drop from b i 0, omega arith)
+
 pub high_next : (n at : ℕ) (b : List ℕ) {v x : ℕ} → v ≡ high_first n at b → x ≡ get_or b (at + n) 0 → v * 256 + x ≡ high_first (n + 1) at b
 high_next n at b e f = rw (add-one, e, f)
 
 pub power_next : (n v x : ℕ) → v < 256 ^ n → x < 256 → v * 256 + x < 256 ^ (n + 1)
 power_next n v x h l = rw add-one (omega arith)
 
-power_up : (k n : ℕ) → 256 ^ n ≤ 256 ^ (k + n)
-power_up zero n = rw zero-add (omega arith)
-power_up (suc k) n = rw suc-add (omega (arith, power_up k n))
-
 -- fewer bytes are less
 pub within : (m n v : ℕ) → n ≤ m → v < 256 ^ n → v < 256 ^ m
-within m n v h l = let e : m - n + n ≡ m = omega arith in omega (arith, subst (λ (k : ℕ). 256 ^ n ≤ 256 ^ k) e (power_up (m - n) n))
+within m n v h l = let up : 256 ^ n ≤ 256 ^ m = pow-le-pow_right (omega arith) h in omega arith

@@ -1,22 +1,20 @@
 -- What a command's first bytes need: how many bytes it has in all, its CRC byte included; how many more must come before that is known; that
--- it is open; or that it is never one, by the number of the refusal (01, Commands; Replies and refusals).
+-- it is open; or that it is never one, and why (01, Commands; Replies and refusals).
 use Rattle.std.specs.Prelude.{ℕ, ◌+◌, ◌-◌, ◌*◌, ◌%◌, Bool, true, false, ◌&&◌, ◌||◌, not, List, [], ◌∷◌, eqb, ltb, length, get_or}
 use Rattle.base.specs.Pick.{pick}
 use Rattle.base.specs.Bytes.{bit, high2}
-use Rattle.command.specs.Numbers.{opcode_unknown, channel_disabled, cycle_unlisted}
 use Rattle.command.specs.Rows.{row_of}
 use Rattle.command.specs.declared.Channels.{Channels}
 use Rattle.command.specs.declared.Channel.{Channel}
 use Rattle.command.specs.declared.Channel.TheVariants.{Peripheral, Wires, Independent}
 use Rattle.command.specs.declared.Cycle.{Cycle}
-use Rattle.command.specs.declared.Cycle.TheVariants.{Absent, Types}
 use Rattle.command.specs.declared.Data.{Data}
 use Rattle.command.specs.declared.Data.TheVariants.{Fixed, Length, Pairs, Ones}
 use Rattle.command.specs.declared.Row.{Row}
-use Rattle.command.specs.declared.Listed.{Listed}
-use Rattle.command.specs.declared.Listed.TheVariants.{As, Unlisted}
 use Rattle.command.specs.declared.Need.{Need}
 use Rattle.command.specs.declared.Need.TheVariants.{Whole, More, Open, Never}
+use Rattle.std.specs.Prelude.{Option, Some, None}
+use Rattle.command.specs.declared.Refusal.TheVariants.{OpcodeUnknown, ChannelDisabled, CycleUnlisted}
 
 -- ---- what the row says of the bytes
 
@@ -27,14 +25,14 @@ channel_on on Wires = on.wires
 channel_on on Independent = true
 
 -- else 15, "cycle type not listed" (01, Replies and refusals): one of the two that the opcode takes (01, Commands)
-abbrev pub cycle_listed : Cycle → ℕ → Bool
-cycle_listed Absent t = true
-cycle_listed (Types n w) t = eqb t n || eqb t w
+abbrev pub cycle_listed : Option Cycle → ℕ → Bool
+cycle_listed None t = true
+cycle_listed (Some c) t = eqb t c.narrow || eqb t c.wide
 
 -- 8 address bytes: "03h (8)" and "02h (8)" (01, Commands)
-abbrev pub wide_cycle : Cycle → ℕ → Bool
-wide_cycle Absent t = false
-wide_cycle (Types n w) t = eqb t w
+abbrev pub wide_cycle : Option Cycle → ℕ → Bool
+wide_cycle None t = false
+wide_cycle (Some c) t = eqb t c.wide
 
 -- 8, or as many as the opcode's row has: "4 address bytes", "I/O has 2 address bytes, memory 4" (01, Commands)
 abbrev pub address_bytes : Row → List ℕ → ℕ
@@ -64,20 +62,20 @@ abbrev pub need_data : Row → List ℕ → Data → Need
 need_data r b (Fixed n) = Whole (whole_with_value r b n)
 need_data r b Length = Whole (whole_with_value r b (length_of (get_or b 2 0) (get_or b 3 0)))
 need_data r b Pairs = Whole (whole_with_value r b (group_count (get_or b 1 0) * 2))
-need_data r b Ones = pick (all_ff b) Open (Never opcode_unknown)
+need_data r b Ones = pick (all_ff b) Open (Never OpcodeUnknown)
 
 -- "14, a missing header byte needed next (12) or 15, exact length (12)"
 abbrev pub need_row : Channels → List ℕ → Row → Need
 need_row on b r =
-    pick (not (channel_on on r.channel)) (Never channel_disabled)
-    (pick (not (cycle_listed r.cycle (get_or b 1 0)) && ltb 1 (length b)) (Never cycle_unlisted)
+    pick (not (channel_on on r.channel)) (Never ChannelDisabled)
+    (pick (not (cycle_listed r.cycle (get_or b 1 0)) && ltb 1 (length b)) (Never CycleUnlisted)
     (pick (ltb (length b) r.told) (More (r.told - length b))
     (need_data r b r.carries)))
 
 -- "unknown opcode" is 13
-abbrev pub need_listed : Channels → List ℕ → Listed → Need
-need_listed on b Unlisted = Never opcode_unknown
-need_listed on b (As r) = need_row on b r
+abbrev pub need_listed : Channels → List ℕ → Option Row → Need
+need_listed on b None = Never OpcodeUnknown
+need_listed on b (Some r) = need_row on b r
 
 -- .. "or how many more header bytes must come before that is known" (02, Q-8): of no bytes, the opcode
 unfoldable pub need_in : Channels → List ℕ → Need

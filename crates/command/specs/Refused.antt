@@ -1,68 +1,89 @@
--- The number of a refusal, from the bytes alone: how many bytes an opcode asks for, in the order of 01, Replies and refusals; and that the definition
+-- Why bytes are refused, from the bytes alone: how many bytes an opcode asks for, in the order of 01, Replies and refusals; and that the definition
 -- of the decoder, which goes by the row, gives the same. So the code may test before it makes a row.
 use Rattle.std.specs.Prelude.{ℕ, ◌+◌, Bool, true, false, not, ◌||◌, List, ◌≡◌, refl, eqb, ltb, get_or}
 use Rattle.std.proofs.Math.Path.{ap}
 use Rattle.std.proofs.Math.ListN.{length}
 use Rattle.base.specs.Pick.{pick}
-use Rattle.command.specs.Numbers.{length_wrong, opcode_unknown, channel_disabled, cycle_unlisted, crc_refused}
+use Rattle.command.specs.Rows.{types}
 use Rattle.command.specs.Needs.{cycle_listed, length_of, all_ff}
 use Rattle.command.specs.Decode.{crc_wrong}
-use Rattle.command.specs.declared.Cycle.TheVariants.{Types}
 use Rattle.command.specs.declared.Row.{Row}
-use Rattle.command.specs.declared.Listed.{Listed}
-use Rattle.command.specs.declared.Listed.TheVariants.{As, Unlisted}
 use Rattle.command.specs.declared.Command.{Command}
-use Rattle.command.specs.declared.Decoded.{Decoded}
-use Rattle.command.specs.declared.Decoded.TheVariants.{Known, Refused}
+use Rattle.std.specs.Prelude.{Option, Some, None, Result, Ok, Err}
+use Rattle.command.specs.declared.Refusal.{Refusal}
+use Rattle.command.specs.declared.Refusal.TheVariants.{LengthWrong, OpcodeUnknown, ChannelDisabled, CycleUnlisted, CrcWrong}
+use Rattle.command.specs.Numbers.{number_of}
+use Rattle.std.proofs.Common.{sym, ◌∙◌, arith}
 
--- ---- the numbers
+-- ---- the verdict
 
 -- 0: none
-abbrev pub number_in : Decoded → ℕ
-number_in (Known c) = 0
-number_in (Refused n) = n
+abbrev pub number_in : Result Command Refusal → ℕ
+number_in (Ok c) = 0
+number_in (Err z) = number_of z
+
+-- whether the bytes are a command, and else why not
+abbrev pub verdict : Result Command Refusal → Result (Unit {0}) Refusal
+verdict (Ok c) = Ok tt
+verdict (Err z) = Err z
 
 -- "14, .. exact length (12)", then 16: n bytes in all
-abbrev pub refused_fixed : (on checked : Bool) → List ℕ → ℕ → ℕ
+abbrev pub refused_fixed : (on checked : Bool) → List ℕ → ℕ → Result (Unit {0}) Refusal
 refused_fixed on checked b n =
-    pick (not on) channel_disabled (pick (not (eqb (length b) n)) length_wrong (pick (crc_wrong checked true b) crc_refused 0))
+    pick (not on) (Err ChannelDisabled) (pick (not (eqb (length b) n)) (Err LengthWrong) (pick (crc_wrong checked true b) (Err CrcWrong) (Ok tt)))
 
 -- "In a short opcode .. 10 is no opcode"
-abbrev pub refused_short : (on checked : Bool) → List ℕ → (n code : ℕ) → ℕ
-refused_short on checked b n c = pick (eqb c 2) opcode_unknown (refused_fixed on checked b n)
+abbrev pub refused_short : (on checked : Bool) → List ℕ → (n code : ℕ) → Result (Unit {0}) Refusal
+refused_short on checked b n c = pick (eqb c 2) (Err OpcodeUnknown) (refused_fixed on checked b n)
 
 -- the header of PUT_PC and PUT_NP, 8 or 4 address bytes, the data of a write, the CRC
 abbrev pub headed_bytes : List ℕ → (wide : ℕ) (writes : Bool) → ℕ
 headed_bytes b w d = 4 + pick (eqb (get_or b 1 0) w) 8 4 + pick d (length_of (get_or b 2 0) (get_or b 3 0)) 0 + 1
 
 -- "14, a missing header byte needed next (12) or 15, exact length (12)"
-abbrev pub refused_headed : (on checked : Bool) → List ℕ → (narrow wide : ℕ) (writes : Bool) → ℕ
+abbrev pub refused_headed : (on checked : Bool) → List ℕ → (narrow wide : ℕ) (writes : Bool) → Result (Unit {0}) Refusal
 refused_headed on checked b n w d =
-    pick (not on) channel_disabled
-    (pick (ltb (length b) 2) length_wrong
-    (pick (not (cycle_listed (Types n w) (get_or b 1 0))) cycle_unlisted
+    pick (not on) (Err ChannelDisabled)
+    (pick (ltb (length b) 2) (Err LengthWrong)
+    (pick (not (cycle_listed (types n w) (get_or b 1 0))) (Err CycleUnlisted)
     (refused_fixed on checked b (headed_bytes b w d))))
 
 -- "RESET: two or more bytes, all FFh", else 13
-abbrev pub refused_reset : List ℕ → ℕ
-refused_reset b = pick (not (all_ff b) || ltb (length b) 2) opcode_unknown 0
+abbrev pub refused_reset : List ℕ → Result (Unit {0}) Refusal
+refused_reset b = pick (not (all_ff b) || ltb (length b) 2) (Err OpcodeUnknown) (Ok tt)
 
 -- ---- the same by the row
 
 -- 12, then 16
 pub in_order : (t u : Bool) (c : Command)
-    → pick t length_wrong (pick u crc_refused 0) ≡ number_in (pick t (Refused length_wrong) (pick u (Refused crc_refused) (Known c)))
+    → pick t (Err LengthWrong) (pick u (Err CrcWrong) (Ok tt)) ≡ verdict (pick t (Err LengthWrong) (pick u (Err CrcWrong) (Ok c)))
 in_order true u c = refl
 in_order false true c = refl
 in_order false false c = refl
 
--- ---- what the numbers let in
+-- ---- what the verdict lets in
+
+-- one number, one refusal
+refusal_of : ℕ → Refusal
+refusal_of n = pick (eqb n 12) LengthWrong (pick (eqb n 13) OpcodeUnknown (pick (eqb n 14) ChannelDisabled (pick (eqb n 15) CycleUnlisted CrcWrong)))
+
+refusal_back : (z : Refusal) → refusal_of (number_of z) ≡ z
+unfolding refusal_of
+refusal_back LengthWrong = refl
+refusal_back OpcodeUnknown = refl
+refusal_back ChannelDisabled = refl
+refusal_back CycleUnlisted = refl
+refusal_back CrcWrong = refl
 
 -- a number other than 0 is the refusal's
-pub refused_is : {n : ℕ} (d : Decoded) → n ≡ number_in d → (n ≡ 0 → ⊥) → Refused n ≡ d
-refused_is (Known c) e h = absurd (h e)
-refused_is (Refused k) e h = ap Refused e
+pub refused_is : (z : Refusal) (d : Result Command Refusal) → number_of z ≡ number_in d → Err z ≡ d
+refused_is LengthWrong (Ok c) e = absurd (omega arith)
+refused_is OpcodeUnknown (Ok c) e = absurd (omega arith)
+refused_is ChannelDisabled (Ok c) e = absurd (omega arith)
+refused_is CycleUnlisted (Ok c) e = absurd (omega arith)
+refused_is CrcWrong (Ok c) e = absurd (omega arith)
+refused_is z (Err y) e = ap Err (sym (refusal_back z) ∙ ap refusal_of e ∙ refusal_back y)
 
-abbrev pub row_in : Listed → Row → Row
-row_in (As r) q = r
-row_in Unlisted q = q
+abbrev pub row_in : Option Row → Row → Row
+row_in (Some r) q = r
+row_in None q = q

@@ -1,5 +1,9 @@
 -- A call carried out on the state's bytes: what goes out of its plan by value, and the next state where it stands.
-use Rattle.std.specs.Prelude.{ℕ, ◌+◌, ◌≤◌, Bool, true, false, not, ◌&&◌, List, [], ◌≡◌, eqb, length, take}
+use Rattle.std.specs.Prelude.{ℕ, ◌+◌, ◌≤◌, Bool, true, false, not, ◌&&◌, List, [], ◌≡◌, eqb, length, take, Option, None, Result, Ok, Err}
+use Rattle.command.specs.Numbers.{number_of}
+use Rattle.command.specs.declared.Command.{Command}
+use Rattle.command.specs.declared.Refusal.{Refusal}
+use Rattle.rules.specs.Rules.Lift.{replying, with_status}
 use Rattle.base.specs.Pick.{pick}
 use Rattle.base.specs.Bytes as B
 use Rattle.wires.specs.Lines.{Lines}
@@ -7,8 +11,6 @@ use Rattle.wires.specs.Senders.{AllWires, sent, after_sent, packet_of, wires_sta
 use Rattle.wires.specs.Layout.{all_in}
 use Rattle.wires.specs.declared.Wires.{Wires}
 use Rattle.wires.specs.declared.Packet.{Packet}
-use Rattle.command.specs.declared.Decoded.{Decoded}
-use Rattle.command.specs.declared.Decoded.TheVariants.{Known, Refused}
 use Rattle.peripheral.specs.Queues.{dropped}
 use Rattle.state.specs.Channel.{place, part_bytes_value}
 use Rattle.state.specs.Sound.{sound}
@@ -29,16 +31,16 @@ use Rattle.rules.specs.Rules.Reset.{Reset}
 use Rattle.rules.specs.Rules.Exchange.{was_reset}
 use Rattle.rules.specs.Rules.Wires as W
 use Rattle.rules.specs.declared.Kept.{Kept}
-use Rattle.rules.specs.declared.Kept.TheVariants as K
 use Rattle.rules.specs.declared.Body.{Body}
 use Rattle.rules.specs.declared.Out.{Out}
 use Rattle.rules.specs.declared.Body.TheVariants.{Nothing, Groups}
+use Rattle.rules.specs.declared.Response.{Response}
 use Rattle.rules.specs.declared.Response.TheVariants.{Accept, NonFatal, Fatal}
 use Rattle.rules.specs.declared.Reply.{Reply}
-use Rattle.rules.specs.declared.Reply.TheVariants.{Silent, Said}
-use Rattle.rules.specs.declared.GroupsChange.{GroupsChange}
-use Rattle.rules.specs.Rules.Plan.{Plan, WiresChange}
+use Rattle.rules.specs.Rules.Plan.{Plan, WiresChange, GroupsChange}
 use Rattle.engine.specs.declared.Outgoing.{Outgoing}
+use Rattle.engine.specs.declared.Speech.{Speech}
+use Rattle.engine.specs.declared.Speech.TheVariants as Y
 
 -- the bytes pack this sound state: else 11, "bytes that pack no state" (01, What the engine covers)
 pub record Packs (s : State) (l : List ℕ) : Type 0 where
@@ -54,8 +56,8 @@ Loadable l = Packs (unpacked l) l
 -- no packet ("the contract .. determines result, state", 01, What each contract must settle)
 pub record Carried : Type 0 where
   pub number : ℕ
-  pub reply : Reply
-  pub kept : Kept
+  pub reply : Option Reply
+  pub kept : Option Kept
   pub state : List ℕ
   pub from : List ℕ
 
@@ -68,22 +70,22 @@ abbrev pub sent_in : List ℕ → AllWires
 sent_in st = after_sent (all_in st) (sent (all_in st) (operating_count (config_in st).r020))
 
 -- its reply, with the status after it (01, Registers and status: "All other replies show the status after the command")
-abbrev pub reply_in : List ℕ → Reply
-reply_in st = Said Accept (Groups (packet_in st)) (peripheral_status (peripheral_in st) + wires_status (sent_in st))
+abbrev pub reply_in : List ℕ → Option Reply
+reply_in st = replying Accept (Groups (packet_in st)) (peripheral_status (peripheral_in st) + wires_status (sent_in st))
 
 -- what is said, number and data beside it: a reply that stands there, or a packet made over the bytes, which changes the wires among them (01, Wires)
-abbrev pub carried_as : ℕ → Reply → Bool → Kept → List ℕ → Carried
-carried_as n r false k st = record { number = n; reply = r; kept = k; state = st; from = [] }
-carried_as n r true k st =
+abbrev pub carried_as : ℕ → Speech → Option Kept → List ℕ → Carried
+carried_as n (Y.Reply r) k st = record { number = n; reply = r; kept = k; state = st; from = [] }
+carried_as n Y.Packet k st =
     record { number = n; reply = reply_in st; kept = k; state = B.put (place wires) (part_bytes_value wires (sent_in st)) st; from = st }
 
 -- what goes out over the state's bytes (01, What each contract must settle)
 unfoldable pub carried : Outgoing → List ℕ → Carried
-carried x st = carried_as x.number x.reply x.packet x.kept st
+carried x st = carried_as x.number x.speech x.kept st
 
 -- what goes out of a plan whose reply is no packet: number, reply, and bytes to keep (01, Replies and refusals: "Reply; state and stores")
 abbrev pub outgoing : Plan → Outgoing
-outgoing p = record { number = p.number; reply = p.reply; packet = false; kept = p.kept }
+outgoing p = record { number = p.number; speech = Y.Reply p.reply; kept = p.kept }
 
 -- a plan carried out: that, and its next state in the bytes; "bytes past it neither read nor written" (01, What the engine covers)
 abbrev pub carried_by : Plan → List ℕ → Carried
@@ -155,25 +157,33 @@ edge_stored wires was is w l = pick (was && not is) (put_part wires (all_disable
 abbrev pub Stays : State → Plan → Type 0
 Stays s p = eqb p.number 0 ≡ false → p.next ≡ s
 
+-- what goes out of a channel's change, with this status word (01, Replies and refusals: "response byte .., body, status")
+abbrev pub says_out : Out → ℕ → Outgoing
+says_out out word = record { number = out.number; speech = Y.Reply (with_status out.say word); kept = out.kept }
+
 -- ---- a plan that shows, a silent plan
+
+-- a reply, and no data kept (01, Replies and refusals: "Reply: response byte .., body, status")
+abbrev pub says_only : ℕ → Response → Body → ℕ → Outgoing
+says_only number response body word = record { number = number; speech = Y.Reply (replying response body word); kept = None }
 
 -- a plan that shows: ACCEPT, this body, this status (01, Replies and refusals: "Reply: response byte")
 abbrev pub showing : Body → ℕ → Outgoing
-showing body word = record { number = 0; reply = Said Accept body word; packet = false; kept = K.Nothing }
+showing body word = says_only 0 Accept body word
 
 -- a forbidden configuration value: NON_FATAL, this status (01, Replies and refusals: number 2)
 abbrev pub forbidding : ℕ → Outgoing
-forbidding word = record { number = non_fatal_error; reply = Said NonFatal Nothing word; packet = false; kept = K.Nothing }
+forbidding word = says_only non_fatal_error NonFatal Nothing word
 
 -- no credit: FATAL, this status (01, Replies and refusals: number 1)
 abbrev pub failing : ℕ → Outgoing
-failing word = record { number = fatal_error; reply = Said Fatal Nothing word; packet = false; kept = K.Nothing }
+failing word = says_only fatal_error Fatal Nothing word
 
 -- a silent plan: "none; unchanged", or a RESET's "0 bytes" (01, Replies and refusals)
 abbrev pub quiet : ℕ → Outgoing
-quiet number = record { number = number; reply = Silent; packet = false; kept = K.Nothing }
+quiet number = record { number = number; speech = Y.Reply None; kept = None }
 
 -- "the silent refusal" that a decoded one is; one that is a command is none, and no caller hands it over (01, What form each place takes: let .. else)
-abbrev pub refused_by : Decoded → Outgoing
-refused_by (Known o) = quiet 0
-refused_by (Refused n) = quiet n
+abbrev pub refused_by : Result Command Refusal → Outgoing
+refused_by (Ok o) = quiet 0
+refused_by (Err r) = quiet (number_of r)

@@ -8,17 +8,15 @@ ghost use Rattle.engine.specs.Carried.{Loadable, carried, carried_by, forbidding
 use crate::{Outgoing, peripheral_channel, wires_channel};
 use command::Channels;
 use registers::{Config, Reg008};
-use rules::{Body, Kept, Reply, Response};
+use rules::{Body, Refusal, Response};
 
 // Which channels are on.
 pub(crate) fn channels(c: Config) -> Channels
     ensures { result ≡ channels_of c }
 {
-    let a = c.r010;
-    let b = c.r020;
     Channels {
-        peripheral: a.on(),
-        wires: b.on(),
+        peripheral: c.r010.on(),
+        wires: c.r020.on(),
     }
 }
 
@@ -37,12 +35,7 @@ fn reconfigure(c: Config, next: Config, state: &mut [u8])
 fn non_fatally(word: u32) -> Outgoing
     ensures { result ≡ forbidding word }
 {
-    Outgoing {
-        number: rules::NON_FATAL,
-        reply: Reply::Said(Response::NonFatal, Body::Nothing, word),
-        packet: false,
-        kept: Kept::Nothing,
-    }
+    crate::refusing(Refusal::NonFatal, Response::NonFatal, word)
 }
 
 pub(crate) fn set(c: Config, address: u32, val: u32, state: &mut [u8]) -> Outgoing
@@ -67,12 +60,9 @@ pub(crate) fn reset_008(c: Config, state: &mut [u8])
     requires { Loadable state.old × (c ≡ (unpacked state.old).config) }
     ensures { state.new ≡ kept (reset008h (unpacked state.old)) state.old }
 {
-    let r010 = c.r010;
-    let r020 = c.r020;
     let next = Config {
         r008: Reg008::fresh(),
-        r010,
-        r020,
+        ..c
     };
     next.pack(state);
 }

@@ -6,63 +6,78 @@ mod out;
 mod peripheral_channel;
 mod wires_channel;
 
-ghost use Rattle.std.specs.Prelude.{◌≡◌, ◌+◌, ◌*◌, ◌≤◌, length, take, drop, true};
+ghost use Rattle.std.specs.Prelude.{◌≡◌, None, ◌+◌, ◌*◌, ◌≤◌, length, take, drop, true};
 ghost use Rattle.command.specs.Facts.{CommandFits, PeripheralFits, WiresFits};
 ghost use Rattle.state.specs.Layout.{state_length, unpacked};
 ghost use Rattle.rules.specs.Rules.Reset.{espi_reset, platform_reset};
 ghost use Rattle.rules.specs.Rules.Peripheral.{succeeded, answer_to, taken};
 ghost use Rattle.rules.specs.Rules.Fits.{plain_say};
-ghost use Rattle.rules.specs.declared.Say.TheVariants.{Silent};
 ghost use Rattle.rules.specs.Rules.Wires.{Act, setting, setting_line, pulsing_line};
 ghost use Rattle.rules.specs.Rules.Channel.{peripheral, wires, act_of};
 ghost use Rattle.rules.specs.Rules.Lift.{with_status, lift};
 ghost use Rattle.rules.specs.Rules.Exchange.{was_reset, acted, decide, exchange};
 ghost use Rattle.rules.specs.Rules.Calls.{kept};
-ghost use Rattle.engine.specs.Carried.{Loadable, Stays, carried, carried_by, beside, Resets, showing, failing, quiet, refused_by};
+ghost use Rattle.rules.specs.Rules.Numbers.{number_of, number_in};
+ghost use Rattle.rules.specs.declared.Body.TheVariants.{Nothing};
+ghost use Rattle.engine.specs.Carried.{Loadable, Stays, carried, carried_by, beside, Resets, says_out, says_only, showing, failing, quiet, refused_by};
 
-use command::{Command, Decoded, PeripheralCommand, WiresCommand};
+use command::{Command, PeripheralCommand, WiresCommand};
 use peripheral::Peripheral;
 use registers::{Config, Reg010};
-use rules::{Body, GroupsChange, Kept, PeripheralChange, Reply, Response, Say};
+use rules::{Body, GroupsChange, Kept, Out, PeripheralChange, Refusal, Reply, Response, Say};
 use state::Core;
 use wires::Wires;
 
-// A plan without its next state, which stands in the state's bytes; or a packet of wires in the place of a reply. It is made where it is written, from the
-// place and with the capacity that the state's bytes have, and the wires among them change then.
+// What a call says: a reply or none; or a packet of wires. A packet is made where it is written, from the place and with the capacity that the state's bytes
+// have, and the wires among them change then.
+#[derive(Clone, Copy)]
+pub enum Speech {
+    Reply(Option<Reply>),
+    Packet,
+}
+
+// A plan without its next state, which stands in the state's bytes.
 #[derive(Clone, Copy)]
 pub struct Outgoing {
     pub number: u8,
-    pub reply: Reply,
-    pub packet: bool,
-    pub kept: Kept,
+    pub speech: Speech,
+    pub kept: Option<Kept>,
 }
 
 // ---- a channel's change put back into the whole
 
 // Only a reply has a status.
-fn reply_with(say: Say, word: u32) -> Reply
+fn reply_with(say: Option<Say>, word: u32) -> Option<Reply>
     ensures { result ≡ with_status say word }
 {
-    match say {
-        Say::Silent => Reply::Silent,
-        Say::Said(response, body) => Reply::Said(response, body, word),
+    let y = say?;
+    Some(Reply {
+        response: y.response,
+        body: y.body,
+        status: word,
+    })
+}
+
+fn spoken(out: Out, word: u32) -> Outgoing
+    ensures { result ≡ says_out out word }
+{
+    Outgoing {
+        number: out.number,
+        speech: Speech::Reply(reply_with(out.say, word)),
+        kept: out.kept,
     }
 }
 
 // A call of the board says nothing, so no status is looked at.
 fn lift_peripheral(x: PeripheralChange, state: &mut [u8]) -> Outgoing
-    requires { Loadable state.old × Stays (unpacked state.old) (lift peripheral (unpacked state.old) x) × (x.out.say ≡ Silent) }
+    requires { Loadable state.old × Stays (unpacked state.old) (lift peripheral (unpacked state.old) x) × (x.out.say ≡ None) }
     ensures { carried result state.new ≡ carried_by (lift peripheral (unpacked state.old) x) state.old }
 {
-    let next = x.next;
     let out = x.out;
-    let kept = out.kept;
-    peripheral_channel::store(out.number, next, state);
+    peripheral_channel::store(out.number, x.next, state);
     Outgoing {
-        number: out.number,
-        reply: Reply::Silent,
-        packet: false,
-        kept,
+        kept: out.kept,
+        ..silently(out.number)
     }
 }
 
@@ -74,21 +89,15 @@ fn lift_wires(x: GroupsChange, state: &mut [u8]) -> Outgoing
     ensures { carried result state.new
         ≡ carried_by (lift wires (unpacked state.old) (beside (unpacked state.old).wires.lines x)) state.old }
 {
-    let next = x.next;
     let out = x.out;
-    let say = out.say;
-    let kept = out.kept;
     let others = Peripheral::status_in(state);
-    wires_channel::store(out.number, next, state);
-    Outgoing {
-        number: out.number,
-        reply: reply_with(say, others + Wires::status_in(state)),
-        packet: false,
-        kept,
-    }
+    wires_channel::store(out.number, x.next, state);
+    spoken(out, others + Wires::status_in(state))
 }
 
 // ---- a channel's command, decided by the channel and put back
+// Stays, here and in configuration.rt: `Loadable` and `c ≡ (unpacked state).config` stand in each. The public functions are lent a slice (docs/CONTRACTS.md),
+// and a struct of c and the bytes has no invariant to keep, since a write of a register or a reset parts them within the function that it would be lent to.
 
 // Channel 0 stores the queue that it touches itself; the status is then that of the bytes.
 fn act_peripheral(c: Config, o: PeripheralCommand, b: &[u8], state: &mut [u8]) -> Outgoing
@@ -99,14 +108,7 @@ fn act_peripheral(c: Config, o: PeripheralCommand, b: &[u8], state: &mut [u8]) -
 {
     let others = Wires::status_in(state);
     let out = peripheral_channel::decide(c, o, b, state);
-    let say = out.say;
-    let kept = out.kept;
-    Outgoing {
-        number: out.number,
-        reply: reply_with(say, Peripheral::status_in(state) + others),
-        packet: false,
-        kept,
-    }
+    spoken(out, Peripheral::status_in(state) + others)
 }
 
 // Where a PUT_VWIRE has lowered PLTRST# the platform reset follows its reply, which is made by then.
@@ -135,10 +137,8 @@ fn send_wires(state: &[u8]) -> Outgoing
         return fatally(state::status_in(state));
     }
     Outgoing {
-        number: 0,
-        reply: Reply::Silent,
-        packet: true,
-        kept: Kept::Nothing,
+        speech: Speech::Packet,
+        ..silently(0)
     }
 }
 
@@ -161,32 +161,46 @@ fn silently(number: u8) -> Outgoing
 {
     Outgoing {
         number,
-        reply: Reply::Silent,
-        packet: false,
-        kept: Kept::Nothing,
+        speech: Speech::Reply(None),
+        kept: None,
+    }
+}
+
+// A reply, number 0, and no data kept.
+fn replying(response: Response, body: Body, status: u32) -> Outgoing
+    ensures { result ≡ says_only 0 response body status }
+{
+    let reply = Reply {
+        response,
+        body,
+        status,
+    };
+    Outgoing {
+        speech: Speech::Reply(Some(reply)),
+        ..silently(0)
+    }
+}
+
+// A reply that refuses.
+fn refusing(x: Refusal, response: Response, status: u32) -> Outgoing
+    ensures { result ≡ says_only (number_of x) response Nothing status }
+{
+    Outgoing {
+        number: u8::from(x),
+        ..replying(response, Body::Nothing, status)
     }
 }
 
 fn shown(body: Body, word: u32) -> Outgoing
     ensures { result ≡ showing body word }
 {
-    Outgoing {
-        number: 0,
-        reply: Reply::Said(Response::Accept, body, word),
-        packet: false,
-        kept: Kept::Nothing,
-    }
+    replying(Response::Accept, body, word)
 }
 
 fn fatally(word: u32) -> Outgoing
     ensures { result ≡ failing word }
 {
-    Outgoing {
-        number: rules::FATAL,
-        reply: Reply::Said(Response::Fatal, Body::Nothing, word),
-        packet: false,
-        kept: Kept::Nothing,
-    }
+    refusing(Refusal::Fatal, Response::Fatal, word)
 }
 
 fn decided(c: Config, o: Command, b: &[u8], state: &mut [u8]) -> Outgoing
@@ -209,12 +223,14 @@ fn decided(c: Config, o: Command, b: &[u8], state: &mut [u8]) -> Outgoing
 // ---- the exchange
 
 // A decode that gives no command ends the exchange at once.
-fn refused(d: Decoded) -> Outgoing
+// Stays: document 01 asks for `let .. else` (docs/DECISIONS.md, 72), in which the error has no name; so `refused_by` has a case for a command, which no call
+// reaches. `settled` is of other types: one function for both would be told what the value is and how the error is numbered, for two arms.
+fn refused(d: Result<Command, command::Refusal>) -> Outgoing
     ensures { result ≡ refused_by d }
 {
     match d {
-        Decoded::Known(_) => silently(0),
-        Decoded::Refused(n) => silently(n),
+        Ok(_) => silently(0),
+        Err(refusal) => silently(u8::from(refusal)),
     }
 }
 
@@ -226,41 +242,35 @@ pub fn exchange(b: &[u8], state: &mut [u8]) -> Outgoing
     let c = Config::unpack(state);
     let r008 = c.r008;
     let d = command::admit(configuration::channels(c), r008.crc_checked(), b);
-    let Decoded::Known(o) = d else {
+    let Ok(o) = d else {
         return refused(d);
     };
     decided(c, o, b, state)
 }
 
 // ---- the resets: each channel its own
+// Stays: two of each, since document 01 has two resets; what is one for both is `pack` and `unpack`, the rest says which part each leaves.
 
 fn espi_core(s: Core) -> Core
     ensures { Resets espi_reset s result }
 {
-    let p = s.peripheral;
+    let serial = s.peripheral.serial;
     Core {
-        config: Config::fresh(),
-        peripheral: Peripheral::idle(p.serial),
-        wires: Wires::fresh(),
+        peripheral: Peripheral::idle(serial),
+        ..Core::fresh()
     }
 }
 
 fn platform_core(s: Core) -> Core
     ensures { Resets platform_reset s result }
 {
-    let c = s.config;
-    let r008 = c.r008;
-    let r020 = c.r020;
-    let held = s.peripheral;
-    let w = s.wires;
     Core {
         config: Config {
-            r008,
             r010: Reg010::fresh(),
-            r020,
+            ..s.config
         },
-        peripheral: Peripheral::idle(held.serial),
-        wires: w.platform(),
+        peripheral: Peripheral::idle(s.peripheral.serial),
+        wires: s.wires.platform(),
     }
 }
 
@@ -315,10 +325,19 @@ pub fn set_wire(index: u32, bit: u32, value: u32, state: &mut [u8]) -> Outgoing
 {
     let c = Config::unpack(state);
     let x = wires_channel::setting(c, Wires::unpack(state), index, bit, value);
-    let w = x.next;
-    let out = x.out;
-    wires_channel::store(out.number, w, state);
-    silently(out.number)
+    let number = x.out.number;
+    wires_channel::store(number, x.next, state);
+    silently(number)
+}
+
+// What a call of a line says: 0, or its refusal's number.
+fn settled(called: Result<(), Refusal>) -> Outgoing
+    ensures { result ≡ quiet (number_in called) }
+{
+    match called {
+        Ok(_) => silently(0),
+        Err(x) => silently(u8::from(x)),
+    }
 }
 
 // The board raises or lowers a line.
@@ -330,7 +349,7 @@ pub fn set_line(line: u32, level: u32, state: &mut [u8]) -> Outgoing
         (setting_line (unpacked state.old).config (unpacked state.old).wires line level)) state.old }
 {
     let c = Config::unpack(state);
-    silently(wires_channel::set_line(c, line, level, state))
+    settled(wires_channel::set_line(c, line, level, state))
 }
 
 // The board asks for an edge on a line.
@@ -342,5 +361,5 @@ pub fn pulse_line(line: u32, state: &mut [u8]) -> Outgoing
         (pulsing_line (unpacked state.old).config (unpacked state.old).wires line)) state.old }
 {
     let c = Config::unpack(state);
-    silently(wires_channel::pulse_line(c, line, state))
+    settled(wires_channel::pulse_line(c, line, state))
 }

@@ -1,26 +1,31 @@
 // What goes out of a channel's change.
 ghost use Rattle.std.specs.Prelude.{◌≡◌};
+ghost use Rattle.rules.specs.Rules.Numbers.{number_of};
 ghost use Rattle.rules.specs.Rules.Out as O;
 
-use rules::{Body, Kept, Out, Response, Say};
+use rules::{Body, Kept, Out, Refusal, Response, Say};
+
+fn says(response: Response, body: Body) -> Option<Say>
+    ensures { result ≡ O.says response body }
+{
+    Some(Say { response, body })
+}
 
 pub(crate) fn fatal() -> Out
     ensures { result ≡ O.fatal }
 {
     Out {
-        number: rules::FATAL,
-        say: Say::Said(Response::Fatal, Body::Nothing),
-        kept: Kept::Nothing,
+        say: says(Response::Fatal, Body::Nothing),
+        ..number(Refusal::Fatal)
     }
 }
 
-pub(crate) fn accept(body: Body, kept: Kept) -> Out
+pub(crate) fn accept(body: Body, kept: Option<Kept>) -> Out
     ensures { result ≡ O.accept body kept }
 {
     Out {
-        number: 0,
-        say: Say::Said(Response::Accept, body),
-        kept,
+        say: says(Response::Accept, body),
+        ..keep(kept)
     }
 }
 
@@ -28,28 +33,27 @@ pub(crate) fn defer() -> Out
     ensures { result ≡ O.defer }
 {
     Out {
-        number: 0,
-        say: Say::Said(Response::Defer, Body::Nothing),
-        kept: Kept::Nothing,
+        say: says(Response::Defer, Body::Nothing),
+        ..keep(None)
     }
 }
 
-pub(crate) fn number(n: u8) -> Out
-    ensures { result ≡ O.number n }
+pub(crate) fn number(x: Refusal) -> Out
+    ensures { result ≡ O.number (number_of x) }
 {
     Out {
-        number: n,
-        say: Say::Silent,
-        kept: Kept::Nothing,
+        number: u8::from(x),
+        say: None,
+        kept: None,
     }
 }
 
-pub(crate) fn keep(kept: Kept) -> Out
+pub(crate) fn keep(kept: Option<Kept>) -> Out
     ensures { result ≡ O.keep kept }
 {
     Out {
         number: 0,
-        say: Say::Silent,
+        say: None,
         kept,
     }
 }

@@ -10,36 +10,35 @@ ghost use Rattle.peripheral.specs.Layout.{np_in, peripheral_in};
 ghost use Rattle.peripheral.specs.Stored.{Stands};
 ghost use Rattle.state.specs.Layout.{state_length};
 ghost use Rattle.rules.specs.Rules.Channel.{peripheral};
+ghost use Rattle.rules.specs.Rules.Numbers.{number_of};
 ghost use Rattle.rules.specs.Rules.Out as O;
 ghost use Rattle.rules.specs.Rules.Peripheral as P;
 ghost use Rattle.engine.specs.Carried.{changed_to, changed_by, stored_by, edge_stored};
 
 use crate::out;
 use command::{Access, Head, PeripheralCommand, Span};
-use peripheral::{Kind, Next, Np, Peripheral, Posted, Request, Write};
+use peripheral::{Kind, Np, Peripheral, Posted, Request};
 use registers::Config;
-use rules::{Body, Kept, Out, PeripheralChange};
+use rules::{Body, Kept, Out, PeripheralChange, Refusal};
 
 // A board call refused.
-fn refused(p: Peripheral, number: u8) -> PeripheralChange
-    ensures { result ≡ P.change p (O.number number) }
+fn refused(p: Peripheral, x: Refusal) -> PeripheralChange
+    ensures { result ≡ P.change p (O.number (number_of x)) }
 {
     PeripheralChange {
         next: p,
-        out: out::number(number),
+        out: out::number(x),
     }
 }
 
 fn with_request(p: Peripheral, n: Np) -> Peripheral
     ensures { result ≡ P.with_request p n }
 {
-    let write = p.write;
-    Peripheral {
-        write,
-        request: n,
-        serial: p.serial,
-    }
+    Peripheral { request: n, ..p }
 }
+
+// Stays: five contracts ask for `Stands` and 64 bytes, three of them for a reachable configuration. The bytes are lent on by `&mut` and changed in between; a
+// struct that holds them would promise that at each of its methods, as these do. A Config is read from any bytes (`Config::unpack`), so it cannot promise it.
 
 // ---- posted writes
 
@@ -62,7 +61,13 @@ fn post(c: Config, address: u64, length: u32, from: u32, state: &mut [u8]) -> Ou
         payload,
     };
     Peripheral::hold(w, state);
-    out::accept(Body::Nothing, Kept::Data(from, length))
+    out::accept(
+        Body::Nothing,
+        Some(Kept {
+            from,
+            count: length,
+        }),
+    )
 }
 
 // ---- non-posted requests
@@ -86,10 +91,8 @@ fn request_of(c: Config, kind: Kind, address: u64, length: u32, tag: u8, bytes: 
 fn size_for(q: Request) -> u32
     ensures { result ≡ P.size_for q.kind q }
 {
-    let k = q.kind;
-    match k {
-        Kind::MemoryRead => q.readsize,
-        Kind::IoRead => q.readsize,
+    match q.kind {
+        Kind::MemoryRead | Kind::IoRead => q.readsize,
         Kind::IoWrite => q.payload,
     }
 }
@@ -115,13 +118,11 @@ fn bytes_of(size: u8, b: &[u8]) -> u32
     requires { (3 + size ≤ length b.now) × SizeFits size }
     ensures { result ≡ P.bytes_of size b.now }
 {
-    if size == 1 {
-        return base::join4(b[3], 0, 0, 0);
+    match size {
+        1 => u32::from(b[3]),
+        2 => base::join2(b[3], b[4]),
+        _ => base::join4(b[3], b[4], b[5], b[6]),
     }
-    if size == 2 {
-        return base::join4(b[3], b[4], 0, 0);
-    }
-    base::join4(b[3], b[4], b[5], b[6])
 }
 
 fn short_access(c: Config, a: Access, at: Span, b: &[u8], state: &mut [u8]) -> Out
@@ -129,7 +130,7 @@ fn short_access(c: Config, a: Access, at: Span, b: &[u8], state: &mut [u8]) -> O
     ensures { changed_to result state.new
         ≡ changed_by peripheral (P.acting c (peripheral_in state.old) (P.short_act c a at b.now)) state.old }
 {
-    let n = at.size as u32;
+    let n = u32::from(at.size);
     match a {
         Access::IoRead => ask(request_of(c, Kind::IoRead, at.address, n, 0, 0), state),
         Access::IoWrite => {
@@ -147,10 +148,9 @@ fn get_pc(state: &mut [u8]) -> Out
     requires { (64 ≤ L.length state.old) × Stands (peripheral_in state.old) state.old × (sound_request (np_in state.old) ≡ true) }
     ensures { changed_to result state.new ≡ changed_by peripheral (P.get_pc (peripheral_in state.old)) state.old }
 {
-    let up = Peripheral::hand_over(state);
-    match up {
-        Next::Nothing => out::fatal(),
-        Next::One(c) => out::accept(Body::Piece(c), Kept::Nothing),
+    match Peripheral::hand_over(state) {
+        None => out::fatal(),
+        Some(c) => out::accept(Body::Piece(c), None),
     }
 }
 
@@ -189,10 +189,8 @@ pub(crate) fn decide(c: Config, o: PeripheralCommand, b: &[u8], state: &mut [u8]
 fn answer_length(q: Request) -> u32
     ensures { result ≡ P.answer_length q.kind q }
 {
-    let k = q.kind;
-    match k {
-        Kind::MemoryRead => q.length,
-        Kind::IoRead => q.length,
+    match q.kind {
+        Kind::MemoryRead | Kind::IoRead => q.length,
         Kind::IoWrite => 0,
     }
 }
@@ -213,15 +211,16 @@ fn answered(p: Peripheral, q: Request, success: bool) -> PeripheralChange
         let n = answer_length(q);
         return PeripheralChange {
             next: with_request(p, Np::Ready(q, 0)),
-            out: out::keep(Kept::Data(0, n)),
+            out: out::keep(Some(Kept { from: 0, count: n })),
         };
     }
     PeripheralChange {
         next: with_request(p, Np::Failed(q)),
-        out: out::keep(Kept::Nothing),
+        out: out::keep(None),
     }
 }
 
+// Stays: serial and success are two words, as the C interface and the engine's public `answer` have them.
 fn answer_waiting(
     p: Peripheral,
     q: Request,
@@ -232,11 +231,11 @@ fn answer_waiting(
     ensures { result ≡ P.answering_waiting p q serial success n }
 {
     if serial != p.serial {
-        return refused(p, rules::NO_SUCH_REQUEST);
+        return refused(p, Refusal::NoSuchRequest);
     }
     let want = bytes_for(q, success);
     if n != (want as usize) {
-        return refused(p, rules::COUNT_WRONG);
+        return refused(p, Refusal::CountWrong);
     }
     answered(p, q, success)
 }
@@ -244,12 +243,9 @@ fn answer_waiting(
 pub(crate) fn answer_to(p: Peripheral, serial: u32, success: bool, n: usize) -> PeripheralChange
     ensures { result ≡ P.answer_to p serial success n }
 {
-    let h = p.request;
-    match h {
-        Np::Free => refused(p, rules::NO_SUCH_REQUEST),
+    match p.request {
         Np::Waiting(q) => answer_waiting(p, q, serial, success, n),
-        Np::Ready(_, _) => refused(p, rules::NO_SUCH_REQUEST),
-        Np::Failed(_) => refused(p, rules::NO_SUCH_REQUEST),
+        _ => refused(p, Refusal::NoSuchRequest),
     }
 }
 
@@ -258,23 +254,17 @@ pub(crate) fn answer_to(p: Peripheral, serial: u32, success: bool, n: usize) -> 
 fn emptied(p: Peripheral) -> Peripheral
     ensures { result ≡ P.emptied p }
 {
-    let request = p.request;
-    Peripheral {
-        write: Write::Empty,
-        request,
-        serial: p.serial,
-    }
+    Peripheral { write: None, ..p }
 }
 
 pub(crate) fn taken(p: Peripheral) -> PeripheralChange
     ensures { result ≡ P.taken p }
 {
-    let w = p.write;
-    match w {
-        Write::Empty => refused(p, rules::NOTHING_THERE),
-        Write::Held(_) => PeripheralChange {
+    match p.write {
+        None => refused(p, Refusal::NothingThere),
+        Some(_) => PeripheralChange {
             next: emptied(p),
-            out: out::keep(Kept::Nothing),
+            out: out::keep(None),
         },
     }
 }

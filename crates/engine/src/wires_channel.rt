@@ -6,13 +6,14 @@ ghost use Rattle.wires.specs.Senders.{with_groups, all_enabled, all_disabled};
 ghost use Rattle.wires.specs.Layout.{all_in};
 ghost use Rattle.state.specs.Layout.{state_length};
 ghost use Rattle.rules.specs.Rules.Channel.{wires};
+ghost use Rattle.rules.specs.Rules.Numbers.{number_in};
 ghost use Rattle.rules.specs.Rules.Out as O;
 ghost use Rattle.rules.specs.Rules.Wires as W;
 ghost use Rattle.engine.specs.Carried.{Loadable, groups_change, Puts, Sets, settled_to, settled_by, put_part, stored_by, edge_stored};
 
 use crate::out;
 use registers::Config;
-use rules::{Body, GroupsChange, Kept};
+use rules::{Body, GroupsChange, Kept, Refusal};
 use wires::Wires;
 
 fn fatally(w: Wires) -> GroupsChange
@@ -33,14 +34,12 @@ pub(crate) fn put_vwire(c: Config, w: Wires, n: u32, b: &[u8]) -> GroupsChange
     if r.operating_count() < n {
         return fatally(w);
     }
-    let o = w.put(&b[2..], n as usize);
-    if o.third {
+    let Ok(next) = w.put(&b[2..2 + 2 * n as usize]) else {
         return fatally(w);
-    }
-    let next = o.next;
+    };
     GroupsChange {
         next,
-        out: out::accept(Body::Nothing, Kept::Nothing),
+        out: out::accept(Body::Nothing, None),
     }
 }
 
@@ -48,8 +47,7 @@ pub(crate) fn put_vwire(c: Config, w: Wires, n: u32, b: &[u8]) -> GroupsChange
 pub(crate) fn pltrst(w: Wires) -> bool
     ensures { result ≡ eqb (read_wire w 3 1) 1 }
 {
-    let level = w.level;
-    level[1] / 2 % 2 == 1
+    w.read(3, 1) == 1
 }
 
 // The board sets one wire.
@@ -59,54 +57,53 @@ pub(crate) fn setting(c: Config, w: Wires, index: u32, bit: u32, value: u32) -> 
     if !wires::settable(index, bit, value) {
         return GroupsChange {
             next: w,
-            out: out::number(rules::NO_SUCH_WIRE),
+            out: out::number(Refusal::NoSuchWire),
         };
     }
-    let r = c.r020;
     GroupsChange {
-        next: w.set(r.on(), index, bit, value),
-        out: out::keep(Kept::Nothing),
+        next: w.set(c.r020.on(), index, bit, value),
+        out: out::keep(None),
     }
 }
 
 // ---- the board's lines
 
-// The board raises or lowers a line; the number.
-pub(crate) fn set_line(c: Config, line: u32, level: u32, state: &mut [u8]) -> u8
+// The board raises or lowers a line.
+pub(crate) fn set_line(c: Config, line: u32, level: u32, state: &mut [u8]) -> Result<(), Refusal>
     requires { Loadable state.old }
-    ensures { settled_to result state.new ≡ settled_by (W.setting_line c (all_in state.old) line level) state.old }
+    ensures { settled_to (number_in result) state.new ≡ settled_by (W.setting_line c (all_in state.old) line level) state.old }
 {
     if !((line < 256) & (level <= 1)) {
-        return rules::NO_SUCH_WIRE;
+        return Err(Refusal::NoSuchWire);
     }
     if wires::lines::edge_waits(state, line) {
-        return rules::LINE_BUSY;
+        return Err(Refusal::LineBusy);
     }
-    let r = c.r020;
-    wires::lines::set_line(state, r.on(), line, level);
-    0
+    wires::lines::set_line(state, c.r020.on(), line, level);
+    Ok(())
 }
 
-// The board asks for an edge; the number.
-pub(crate) fn pulse_line(c: Config, line: u32, state: &mut [u8]) -> u8
+// The board asks for an edge.
+pub(crate) fn pulse_line(c: Config, line: u32, state: &mut [u8]) -> Result<(), Refusal>
     requires { Loadable state.old }
-    ensures { settled_to result state.new ≡ settled_by (W.pulsing_line c (all_in state.old) line) state.old }
+    ensures { settled_to (number_in result) state.new ≡ settled_by (W.pulsing_line c (all_in state.old) line) state.old }
 {
     if 256 <= line {
-        return rules::NO_SUCH_WIRE;
+        return Err(Refusal::NoSuchWire);
     }
     let r = c.r020;
     let waits = wires::lines::line_waits(state, line);
     if !(r.on() & ((1 < r.operating_count()) & !waits)) {
-        return rules::LINE_BUSY;
+        return Err(Refusal::LineBusy);
     }
     wires::lines::pulse_line(state, line);
-    0
+    Ok(())
 }
 
 // ---- their bytes
 
 // The groups of a change with this number; a refused one's stand there already, and so do the lines.
+// Stays: channel 0's is as short; one for both would be a trait that tells the channel and its whole part, with a law for each, in the place of three lines.
 pub(crate) fn store(number: u8, w: Wires, state: &mut [u8])
     requires { state_length ≤ length state.old }
     ensures { state.new ≡ stored_by wires number (with_groups (all_in state.old) w) state.old }
@@ -117,6 +114,8 @@ pub(crate) fn store(number: u8, w: Wires, state: &mut [u8])
     w.pack(state);
 }
 
+// Stays: of four lines this and `enable` differ in two; one function for both would be told by a flag which of them to call. Of channel 0's two edges only one
+// has something to do, here both have.
 fn disable(state: &mut [u8])
     requires { state_length ≤ length state.old }
     ensures { state.new ≡ put_part wires (all_disabled (all_in state.old)) state.old }

@@ -1,16 +1,19 @@
 // The C boundary: the eleven calls over lent bytes, and nothing else.
+// Stays: what a call gives is a word, as the C interface has it; within, what refuses it is a Refusal. With `?` each call would be two functions, one that
+// gives a Result and one that makes a word of it.
 #![tactic(auto)]
 
 ghost use Rattle.std.specs.Prelude.{◌≡◌, ◌≤◌, length};
+ghost use Rattle.rules.specs.Rules.Numbers.{number_of};
 ghost use Rattle.rules.specs.Rules.Fits.{KeptFits};
 ghost use Rattle.rules.specs.Rules.Step.{reply_length, write_length, read_length};
 ghost use Rattle.rules.specs.Rules.Calls.{done, exchanged, stored, looked, start_call, espi_reset_call, platform_reset_call, exchange_call, look_call, answer_call, take_write_call, set_wire_call, read_wire_call, set_line_call, pulse_line_call};
 ghost use Rattle.reply.specs.Packets.{packet_put};
-ghost use Rattle.espi.specs.Boundary.{SaysFits, spoken_by, committed};
+ghost use Rattle.espi.specs.Boundary.{guarded, SaysFits, spoken_by, committed};
 
-use engine::Outgoing;
+use engine::{Outgoing, Speech};
 use peripheral::{Np, Peripheral};
-use rules::Reply;
+use rules::Refusal;
 use state::{Core, pack};
 use wires::Wires;
 
@@ -27,16 +30,31 @@ const LOOK_REPORT: usize = 19;
 
 const TAKE_REPORT: usize = 10;
 
-// Numbers that a call answers by itself, as words.
-const NO_SUCH_WIRE: u32 = 22;
+// A refusal as its caller gets it: its number, as a word.
+fn number(x: Refusal) -> u32
+    ensures { result ≡ number_of x }
+{
+    u32::from(u8::from(x))
+}
 
-const NOTHING_THERE: u32 = 23;
+// What every call but a start looks at first: whether the state or another lent slice is too short, then whether the state is sound.
+fn guard(state: &[u8], short: bool) -> Result<(), Refusal>
+    ensures { result ≡ guarded state.now short }
+{
+    if (state.len() < STATE) | short {
+        return Err(Refusal::StoreTooShort);
+    }
+    if !state::holds(state) {
+        return Err(Refusal::StateNotSound);
+    }
+    Ok(())
+}
 
 pub fn espi_start(state: &mut [u8]) -> u32
     ensures { done result state.new ≡ start_call state.old }
 {
     if state.len() < STATE {
-        return rules::STORE_TOO_SHORT;
+        return number(Refusal::StoreTooShort);
     }
     pack(Core::fresh(), state);
     0
@@ -45,11 +63,8 @@ pub fn espi_start(state: &mut [u8]) -> u32
 pub fn espi_reset(state: &mut [u8]) -> u32
     ensures { done result state.new ≡ espi_reset_call state.old }
 {
-    if state.len() < STATE {
-        return rules::STORE_TOO_SHORT;
-    }
-    if !state::holds(state) {
-        return rules::STATE_NOT_SOUND;
+    if let Err(refusal) = guard(state, false) {
+        return number(refusal);
     }
     engine::espi_reset(state);
     0
@@ -58,26 +73,23 @@ pub fn espi_reset(state: &mut [u8]) -> u32
 pub fn espi_platform_reset(state: &mut [u8]) -> u32
     ensures { done result state.new ≡ platform_reset_call state.old }
 {
-    if state.len() < STATE {
-        return rules::STORE_TOO_SHORT;
-    }
-    if !state::holds(state) {
-        return rules::STATE_NOT_SOUND;
+    if let Err(refusal) = guard(state, false) {
+        return number(refusal);
     }
     engine::platform_reset(state);
     0
 }
 
 // The reply, or a packet with what it changes of the wires; its length.
-fn say(r: Reply, packet: bool, state: &mut [u8], reply: &mut [u8], read_store: &[u8]) -> u32
-    requires { (reply_length ≤ length reply.old) × (read_length ≤ length read_store.now) × SaysFits r packet state.old }
-    ensures { (packet_put result state.new reply.new ≡ spoken_by r packet state.old reply.old read_store.now)
+fn say(speech: Speech, state: &mut [u8], reply: &mut [u8], read_store: &[u8]) -> u32
+    requires { (reply_length ≤ length reply.old) × (read_length ≤ length read_store.now) × SaysFits speech state.old }
+    ensures { (packet_put result state.new reply.new ≡ spoken_by speech state.old reply.old read_store.now)
         × (result ≤ reply_length) }
 {
-    if packet {
-        return reply::put_packet(reply, state);
+    match speech {
+        Speech::Reply(r) => reply::put_reply(reply, r, read_store),
+        Speech::Packet => reply::put_packet(reply, state),
     }
-    reply::put_reply(reply, r, read_store)
 }
 
 // What goes out of an exchange: what it says, and its data on the lent bytes.
@@ -90,15 +102,13 @@ fn commit(
     read_store: &[u8],
 ) -> u32
     requires { (reply_length ≤ length reply.old) × (write_length ≤ length write_store.old) × (read_length ≤ length read_store.now)
-        × SaysFits p.reply p.packet state.old × KeptFits p.kept (length command.now) write_length }
+        × SaysFits p.speech state.old × KeptFits p.kept (length command.now) write_length }
     ensures { exchanged result state.new reply.new write_store.new
         ≡ committed p state.old command.now reply.old write_store.old read_store.now }
 {
-    let r = p.reply;
-    let k = p.kept;
-    let n = say(r, p.packet, state, reply, read_store);
-    reply::keep(write_store, k, command);
-    (p.number as u32) + 256 * n
+    let n = say(p.speech, state, reply, read_store);
+    reply::keep(write_store, p.kept, command);
+    u32::from(p.number) + 256 * n
 }
 
 pub fn espi_exchange(
@@ -111,20 +121,11 @@ pub fn espi_exchange(
     ensures { exchanged result state.new reply.new write_store.new
         ≡ exchange_call state.old command.now reply.old write_store.old read_store.now }
 {
-    if state.len() < STATE {
-        return rules::STORE_TOO_SHORT;
-    }
-    if reply.len() < REPLY {
-        return rules::STORE_TOO_SHORT;
-    }
-    if write_store.len() < WRITE_STORE {
-        return rules::STORE_TOO_SHORT;
-    }
-    if read_store.len() < READ_STORE {
-        return rules::STORE_TOO_SHORT;
-    }
-    if !state::holds(state) {
-        return rules::STATE_NOT_SOUND;
+    let short = (reply.len() < REPLY)
+        | (write_store.len() < WRITE_STORE)
+        | (read_store.len() < READ_STORE);
+    if let Err(refusal) = guard(state, short) {
+        return number(refusal);
     }
     let p = engine::exchange(command, state);
     commit(p, state, command, reply, write_store, read_store)
@@ -133,26 +134,15 @@ pub fn espi_exchange(
 pub fn espi_look(state: &[u8], report: &mut [u8]) -> u32
     ensures { looked result report.new ≡ look_call state.now report.old }
 {
-    if state.len() < STATE {
-        return rules::STORE_TOO_SHORT;
-    }
-    if report.len() < LOOK_REPORT {
-        return rules::STORE_TOO_SHORT;
-    }
-    if !state::holds(state) {
-        return rules::STATE_NOT_SOUND;
+    if let Err(refusal) = guard(state, report.len() < LOOK_REPORT) {
+        return number(refusal);
     }
     let p = Peripheral::unpack(state);
-    let n = p.request;
-    match n {
-        Np::Free => NOTHING_THERE,
-        Np::Waiting(q) => {
-            reply::put_request(report, q, p.serial);
-            0
-        }
-        Np::Ready(_, _) => NOTHING_THERE,
-        Np::Failed(_) => NOTHING_THERE,
-    }
+    let Np::Waiting(q) = p.request else {
+        return number(Refusal::NothingThere);
+    };
+    reply::put_request(report, q, p.serial);
+    0
 }
 
 pub fn espi_answer(
@@ -165,67 +155,46 @@ pub fn espi_answer(
     ensures { stored result state.new read_store.new
         ≡ answer_call state.old read_store.old serial success bytes.now }
 {
-    if state.len() < STATE {
-        return rules::STORE_TOO_SHORT;
-    }
-    if read_store.len() < READ_STORE {
-        return rules::STORE_TOO_SHORT;
-    }
-    if !state::holds(state) {
-        return rules::STATE_NOT_SOUND;
+    if let Err(refusal) = guard(state, read_store.len() < READ_STORE) {
+        return number(refusal);
     }
     let p = engine::answer(serial, success, bytes, state);
-    let k = p.kept;
-    reply::keep(read_store, k, bytes);
-    p.number as u32
+    reply::keep(read_store, p.kept, bytes);
+    u32::from(p.number)
 }
 
 pub fn espi_take_write(state: &mut [u8], write_store: &[u8], report: &mut [u8]) -> u32
     ensures { stored result state.new report.new ≡ take_write_call state.old write_store.now report.old }
 {
-    if state.len() < STATE {
-        return rules::STORE_TOO_SHORT;
-    }
-    if write_store.len() < WRITE_STORE {
-        return rules::STORE_TOO_SHORT;
-    }
-    if report.len() < TAKE_REPORT {
-        return rules::STORE_TOO_SHORT;
-    }
-    if !state::holds(state) {
-        return rules::STATE_NOT_SOUND;
+    let short = (write_store.len() < WRITE_STORE) | (report.len() < TAKE_REPORT);
+    if let Err(refusal) = guard(state, short) {
+        return number(refusal);
     }
     let h = Peripheral::unpack(state);
     let w = h.write;
     let p = engine::take_write(state);
     reply::put_write(report, w);
-    p.number as u32
+    u32::from(p.number)
 }
 
 pub fn espi_set_wire(state: &mut [u8], index: u32, bit: u32, value: u32) -> u32
     ensures { done result state.new ≡ set_wire_call state.old index bit value }
 {
-    if state.len() < STATE {
-        return rules::STORE_TOO_SHORT;
-    }
-    if !state::holds(state) {
-        return rules::STATE_NOT_SOUND;
+    if let Err(refusal) = guard(state, false) {
+        return number(refusal);
     }
     let p = engine::set_wire(index, bit, value, state);
-    p.number as u32
+    u32::from(p.number)
 }
 
 pub fn espi_read_wire(state: &[u8], index: u32, bit: u32) -> u32
     ensures { result ≡ read_wire_call state.now index bit }
 {
-    if state.len() < STATE {
-        return rules::STORE_TOO_SHORT;
-    }
-    if !state::holds(state) {
-        return rules::STATE_NOT_SOUND;
+    if let Err(refusal) = guard(state, false) {
+        return number(refusal);
     }
     if !wires::defined_bit(index, bit) {
-        return NO_SUCH_WIRE;
+        return number(Refusal::NoSuchWire);
     }
     let w = Wires::unpack(state);
     256 * w.read(index, bit)
@@ -234,25 +203,19 @@ pub fn espi_read_wire(state: &[u8], index: u32, bit: u32) -> u32
 pub fn espi_set_line(state: &mut [u8], line: u32, level: u32) -> u32
     ensures { done result state.new ≡ set_line_call state.old line level }
 {
-    if state.len() < STATE {
-        return rules::STORE_TOO_SHORT;
-    }
-    if !state::holds(state) {
-        return rules::STATE_NOT_SOUND;
+    if let Err(refusal) = guard(state, false) {
+        return number(refusal);
     }
     let p = engine::set_line(line, level, state);
-    p.number as u32
+    u32::from(p.number)
 }
 
 pub fn espi_pulse_line(state: &mut [u8], line: u32) -> u32
     ensures { done result state.new ≡ pulse_line_call state.old line }
 {
-    if state.len() < STATE {
-        return rules::STORE_TOO_SHORT;
-    }
-    if !state::holds(state) {
-        return rules::STATE_NOT_SOUND;
+    if let Err(refusal) = guard(state, false) {
+        return number(refusal);
     }
     let p = engine::pulse_line(line, state);
-    p.number as u32
+    u32::from(p.number)
 }

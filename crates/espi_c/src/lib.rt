@@ -1,4 +1,5 @@
 // The C boundary: the eleven calls of `espi` under the names that C links, with the same clauses (include/espi.h).
+// Stays: C links each call by a name of its own, so the eleven stand here once more.
 #![tactic(auto)]
 
 ghost use Rattle.std.specs.Prelude.{◌≡◌};

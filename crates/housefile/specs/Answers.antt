@@ -1,6 +1,6 @@
 -- What the reader and the writer answer, guard by guard: the premises are what the code knows there.
 use Prim.Native.Nat.{ℕ, ◌+◌, ◌<◌, ◌≤◌}
-use Rattle.std.specs.Prelude.{Bool, true, false, ◌≡◌, eqb, drop}
+use Rattle.std.specs.Prelude.{Bool, true, false, ◌≡◌, eqb, drop, Some, None}
 use Rattle.std.proofs.Math.Bool.{not}
 use mathlib.Core.List.{List}
 use Rattle.std.proofs.Math.Path.{refl}
@@ -12,44 +12,37 @@ use Rattle.base.specs.Pick.{pick, taken, passed}
 use Rattle.housefile.specs.Format.{bad, longest, count_of, rows_end, row_at, total, all_fit, entries, read, found}
 use Rattle.housefile.specs.Format.{row_of, write, Written, written, write_into}
 use Rattle.housefile.specs.Laws.{length-entries, is_good, bad_longer, bad_unequal, bad_unfit}
-use Rattle.housefile.specs.Tables.{table_of, contents_bytes, length-rows}
+use Rattle.housefile.specs.Tables.{sizes_of, sizes_none, sizes_some, contents_bytes, length-rows}
 use Rattle.housefile.specs.Entries.{write_entries, length-write}
 use Rattle.housefile.specs.declared.Row.{Row}
-use Rattle.housefile.specs.declared.Table.{Table}
-use Rattle.housefile.specs.declared.Found.TheVariants.{Bad, Entries}
 
 -- ---- reading
 
 module _ (file : List ℕ) where
-  no_file : read file ≡ bad → Bad ≡ found (read file)
+  no_file : read file ≡ bad → None ≡ found (read file)
   no_file e = sym (ap found e)
 
-  pub too_long : longest < length file → Bad ≡ found (read file)
+  pub too_long : longest < length file → None ≡ found (read file)
   too_long h = no_file (bad_longer file h)
 
-  pub cut_off : (n : ℕ) → n ≡ count_of file → length file < rows_end n → Bad ≡ found (read file)
+  pub cut_off : (n : ℕ) → n ≡ count_of file → length file < rows_end n → None ≡ found (read file)
   cut_off n c h = no_file (bad_unequal file (λ e. omega arith))
 
-  module _ (n : ℕ) (t : Table) (c : n ≡ count_of file) (e : t ≡ table_of (row_at file) n) where
-    counted : t ≡ table_of (row_at file) (count_of file)
-    counted = e ∙ ap (table_of (row_at file)) c
+  module _ (n : ℕ) (c : n ≡ count_of file) where
+    pub not_fit : None ≡ sizes_of (row_at file) n → None ≡ found (read file)
+    not_fit e = no_file (bad_unfit file (sizes_none _ _ (e ∙ ap (sizes_of (row_at file)) c)))
 
-    summed : t.total ≡ total (row_at file) (count_of file) 0
-    summed = ap (λ (x : Table). x.total) counted
+    module _ (t : ℕ) (e : Some t ≡ sizes_of (row_at file) n) where
+      summed : (all_fit (row_at file) (count_of file) 0 ≡ true) × (t ≡ total (row_at file) (count_of file) 0)
+      summed = sizes_some _ _ t (e ∙ ap (sizes_of (row_at file)) c)
 
-    judged : t.fit ≡ all_fit (row_at file) (count_of file) 0
-    judged = ap (λ (x : Table). x.fit) counted
+      pub not_summed : (rows_end n + t ≡ length file → ⊥) → None ≡ found (read file)
+      not_summed h = no_file (bad_unequal file (λ a. h (omega (arith, summed.1))))
 
-    pub not_summed : (rows_end n + t.total ≡ length file → ⊥) → Bad ≡ found (read file)
-    not_summed h = no_file (bad_unequal file (λ a. h (omega (arith, summed))))
-
-    pub not_fit : t.fit ≡ false → Bad ≡ found (read file)
-    not_fit h = no_file (bad_unfit file (sym judged ∙ h))
-
-    pub all_read : length file ≤ longest → rows_end n + t.total ≡ length file → t.fit ≡ true → Entries n ≡ found (read file)
-    all_read short adds fit =
-        ap Entries (c ∙ sym (length-entries (row_at file) (count_of file) 0 (drop (rows_end (count_of file)) file)))
-        ∙ sym (ap found (is_good file short (omega (arith, summed)) (sym judged ∙ fit)))
+      pub all_read : length file ≤ longest → rows_end n + t ≡ length file → Some n ≡ found (read file)
+      all_read short adds =
+          ap Some (c ∙ sym (length-entries (row_at file) (count_of file) 0 (drop (rows_end (count_of file)) file)))
+          ∙ sym (ap found (is_good file short (omega (arith, summed.1)) summed.0))
 
 -- ---- writing
 
@@ -59,12 +52,12 @@ same true x = refl
 same false x = refl
 
 module _ (kinds lengths bodies out : List ℕ) where
-  pub unlike : (length kinds ≡ length lengths → ⊥) → written 0 out ≡ write_into kinds lengths bodies out
+  pub unlike : (length kinds ≡ length lengths → ⊥) → written None out ≡ write_into kinds lengths bodies out
   unfolding write_into
   unlike h = taken _ _ (ap not (ne_eqb _ _ h)) refl
 
   -- no file holds so many rows, whatever the bodies
-  pub too_many : longest < length kinds → written 0 out ≡ write_into kinds lengths bodies out
+  pub too_many : longest < length kinds → written None out ≡ write_into kinds lengths bodies out
   unfolding write_into
   too_many h = go (eqb (total rows n 0) (length bodies)) refl
     where
@@ -74,7 +67,7 @@ module _ (kinds lengths bodies out : List ℕ) where
       rows : ℕ → Row
       rows = row_of kinds lengths
 
-      go : (b : Bool) → eqb (total rows n 0) (length bodies) ≡ b → written 0 out ≡ write_into kinds lengths bodies out
+      go : (b : Bool) → eqb (total rows n 0) (length bodies) ≡ b → written None out ≡ write_into kinds lengths bodies out
       go true e =
           let size = length-write rows n bodies (eqb-true (total rows n 0) (length bodies) e) in
           simp (lt-ltb longest (length (write (entries rows n 0 bodies))) (omega (arith, size)), same)
@@ -83,7 +76,7 @@ module _ (kinds lengths bodies out : List ℕ) where
   -- past all guards
   pub into : (file : List ℕ) → write (entries (row_of kinds lengths) (length kinds) 0 bodies) ≡ file → length kinds ≡ length lengths
       → total (row_of kinds lengths) (length kinds) 0 ≡ length bodies → all_fit (row_of kinds lengths) (length kinds) 0 ≡ true
-      → length file ≤ longest → length file ≤ length out → written (length file) (over file out) ≡ write_into kinds lengths bodies out
+      → length file ≤ longest → length file ≤ length out → written (Some (length file)) (over file out) ≡ write_into kinds lengths bodies out
   unfolding write_into
   into file w like sum fit small room =
       let is = write (entries (row_of kinds lengths) (length kinds) 0 bodies) in
@@ -91,44 +84,46 @@ module _ (kinds lengths bodies out : List ℕ) where
       (passed _ _ (ap not (eq-eqb _ _ sum))
       (passed _ _ (ap not fit)
       (passed _ _ (le-ltb longest (length is) (rw w small))
-      (passed _ _ (le-ltb (length out) (length is) (rw w room)) (ap (λ (z : List ℕ). written (length z) (over z out)) (sym w))))))
+      (passed _ _ (le-ltb (length out) (length is) (rw w room)) (ap (λ (z : List ℕ). written (Some (length z)) (over z out)) (sym w))))))
 
-  module _ (t : Table) (e : t ≡ table_of (row_of kinds lengths) (length kinds)) where
-    given : t.total ≡ total (row_of kinds lengths) (length kinds) 0
-    given = ap (λ (x : Table). x.total) e
+  pub unfit : None ≡ sizes_of (row_of kinds lengths) (length kinds) → written None out ≡ write_into kinds lengths bodies out
+  unfolding write_into
+  unfit e = simp (sizes_none _ _ e, same)
 
-    fitting : t.fit ≡ all_fit (row_of kinds lengths) (length kinds) 0
-    fitting = ap (λ (x : Table). x.fit) e
+  module _ (t : ℕ) (e : Some t ≡ sizes_of (row_of kinds lengths) (length kinds)) where
+    given : (all_fit (row_of kinds lengths) (length kinds) 0 ≡ true) × (t ≡ total (row_of kinds lengths) (length kinds) 0)
+    given = sizes_some _ _ t e
 
-    pub other_bodies : (t.total ≡ length bodies → ⊥) → written 0 out ≡ write_into kinds lengths bodies out
+    pub other_bodies : (t ≡ length bodies → ⊥) → written None out ≡ write_into kinds lengths bodies out
     unfolding write_into
-    other_bodies h = simp (ne_eqb (total (row_of kinds lengths) (length kinds) 0) (length bodies) (λ a. h (given ∙ a)), same)
+    other_bodies h = simp (ne_eqb (total (row_of kinds lengths) (length kinds) 0) (length bodies) (λ a. h (given.1 ∙ a)), same)
 
-    pub unfit : t.fit ≡ false → written 0 out ≡ write_into kinds lengths bodies out
-    unfolding write_into
-    unfit h = simp (sym fitting ∙ h, same)
+    module _ (b : t ≡ length bodies) where
+      size : length (write (entries (row_of kinds lengths) (length kinds) 0 bodies)) ≡ rows_end (length kinds) + t
+      size = length-write (row_of kinds lengths) (length kinds) bodies (sym given.1 ∙ b) ∙ ap (λ (k : ℕ). rows_end (length kinds) + k) (sym b)
 
-    module _ (b : t.total ≡ length bodies) where
-      size : length (write (entries (row_of kinds lengths) (length kinds) 0 bodies)) ≡ rows_end (length kinds) + t.total
-      size = length-write (row_of kinds lengths) (length kinds) bodies (sym given ∙ b) ∙ ap (λ (k : ℕ). rows_end (length kinds) + k) (sym b)
-
-      pub too_large : longest < rows_end (length kinds) + t.total → written 0 out ≡ write_into kinds lengths bodies out
+      pub too_large : longest < rows_end (length kinds) + t → written None out ≡ write_into kinds lengths bodies out
       unfolding write_into
-      too_large h = simp (size, lt-ltb longest (rows_end (length kinds) + t.total) h, same)
+      too_large h = simp (size, lt-ltb longest (rows_end (length kinds) + t) h, same)
 
-      pub no_room : length out < rows_end (length kinds) + t.total → written 0 out ≡ write_into kinds lengths bodies out
+      pub no_room : length out < rows_end (length kinds) + t → written None out ≡ write_into kinds lengths bodies out
       unfolding write_into
-      no_room h = simp (size, lt-ltb (length out) (rows_end (length kinds) + t.total) h, same)
+      no_room h = simp (size, lt-ltb (length out) (rows_end (length kinds) + t) h, same)
 
-      pub all-written : length kinds ≡ length lengths → t.fit ≡ true
-          → rows_end (length kinds) + t.total ≤ longest → rows_end (length kinds) + t.total ≤ length out
+      pub all_written : length kinds ≡ length lengths → rows_end (length kinds) + t ≤ longest → rows_end (length kinds) + t ≤ length out
           → (mid end : List ℕ) → mid ≡ over (contents_bytes (row_of kinds lengths) (length kinds)) out → end ≡ put (rows_end (length kinds)) bodies mid
-          → written (rows_end (length kinds) + t.total) end ≡ write_into kinds lengths bodies out
-      all-written like fit small room mid end m p =
+          → written (Some (rows_end (length kinds) + t)) end ≡ write_into kinds lengths bodies out
+      all_written like small room mid end m p =
           let rows = row_of kinds lengths in
           let n = length kinds in
           let whole = put-over (contents_bytes rows n) bodies out (rows_end n) (omega (arith, length-rows rows n 0)) in
-          let is = p ∙ ap (put (rows_end n) bodies) m ∙ whole ∙ ap (λ (z : List ℕ). over z out) (sym (write_entries rows n bodies (sym given ∙ b))) in
-          ap (λ (k : ℕ). written k end) (sym size)
-          ∙ ap (written (length (write (entries rows n 0 bodies)))) is
-          ∙ into _ refl like (sym given ∙ b) (sym fitting ∙ fit) (rw size small) (rw size room)
+          let is = p ∙ ap (put (rows_end n) bodies) m ∙ whole ∙ ap (λ (z : List ℕ). over z out) (sym (write_entries rows n bodies (sym given.1 ∙ b))) in
+          ap (λ (k : ℕ). written (Some k) end) (sym size)
+          ∙ ap (written (Some (length (write (entries rows n 0 bodies))))) is
+          ∙ into _ refl like (sym given.1 ∙ b) given.0 (rw size small) (rw size room)
+
+-- ---- by name, for the attributes of the code
+
+pub ruleset reading = (too_long, cut_off, not_fit, not_summed, all_read)
+
+pub ruleset no_writing = (unlike, too_many, unfit, other_bodies, too_large, no_room)

@@ -1,11 +1,9 @@
 -- The house file (02, Q-2): reading it and writing it, and both as the code has them.
-use Rattle.std.specs.Prelude.{ℕ, zero, suc, ◌+◌, ◌*◌, Bool, true, ◌&&◌, not, List, [], ◌∷◌, ◌++◌, eqb, ltb, length, get_or, take, drop}
+use Rattle.std.specs.Prelude.{ℕ, zero, suc, ◌+◌, ◌*◌, Bool, true, ◌&&◌, not, List, [], ◌∷◌, ◌++◌, eqb, ltb, length, get_or, take, drop, Option, Some, None}
 use Rattle.base.specs.Pick.{pick}
 use Rattle.base.specs.Bytes.{over, low2}
 use Rattle.housefile.specs.Kinds.{row_fits_value}
 use Rattle.housefile.specs.declared.Row.{Row}
-use Rattle.housefile.specs.declared.Found.{Found}
-use Rattle.housefile.specs.declared.Found.TheVariants.{Bad, Entries}
 
 -- an entry: its kind, 0 to 6, and its body (02, Q-2)
 pub record Entry : Type 0 where
@@ -92,22 +90,22 @@ write es = low2 (length es) ++ (rows_of es ++ bodies_of es)
 
 -- ---- the same in code: a capture is its file, or slices with the kinds, the lengths and the bodies one behind the other (docs/DECISIONS.md, 57)
 
--- what the reader answers: bad, or how many entries (02, Q-2)
-abbrev pub found : Capture → Found
-found bad = Bad
-found (good es) = Entries (length es)
+-- what the reader answers: nothing of a bad file, or how many entries (02, Q-2)
+abbrev pub found : Capture → Option ℕ
+found bad = None
+found (good es) = Some (length es)
 
 -- the row of entry i in the slices that the writer is given (docs/DECISIONS.md, 57)
 abbrev pub row_of : (kinds lengths : List ℕ) → ℕ → Row
 row_of kinds lengths i = row (get_or kinds i 0) (get_or lengths i 0)
 
--- what the writer leaves: how long the file is, 0 for none, and the lent slice (docs/DECISIONS.md, 57)
+-- what the writer leaves: how long the file is, if there is one, and the lent slice (docs/DECISIONS.md, 57)
 pub record Written : Type 0 where
-  pub size : ℕ
+  pub size : Option ℕ
   pub out : List ℕ
 
 -- .. part by part (docs/DECISIONS.md, 57)
-abbrev pub written : ℕ → List ℕ → Written
+abbrev pub written : Option ℕ → List ℕ → Written
 written size out = record { size = size; out = out }
 
 -- the file of the capture with these kinds, lengths and bodies, at the start of the lent slice; none, and nothing written, where the slices are no capture,
@@ -117,9 +115,9 @@ write_into kinds lengths bodies out =
     let n = length kinds in
     let rows = row_of kinds lengths in
     let file = write (entries rows n 0 bodies) in
-    pick (not (eqb n (length lengths))) (written 0 out)
-    (pick (not (eqb (total rows n 0) (length bodies))) (written 0 out)
-    (pick (not (all_fit rows n 0)) (written 0 out)
-    (pick (ltb longest (length file)) (written 0 out)
-    (pick (ltb (length out) (length file)) (written 0 out)
-    (written (length file) (over file out))))))
+    pick (not (eqb n (length lengths))) (written None out)
+    (pick (not (eqb (total rows n 0) (length bodies))) (written None out)
+    (pick (not (all_fit rows n 0)) (written None out)
+    (pick (ltb longest (length file)) (written None out)
+    (pick (ltb (length out) (length file)) (written None out)
+    (written (Some (length file)) (over file out))))))

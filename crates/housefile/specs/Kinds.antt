@@ -1,8 +1,9 @@
 -- What an entry may be, and how long its body is (02, Q-2).
-use Rattle.std.specs.Prelude.{ℕ, Bool, true, ◌&&◌, eqb, leb}
+use Rattle.std.specs.Prelude.{ℕ, Bool, true, ◌&&◌, eqb, leb, Result, Ok, Err}
 use Rattle.base.specs.Pick.{pick}
 use Rattle.housefile.specs.declared.Kind.{Kind}
 use Rattle.housefile.specs.declared.Kind.TheVariants.{Command, Success, Failure, SetWire, PlatformReset, EspiReset, TakeWrite}
+use Rattle.housefile.specs.declared.UnknownKind.{UnknownKind}
 use Rattle.housefile.specs.declared.Row.{Row}
 
 -- "Kinds 0 to 6" (02, Q-2): any other is "an unknown kind"
@@ -19,6 +20,10 @@ kind_of kind =
     (pick (eqb kind 4) PlatformReset
     (pick (eqb kind 5) EspiReset
     TakeWrite)))))
+
+-- .. or that it is "an unknown kind" (02, Q-2)
+abbrev pub kind_named : ℕ → Result Kind UnknownKind
+kind_named kind = pick (known kind) (Ok (kind_of kind)) (Err (record { 0 = kind }))
 
 -- "Answers begin with the 4-byte serial; set wire is index, bit, value; kinds 4 to 6 have no body": wrong are "an answer under 4 bytes, a failure answer
 -- over 4, a set wire not of 3" (02, Q-2)

@@ -1,12 +1,11 @@
 -- The laws of the house file for those above: rows one after the other, and what a good file is.
-use Rattle.std.specs.Prelude.{ℕ, zero, suc, ◌+◌, ◌<◌, ◌≤◌, Bool, true, false, not, List, ◌≡◌, refl, eqb, ltb, length, drop}
+use Rattle.std.specs.Prelude.{ℕ, zero, suc, ◌+◌, ◌<◌, ◌≤◌, Bool, true, false, not, List, ◌≡◌, refl, eqb, ltb, length, drop, Some}
 use Rattle.std.proofs.Common.{inl, inr, sym, subst, ap, ◌∙◌, eq-or-lt_of_le, arith}
 use borrow.Author.Tests.{lt-ltb, le-ltb, eq-eqb, ne_eqb, ltb-false, eqb-true, not-false}
 use Rattle.base.specs.Pick.{pick, pick_ind, and_left, and_right}
 use Rattle.housefile.specs.Kinds.{row_fits_value}
 use Rattle.housefile.specs.Format.{Entry, Capture, bad, good, longest, count_of, rows_end, row_at, total, all_fit, entries, read, found}
 use Rattle.housefile.specs.Statements.{AddsUp}
-use Rattle.housefile.specs.declared.Found.TheVariants.{Entries}
 use Rattle.housefile.specs.declared.Row.{Row}
 
 -- ---- rows one after the other
@@ -79,7 +78,7 @@ good_is file es e =
       is = cc;
     }
 
-tell : (file : List ℕ) (c : Capture) → read file ≡ c → (n : ℕ) → Entries n ≡ found c
+tell : (file : List ℕ) (c : Capture) → read file ≡ c → (n : ℕ) → Some n ≡ found c
     → (n ≡ count_of file) × (read file ≡ good (entries (row_at file) n 0 (drop (rows_end n) file)))
 tell file bad e n f = absurd (let z : ◌≡◌ {A = ℕ} 0 1 = cc in omega arith)
 tell file (good es) e n f =
@@ -89,7 +88,7 @@ tell file (good es) e n f =
     (c, e ∙ ap good (g.is ∙ ap (λ (j : ℕ). entries (row_at file) j 0 (drop (rows_end j) file)) (sym c)))
 
 -- where the code's reader tells of n entries, the file counts n, and these are they
-pub found-entries : (file : List ℕ) (n : ℕ) → Entries n ≡ found (read file)
+pub found-entries : (file : List ℕ) (n : ℕ) → Some n ≡ found (read file)
     → (n ≡ count_of file) × (read file ≡ good (entries (row_at file) n 0 (drop (rows_end n) file)))
 found-entries file n e = tell file (read file) refl n e
 

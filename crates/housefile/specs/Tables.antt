@@ -1,22 +1,18 @@
 -- The first rows of a table, row after row: what the loops of the reader and the writer keep.
-use Rattle.std.specs.Prelude.{ℕ, zero, suc, ◌+◌, ◌*◌, ◌<◌, ◌≤◌, Bool, true, false, ◌&&◌, List, [], ◌∷◌, ◌++◌, ◌≡◌, refl, length, get_or, take, drop}
-use Rattle.std.proofs.Math.Bool.{and-true}
-use Rattle.std.proofs.Common.{append-nil, sym, ap, ◌∙◌, zero-add, add-one, arith, take-append-drop, ne_eqb}
+use Rattle.std.specs.Prelude.{ℕ, zero, suc, ◌+◌, ◌*◌, ◌<◌, ◌≤◌, Bool, true, false, ◌&&◌, List, [], ◌∷◌, ◌++◌, ◌≡◌, refl, length, get_or, take, drop, Option, Some, None}
+use Rattle.std.proofs.Math.Bool.{and-true, and_assoc}
+use Rattle.std.proofs.Common.{true≢false, append-nil, sym, ap, ◌∙◌, zero-add, add-one, arith, take-append-drop, ne_eqb}
+use Rattle.base.specs.Pick.{pick}
 use Rattle.base.specs.Bytes.{low2, over, put, put-over, put_first, put-put}
 use Rattle.housefile.specs.Kinds.{kind_of, row_fits_value}
 use Rattle.housefile.specs.Format.{total, all_fit, rows_begin, row, row_at}
-use Rattle.housefile.specs.Laws.{total_next}
+use Rattle.housefile.specs.Laws.{total_next, fit_at}
 use Rattle.housefile.specs.declared.Kind.TheVariants.{TakeWrite}
 use Rattle.housefile.specs.declared.Row.{Row}
-use Rattle.housefile.specs.declared.Table.{Table}
 
--- the first n rows: whether each may stand, and how long their bodies are together (02, Q-2)
-abbrev pub table_of : (ℕ → Row) → ℕ → Table
-table_of rows n = record { fit = all_fit rows n 0; total = total rows n 0 }
-
--- .. and one row more (02, Q-2)
-abbrev pub table_with : Table → Row → Table
-table_with t r = record { fit = t.fit && row_fits_value r; total = t.total + r.length }
+-- how long the bodies of the first n rows are together, if each row may stand (02, Q-2)
+abbrev pub sizes_of : (ℕ → Row) → ℕ → Option ℕ
+sizes_of rows n = pick (all_fit rows n 0) (Some (total rows n 0)) None
 
 -- n rows from row i on, as bytes (02, Q-2)
 unfoldable pub row_bytes : (ℕ → Row) → (n i : ℕ) → List ℕ
@@ -29,14 +25,14 @@ contents_bytes rows n = low2 n ++ row_bytes rows n 0
 
 -- ---- a kind, and a row
 
--- a byte above 5, for the last arm of the code
+-- a byte above 5 is the last kind's
 pub last_kind : (byte : ℕ)
     → (((((Unit {0} × (byte ≡ 0 → ⊥)) × (byte ≡ 1 → ⊥)) × (byte ≡ 2 → ⊥)) × (byte ≡ 3 → ⊥)) × (byte ≡ 4 → ⊥)) × (byte ≡ 5 → ⊥)
     → TakeWrite ≡ kind_of byte
 last_kind byte ((((((_, a), b), d), e), f), g) =
     simp (ne_eqb byte 0 a, ne_eqb byte 1 b, ne_eqb byte 2 d, ne_eqb byte 3 e, ne_eqb byte 4 f, ne_eqb byte 5 g)
 
--- a row whose bytes the code names by their places
+-- a row whose bytes are named by their places
 pub row_read : (file : List ℕ) (i r : ℕ)
     → r ≡ get_or file (rows_begin + 3 * i + 1) 0 + get_or file (rows_begin + 3 * i + 2) 0 * 256 → row (get_or file (rows_begin + 3 * i) 0) r ≡ row_at file i
 row_read file i r e =
@@ -45,35 +41,58 @@ row_read file i r e =
 
 -- ---- a row more
 
-and_assoc : (a b d : Bool) → (a && (b && d)) ≡ (a && b && d)
-and_assoc true b d = refl
-and_assoc false b d = refl
-
 fit_next : (rows : ℕ → Row) (n i : ℕ) → all_fit rows (suc n) i ≡ (all_fit rows n i && row_fits_value (rows (i + n)))
 unfolding all_fit
 fit_next rows zero i = and-true (row_fits_value (rows i)) ∙ ap (λ (k : ℕ). row_fits_value (rows k)) (omega arith)
 fit_next rows (suc n) i =
     ap (λ (b : Bool). row_fits_value (rows i) && b)
     (fit_next rows n (suc i) ∙ ap (λ (k : ℕ). all_fit rows n (suc i) && row_fits_value (rows k)) (omega arith))
-    ∙ and_assoc (row_fits_value (rows i)) (all_fit rows n (suc i)) (row_fits_value (rows (i + suc n)))
+    ∙ sym (and_assoc (row_fits_value (rows i)) (all_fit rows n (suc i)) (row_fits_value (rows (i + suc n))))
 
--- what the loops over rows keep: the table of the first i; no body is longer than a 16-bit length says (02, Q-2)
-abbrev pub Kept : (ℕ → Row) → ℕ → Table → Type 0
-Kept rows i t = (t ≡ table_of rows i) × (t.total ≤ 65535 * i)
+-- what the loops over rows keep: each of the first i may stand, and so long are their bodies; none is longer than a 16-bit length says (02, Q-2)
+pub record Kept (rows : ℕ → Row) (i t : ℕ) : Type 0 where
+  pub fit : all_fit rows i 0 ≡ true
+  pub sum : t ≡ total rows i 0
+  pub most : t ≤ 65535 * i
 
-pub none_yet : (rows : ℕ → Row) → Kept rows 0 (record { fit = true; total = 0 })
+pub none_yet : (rows : ℕ → Row) → Kept rows 0 0
 unfolding total all_fit
-none_yet rows = (refl, omega arith)
+none_yet rows = record { fit = refl; sum = refl; most = omega arith }
 
-table_next : (rows : ℕ → Row) (i : ℕ) → table_with (table_of rows i) (rows i) ≡ table_of rows (i + 1)
-table_next rows i = rw (add-one, fit_next rows i 0, total_next rows i 0, zero-add)
+-- with the next row, which may stand
+pub one_more : (rows : ℕ → Row) (i t : ℕ) (r : Row)
+    → Kept rows i t → (r ≡ rows i) × (r.length < 65536) → row_fits_value r ≡ true → Kept rows (i + 1) (t + r.length)
+one_more rows i t r k (row, short) f =
+    let e : row_fits_value (rows i) ≡ true = ap row_fits_value (sym row) ∙ f in
+    let l : r.length ≡ (rows i).length = ap (λ (x : Row). x.length) row in
+    record {
+      fit = rw (add-one i, fit_next rows i 0, zero-add, k.fit) e;
+      sum = rw (add-one i, total_next rows i 0, zero-add) (omega (arith, k.sum, l));
+      most = omega (arith, k.most, short);
+    }
 
-pub one_more : (rows : ℕ → Row) (i : ℕ) (t u : Table) (r : Row)
-    → Kept rows i t → (r ≡ rows i) × (r.length < 65536) → u ≡ table_with t r → Kept rows (i + 1) u
-one_more rows i t u r (is, most) (row, short) e = (
-  e ∙ ap (λ (x : Table). table_with x r) is ∙ ap (table_with (table_of rows i)) row ∙ table_next rows i,
-  omega (arith, ap (λ (x : Table). x.total) e),
-)
+-- .. which may not, so not all n may
+pub one_wrong : (rows : ℕ → Row) (n i : ℕ) (r : Row) → i < n → r ≡ rows i → row_fits_value r ≡ false → None ≡ sizes_of rows n
+one_wrong rows n i r l row f = go (all_fit rows n 0) refl
+  where
+    go : (b : Bool) → all_fit rows n 0 ≡ b → None ≡ pick b (Some (total rows n 0)) None
+    go true e = absurd (true≢false (sym (fit_at rows n i e l) ∙ ap row_fits_value (sym row) ∙ f))
+    go false e = refl
+
+-- what the sizes say
+pub sizes_none : (rows : ℕ → Row) (n : ℕ) → None ≡ sizes_of rows n → all_fit rows n 0 ≡ false
+sizes_none rows n h = go (all_fit rows n 0) h
+  where
+    go : (b : Bool) → None ≡ pick b (Some (total rows n 0)) None → b ≡ false
+    go true e = cc
+    go false e = refl
+
+pub sizes_some : (rows : ℕ → Row) (n t : ℕ) → Some t ≡ sizes_of rows n → (all_fit rows n 0 ≡ true) × (t ≡ total rows n 0)
+sizes_some rows n t h = go (all_fit rows n 0) h
+  where
+    go : (b : Bool) → Some t ≡ pick b (Some (total rows n 0)) None → (b ≡ true) × (t ≡ total rows n 0)
+    go true e = (refl, cc)
+    go false e = cc
 
 -- ---- their bytes
 
@@ -95,9 +114,9 @@ pub put_none : (rows : ℕ → Row) (l : List ℕ) → Put rows 0 l l
 unfolding put row_bytes
 put_none rows l = sym (ap (λ (z : List ℕ). z ++ drop rows_begin l) (append-nil (take rows_begin l)) ∙ take-append-drop rows_begin l)
 
-pub put-row : (rows : ℕ → Row) (i : ℕ) (l now next bytes : List ℕ) → rows_begin ≤ length l
+pub put_row : (rows : ℕ → Row) (i : ℕ) (l now next bytes : List ℕ) → rows_begin ≤ length l
     → Put rows i l now → bytes ≡ (rows i).kind ∷ low2 (rows i).length → next ≡ put (rows_begin + 3 * i) bytes now → Put rows (i + 1) l next
-put-row rows i l now next bytes h e b n =
+put_row rows i l now next bytes h e b n =
     let r = ap (λ (z : List ℕ). row_bytes rows i 0 ++ z) b ∙ sym (rows_next rows i 0 i (zero-add i)) ∙ ap (λ (k : ℕ). row_bytes rows k 0) (sym (add-one i)) in
     n
     ∙ ap (put (rows_begin + 3 * i) bytes) e

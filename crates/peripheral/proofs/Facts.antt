@@ -1,6 +1,6 @@
 -- What the soundness test of the channel says, part by part: the facts that readers of a sound state cite.
 -- ---- sizes
-use Rattle.std.specs.Prelude.{◌≡◌, ℕ, ◌+◌, ◌%◌, ◌≤◌, true, ◌==◌, nat_le, nat_lt, refl}
+use Rattle.std.specs.Prelude.{◌≡◌, ℕ, ◌+◌, ◌%◌, ◌≤◌, true, ◌==◌, nat_le, nat_lt, refl, Some}
 use Rattle.std.proofs.Common.{ap, ◌∙◌, arith, eqb-true, ltb-true, leb-true}
 use Rattle.base.specs.Pick.{pick_ind, and_left, and_right}
 use Rattle.registers.specs.Registers.{payload_legal, read_legal}
@@ -12,7 +12,6 @@ use Rattle.peripheral.specs.declared.Request.{Request}
 use Rattle.peripheral.specs.declared.Np.{Np}
 use Rattle.peripheral.specs.declared.Np.TheVariants.{Free, Waiting, Ready, Failed}
 use Rattle.peripheral.specs.declared.Posted.{Posted}
-use Rattle.peripheral.specs.declared.Write.TheVariants.{Held}
 use Rattle.peripheral.specs.Sound.{within, io_made, made_as_value, request_made, sent_right, sound_request, sound_write}
 use Rattle.peripheral.specs.Facts.{Common, MadeIoRead, MadeIoWrite, MadeMemoryRead, MadeRequest, MadeWrite, ReadyRequest, after-piece, bytes_fit, free_made, legal_payload, legal_read, made_io, next_most, ready_made, sent_of}
 
@@ -107,7 +106,7 @@ failed_request q e = request_made_lem q e
 
 -- ---- a posted write that a command makes
 
-pub held-write : (w : Posted) → sound_write (Held w) ≡ true → MadeWrite w
+pub held-write : (w : Posted) → sound_write (Some w) ≡ true → MadeWrite w
 unfolding sound_write
 held-write w e =
     let p = legal_payload w.payload (and_left (payload_legal w.payload) _ e) in

@@ -1,6 +1,6 @@
 -- A sound channel's bytes give it back behind whatever stands before them, and are below 256; what such numbers give is within its widths.
 -- ---- lengths
-use Rattle.std.specs.Prelude.{◌≡◌, ℕ, ◌^◌, ◌<◌, true, List, ◌++◌, length}
+use Rattle.std.specs.Prelude.{◌≡◌, ℕ, ◌^◌, ◌<◌, true, List, ◌++◌, length, Option, Some, None}
 use Rattle.std.proofs.Common.{append_assoc, sym, ap, ◌∙◌, arith, ltb-true}
 use Rattle.base.specs.Pick.{and_left, and_right}
 use Rattle.base.specs.Bytes.{low4, number4}
@@ -10,9 +10,8 @@ use Rattle.base.specs.AllBytes.{AllBytes, all_cons, all_append, all-low4}
 use Rattle.peripheral.specs.declared.Request.{Request}
 use Rattle.peripheral.specs.declared.Np.{Np}
 use Rattle.peripheral.specs.declared.Np.TheVariants.{Free, Waiting, Ready, Failed}
-use Rattle.peripheral.specs.declared.Write.{Write}
-use Rattle.peripheral.specs.declared.Write.TheVariants.{Empty, Held}
 use Rattle.peripheral.specs.declared.Peripheral.{Peripheral}
+use Rattle.peripheral.specs.declared.Posted.{Posted}
 use Rattle.peripheral.specs.Sound.{sound_request, sound_write, fits_request, fits_write, fits_peripheral}
 use Rattle.peripheral.specs.Facts.{MadeRequest}
 use Rattle.peripheral.proofs.Facts.{waiting_request, failed_request, ready_request, held-write}
@@ -21,14 +20,14 @@ use Rattle.peripheral.specs.Packing.{all-write, all_numbers, all_request, kind_b
 
 -- ---- what a packed part gives back
 
-write-back : (p t : List ℕ) (w : Write) → length p ≡ 12 → sound_write w ≡ true → fits_write w ≡ true → write_in (p ++ (write_bytes_value w ++ t)) ≡ w
-write-back p t Empty h s f = ap (λ (n : ℕ). write_of n (posted_in (p ++ (write_bytes_value Empty ++ t))))
-    (past p (write_bytes_value Empty ++ t) 12 0 (omega arith))
-write-back p t (Held w) h s f =
+write-back : (p t : List ℕ) (w : Option Posted) → length p ≡ 12 → sound_write w ≡ true → fits_write w ≡ true → write_in (p ++ (write_bytes_value w ++ t)) ≡ w
+write-back p t None h s f = ap (λ (n : ℕ). write_of n (posted_in (p ++ (write_bytes_value None ++ t))))
+    (past p (write_bytes_value None ++ t) 12 0 (omega arith))
+write-back p t (Some w) h s f =
     let m = held-write w s in
-    let l = write_bytes_value (Held w) ++ t in
+    let l = write_bytes_value (Some w) ++ t in
     ap (λ (n : ℕ). write_of n (posted_in (p ++ l))) (past p l 12 0 (omega arith))
-    ∙ ap Held
+    ∙ ap Some
     (posted_at p l h
     ∙ rw (
       back8 w.address (ltb-true _ _ f),

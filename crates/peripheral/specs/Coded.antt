@@ -1,6 +1,6 @@
 -- How the code decides what a definition says in another way: the laws that its proofs cite.
-use Rattle.std.specs.Prelude.{◌≡◌, ℕ, zero, suc, ◌+◌, ◌*◌, ◌%◌, ◌^◌, ◌≤◌, Bool, true, false, not, ◌&&◌, ◌||◌, List, ◌++◌, length, ◌==◌, ◌≢◌, nat_le, nat_lt, slice_index, refl}
-use Rattle.std.proofs.Common.{append_assoc, sym, ap, subst, ◌∙◌, add_comm, add-zero, arith, eqb-true, eq-eqb, ne_eqb, lt-ltb, le-ltb}
+use Rattle.std.specs.Prelude.{◌≡◌, ℕ, zero, suc, ◌+◌, ◌*◌, ◌%◌, ◌^◌, ◌≤◌, Bool, true, false, not, ◌&&◌, ◌||◌, ◌⊎◌, List, ◌++◌, length, ◌==◌, ◌≢◌, nat_le, nat_lt, slice_index, refl, Option, Some, None}
+use Rattle.std.proofs.Common.{append_assoc, sym, ap, subst, ◌∙◌, add_comm, add-zero, arith, eqb-true, eq-eqb, ne_eqb, lt-ltb, le-ltb, inl, inr}
 use Rattle.std.proofs.lemmas.Bool.{not-true, not-false}
 use Rattle.base.specs.Pick.{pick, and_right, taken, passed}
 use Rattle.base.specs.Bytes.{bit, low4, number4, number8, put, put-put}
@@ -22,10 +22,7 @@ use Rattle.peripheral.specs.declared.Request.{Request}
 use Rattle.peripheral.specs.declared.Np.{Np}
 use Rattle.peripheral.specs.declared.Np.TheVariants.{Free, Waiting, Ready, Failed}
 use Rattle.peripheral.specs.declared.Completion.{Completion}
-use Rattle.peripheral.specs.declared.Next.{Next}
-use Rattle.peripheral.specs.declared.Next.TheVariants.{Nothing, One}
 use Rattle.peripheral.specs.declared.Posted.{Posted}
-use Rattle.peripheral.specs.declared.Write.TheVariants.{Held}
 use Rattle.peripheral.specs.declared.Peripheral.{Peripheral}
 
 -- ---- guards: a call's answer x for the test t, and the guard `if !x`
@@ -89,28 +86,32 @@ success_handed k k' q sent r l l' e h =
 
 -- by the phase that it is in
 module _ (m n : Np) (l l' : List ℕ) (e : n ≡ m) where
-  abbrev Handed : Next → Np → Type 0
+  abbrev Handed : Option Completion → Np → Type 0
   Handed r z = (r ≡ first_of (upward z)) × (l' ≡ handed_bytes z l)
 
-  from_case : (r : Next) (z : Np) → n ≡ z → Handed r z → Handed r m
+  from_case : (r : Option Completion) (z : Np) → n ≡ z → Handed r z → Handed r m
   from_case r z f h = subst (Handed r) (sym f ∙ e) h
 
-  pub free_handed : n ≡ Free → l' ≡ l → Handed Nothing m
+  -- where nothing is ready
+  pub none_handed : (n ≡ Free) ⊎ ((q : Request) × (n ≡ Waiting q)) → l' ≡ l → Handed None m
   unfolding upward
-  free_handed f k = from_case Nothing Free f (refl, k)
+  none_handed (inl f) k = from_case None Free f (refl, k)
+  none_handed (inr f) k = from_case None (Waiting f.0) f.1 (refl, k)
 
-  pub waiting-handed : (q : Request) → n ≡ Waiting q → l' ≡ l → Handed Nothing m
-  unfolding upward
-  waiting-handed q f k = from_case Nothing (Waiting q) f (refl, k)
+  pub free_handed : n ≡ Free → l' ≡ l → Handed None m
+  free_handed f k = none_handed (inl f) k
+
+  pub waiting-handed : (q : Request) → n ≡ Waiting q → l' ≡ l → Handed None m
+  waiting-handed q f k = none_handed (inr (q, f)) k
 
   pub ready_handed : (q : Request) (sent : ℕ) (c : Completion) → n ≡ Ready q sent
-      → (c ≡ success_of q.kind q sent) × (l' ≡ put 29 (np_bytes (after_success q.kind q sent)) l) → Handed (One c) m
+      → (c ≡ success_of q.kind q sent) × (l' ≡ put 29 (np_bytes (after_success q.kind q sent)) l) → Handed (Some c) m
   unfolding upward handed
-  ready_handed q sent c f h = from_case (One c) (Ready q sent) f (ap One h.0, h.1)
+  ready_handed q sent c f h = from_case (Some c) (Ready q sent) f (ap Some h.0, h.1)
 
-  pub failed_handed : (q : Request) (c : Completion) → n ≡ Failed q → (c ≡ bare 0x0E q) × (l' ≡ put 29 (np_bytes Free) l) → Handed (One c) m
+  pub failed_handed : (q : Request) (c : Completion) → n ≡ Failed q → (c ≡ bare 0x0E q) × (l' ≡ put 29 (np_bytes Free) l) → Handed (Some c) m
   unfolding upward handed
-  failed_handed q c f h = from_case (One c) (Failed q) f (ap One h.0, h.1)
+  failed_handed q c f h = from_case (Some c) (Failed q) f (ap Some h.0, h.1)
 
 -- ---- what a byte says
 
@@ -119,7 +120,7 @@ kind_of_rest zero x y = absurd (x refl)
 kind_of_rest (suc zero) x y = absurd (y refl)
 kind_of_rest (suc (suc n)) x y = refl
 
-pub write_of_rest : (n : ℕ) (w : Posted) → (n ≢ 0) → Held w ≡ write_of n w
+pub write_of_rest : (n : ℕ) (w : Posted) → (n ≢ 0) → Some w ≡ write_of n w
 write_of_rest zero w x = absurd (x refl)
 write_of_rest (suc n) w x = refl
 
@@ -220,21 +221,13 @@ np_some (suc zero) q sent = le-ltb 1 1 (omega arith)
 np_some (suc (suc zero)) q sent = lt-ltb 1 2 (omega arith)
 np_some (suc (suc (suc n))) q sent = lt-ltb 1 (suc (suc (suc n))) (omega arith)
 
-pub status_by : (l : List ℕ) (a b c r : ℕ)
-    → a ≡ bit (slice_index l 12 == 0)
-    → b ≡ bit (slice_index l 29 == 0)
-    → c ≡ bit (nat_lt 1 (slice_index l 29))
-    → r ≡ a + b * 2 + c * 16
+pub status_by : (l : List ℕ) (r : ℕ)
+    → r ≡ bit (slice_index l 12 == 0) + bit (slice_index l 29 == 0) * 2 + bit (nat_lt 1 (slice_index l 29)) * 16
     → r ≡ peripheral_status (peripheral_in l)
-status_by l a b c r ea eb ec e =
+status_by l r e =
     let q = request_in l in
     let s = number4 56 l in
-    e
-    ∙ rw (
-      ea ∙ ap bit (write_none (slice_index l 12) (posted_in l)),
-      eb ∙ ap bit (np_none (slice_index l 29) q s),
-      ec ∙ ap bit (np_some (slice_index l 29) q s),
-    )
+    e ∙ rw (write_none (slice_index l 12) (posted_in l), np_none (slice_index l 29) q s, np_some (slice_index l 29) q s)
 
 -- ---- the bytes tested as they stand: the whole channel
 

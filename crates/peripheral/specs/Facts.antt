@@ -1,5 +1,5 @@
 -- What the soundness test of the channel says, part by part: the facts that readers of a sound state cite.
-use Rattle.std.specs.Prelude.{◌≡◌, ℕ, ◌+◌, ◌*◌, ◌%◌, ◌^◌, ◌<◌, ◌≤◌, Bool, true, false, ◌&&◌, ◌||◌, ltb, ◌⊎◌, ◌==◌, nat_lt, refl}
+use Rattle.std.specs.Prelude.{◌≡◌, ℕ, ◌+◌, ◌*◌, ◌%◌, ◌^◌, ◌<◌, ◌≤◌, Bool, true, false, ◌&&◌, ◌||◌, ltb, ◌⊎◌, ◌==◌, nat_lt, refl, Option, Some, None}
 use Rattle.std.proofs.Common.{true≢false, inl, inr, sym, subst, arith, eqb-true, ltb-true, lt-ltb, eq-eqb}
 use Rattle.std.proofs.lemmas.Bool.{eqb-false}
 use Rattle.base.specs.Pick.{or_either, pick_ind, and_left, and_right, and_true}
@@ -16,8 +16,6 @@ use Rattle.peripheral.specs.declared.Request.{Request}
 use Rattle.peripheral.specs.declared.Np.{Np}
 use Rattle.peripheral.specs.declared.Np.TheVariants.{Free, Waiting, Ready, Failed}
 use Rattle.peripheral.specs.declared.Posted.{Posted}
-use Rattle.peripheral.specs.declared.Write.{Write}
-use Rattle.peripheral.specs.declared.Write.TheVariants.{Empty, Held}
 use Rattle.peripheral.specs.declared.Peripheral.{Peripheral}
 use Rattle.peripheral.specs.Sound.{short_size, io_made, made_as_value, request_made, sent_right, sound_request, sound_write, nothing_held, sound_peripheral, fits_request}
 
@@ -183,12 +181,12 @@ pub record MadeWrite (w : Posted) : Type 0 where
 -- ---- "no queue is held while channel 0 is off"
 
 pub record NothingHeld (p : Peripheral) : Type 0 where
-  pub write : p.write ≡ Empty
+  pub write : p.write ≡ None
   pub request : p.request ≡ Free
 
-no_write : (w : Write) → pc_free w ≡ true → w ≡ Empty
-no_write Empty e = refl
-no_write (Held w) e = absurd (true≢false (sym e))
+no_write : (w : Option Posted) → pc_free w ≡ true → w ≡ None
+no_write None e = refl
+no_write (Some w) e = absurd (true≢false (sym e))
 
 pub no_request : (n : Np) → np_free n ≡ true → n ≡ Free
 no_request Free e = refl

@@ -1,5 +1,5 @@
 -- The channel's bytes in those of a state, as docs/STATE.md lays them out.
-use Rattle.std.specs.Prelude.{ℕ, zero, suc, Bool, true, false, ◌&&◌, List, ◌∷◌, ◌++◌, ◌==◌, nat_le, slice_index}
+use Rattle.std.specs.Prelude.{ℕ, zero, suc, Bool, true, false, ◌&&◌, List, ◌∷◌, ◌++◌, ◌==◌, nat_le, slice_index, Option, Some, None}
 use Rattle.base.specs.Pick.{pick}
 use Rattle.base.specs.Bytes.{low4, low8, number4, number8, put}
 use Rattle.peripheral.specs.Status.{pc_avail}
@@ -11,16 +11,14 @@ use Rattle.peripheral.specs.declared.Request.{Request}
 use Rattle.peripheral.specs.declared.Np.{Np}
 use Rattle.peripheral.specs.declared.Np.TheVariants.{Free, Waiting, Ready, Failed}
 use Rattle.peripheral.specs.declared.Posted.{Posted}
-use Rattle.peripheral.specs.declared.Write.{Write}
-use Rattle.peripheral.specs.declared.Write.TheVariants.{Empty, Held}
 use Rattle.peripheral.specs.declared.Peripheral.{Peripheral}
 
 -- ---- packing
 
 -- 12 to 28: the held write: 1 where one is held, address, length, payload size (docs/STATE.md; docs/DECISIONS.md, 27)
-abbrev pub write_bytes_value : Write → List ℕ
-write_bytes_value Empty = 0 ∷ (low8 0 ++ (low4 0 ++ low4 0))
-write_bytes_value (Held w) = 1 ∷ (low8 w.address ++ (low4 w.length ++ low4 w.payload))
+abbrev pub write_bytes_value : Option Posted → List ℕ
+write_bytes_value None = 0 ∷ (low8 0 ++ (low4 0 ++ low4 0))
+write_bytes_value (Some w) = 1 ∷ (low8 w.address ++ (low4 w.length ++ low4 w.payload))
 
 -- a request's kind, here (docs/DECISIONS.md, 27) and in the report of a look: "Looking yields the request's kind" (01, Requests, answers, pieces)
 abbrev pub kind_number : Kind → ℕ
@@ -61,9 +59,9 @@ abbrev pub posted_in : List ℕ → Posted
 posted_in l = record { address = number8 13 l; length = number4 21 l; payload = number4 25 l }
 
 -- byte 12: is one held (docs/DECISIONS.md, 27)
-abbrev pub write_of : ℕ → Posted → Write
-write_of zero w = Empty
-write_of (suc n) w = Held w
+abbrev pub write_of : ℕ → Posted → Option Posted
+write_of zero w = None
+write_of (suc n) w = Some w
 
 -- byte 30: the kind (docs/DECISIONS.md, 27)
 abbrev pub kind_of : ℕ → Kind
@@ -92,7 +90,7 @@ np_of (suc (suc zero)) q sent = Ready q sent
 np_of (suc (suc (suc n))) q sent = Failed q
 
 -- the held write in a state's bytes (docs/DECISIONS.md, 27)
-abbrev pub write_in : List ℕ → Write
+abbrev pub write_in : List ℕ → Option Posted
 write_in l = write_of (slice_index l 12) (posted_in l)
 
 -- the held request, with the bytes sent in 56 to 59 (docs/DECISIONS.md, 27)

@@ -1,5 +1,5 @@
 -- A sound channel's bytes give it back behind whatever stands before them, and are below 256; what such numbers give is within its widths.
-use Rattle.std.specs.Prelude.{◌≡◌, ℕ, zero, suc, ◌+◌, ◌^◌, ◌<◌, ◌≤◌, true, List, ◌++◌, length, slice_index, refl}
+use Rattle.std.specs.Prelude.{◌≡◌, ℕ, zero, suc, ◌+◌, ◌^◌, ◌<◌, ◌≤◌, true, List, ◌++◌, length, slice_index, refl, Option, Some, None}
 use Rattle.std.proofs.Common.{arith, lt-ltb}
 use Rattle.base.specs.Pick.{and_true}
 use Rattle.base.specs.Bytes.{low4, low8, number4, number8}
@@ -11,8 +11,6 @@ use Rattle.peripheral.specs.declared.Request.{Request}
 use Rattle.peripheral.specs.declared.Np.{Np}
 use Rattle.peripheral.specs.declared.Np.TheVariants.{Free, Waiting, Ready, Failed}
 use Rattle.peripheral.specs.declared.Posted.{Posted}
-use Rattle.peripheral.specs.declared.Write.{Write}
-use Rattle.peripheral.specs.declared.Write.TheVariants.{Empty, Held}
 use Rattle.peripheral.specs.declared.Peripheral.{Peripheral}
 use Rattle.peripheral.specs.Sound.{fits_request, fits_write, fits_peripheral}
 use Rattle.peripheral.specs.Facts.{MadeRequest}
@@ -20,9 +18,9 @@ use Rattle.peripheral.specs.Layout.{write_bytes_value, kind_number, request_byte
 
 -- ---- lengths
 
-pub write-length : (w : Write) → length (write_bytes_value w) ≡ 17
-write-length Empty = refl
-write-length (Held w) = refl
+pub write-length : (w : Option Posted) → length (write_bytes_value w) ≡ 17
+write-length None = refl
+write-length (Some w) = refl
 
 pub np_length : (n : Np) → length (np_bytes n) ≡ 31
 np_length Free = refl
@@ -74,9 +72,9 @@ kind_back IoWrite = refl
 
 -- ---- bytes below 256
 
-pub all-write : (w : Write) → AllBytes (write_bytes_value w)
-all-write Empty = all_cons (omega arith) (then8 0 (then4 0 (all-low4 0)))
-all-write (Held w) = all_cons (omega arith) (then8 w.address (then4 w.length (all-low4 w.payload)))
+pub all-write : (w : Option Posted) → AllBytes (write_bytes_value w)
+all-write None = all_cons (omega arith) (then8 0 (then4 0 (all-low4 0)))
+all-write (Some w) = all_cons (omega arith) (then8 w.address (then4 w.length (all-low4 w.payload)))
 
 kind_small : (k : Kind) → kind_number k < 256
 kind_small MemoryRead = omega arith

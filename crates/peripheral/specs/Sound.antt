@@ -1,6 +1,6 @@
 -- The channel's part of a sound state (01, Wires, last paragraph): one conjunct for each clause. "the request's serial the last given" holds by
 -- the channel's shape: its one serial is the held request's.
-use Rattle.std.specs.Prelude.{ℕ, ◌+◌, ◌*◌, ◌%◌, ◌^◌, Bool, true, ◌&&◌, ◌||◌, ◌==◌, nat_le, nat_lt}
+use Rattle.std.specs.Prelude.{ℕ, ◌+◌, ◌*◌, ◌%◌, ◌^◌, Bool, true, ◌&&◌, ◌||◌, ◌==◌, nat_le, nat_lt, Option, Some, None}
 use Rattle.registers.specs.Registers.{payload_legal, read_legal}
 use Rattle.peripheral.specs.Status.{pc_free, np_free}
 use Rattle.peripheral.specs.declared.Kind.{Kind}
@@ -9,8 +9,6 @@ use Rattle.peripheral.specs.declared.Request.{Request}
 use Rattle.peripheral.specs.declared.Np.{Np}
 use Rattle.peripheral.specs.declared.Np.TheVariants.{Free, Waiting, Ready, Failed}
 use Rattle.peripheral.specs.declared.Posted.{Posted}
-use Rattle.peripheral.specs.declared.Write.{Write}
-use Rattle.peripheral.specs.declared.Write.TheVariants.{Empty, Held}
 use Rattle.peripheral.specs.declared.Peripheral.{Peripheral}
 
 -- ---- "a held request or write is one that a command makes under the sizes recorded with it"
@@ -57,9 +55,9 @@ sound_request (Ready q sent) = request_made q && sent_right q.kind q sent
 sound_request (Failed q) = request_made q
 
 -- the write's clause: none, or one that a command makes (01, Sound state)
-unfoldable pub sound_write : Write → Bool
-sound_write Empty = true
-sound_write (Held w) = write_made w
+unfoldable pub sound_write : Option Posted → Bool
+sound_write None = true
+sound_write (Some w) = write_made w
 
 -- "no queue is held while channel 0 is off" (01, Sound state)
 abbrev pub nothing_held : Peripheral → Bool
@@ -79,9 +77,9 @@ fits_request (Ready q sent) = nat_lt q.address (2 ^ 64)
 fits_request (Failed q) = nat_lt q.address (2 ^ 64)
 
 -- so a write's: "03h (8)" (01, Commands)
-abbrev pub fits_write : Write → Bool
-fits_write Empty = true
-fits_write (Held w) = nat_lt w.address (2 ^ 64)
+abbrev pub fits_write : Option Posted → Bool
+fits_write None = true
+fits_write (Some w) = nat_lt w.address (2 ^ 64)
 
 -- and the serial counts "modulo 2^32" (01, Requests, answers, pieces)
 abbrev pub fits_peripheral : Peripheral → Bool

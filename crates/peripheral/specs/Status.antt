@@ -1,18 +1,17 @@
 -- The channel's word of the status (01, Registers and status): every bit is computed from its queue.
-use Rattle.std.specs.Prelude.{ℕ, ◌+◌, ◌*◌, Bool, true, false, List, [], ◌∷◌}
+use Rattle.std.specs.Prelude.{ℕ, ◌+◌, ◌*◌, Bool, true, false, List, [], ◌∷◌, Option, Some, None}
 use Rattle.base.specs.Bytes.{bit}
 use Rattle.peripheral.specs.Upward.{upward}
 use Rattle.peripheral.specs.declared.Np.{Np}
 use Rattle.peripheral.specs.declared.Np.TheVariants.{Free, Waiting, Ready, Failed}
-use Rattle.peripheral.specs.declared.Write.{Write}
-use Rattle.peripheral.specs.declared.Write.TheVariants.{Empty, Held}
 use Rattle.peripheral.specs.declared.Peripheral.{Peripheral}
 use Rattle.peripheral.specs.declared.Completion.{Completion}
+use Rattle.peripheral.specs.declared.Posted.{Posted}
 
 -- bit "0 PC_FREE (no write held)" (01, Registers and status; 004, table 4)
-abbrev pub pc_free : Write → Bool
-pc_free Empty = true
-pc_free (Held w) = false
+abbrev pub pc_free : Option Posted → Bool
+pc_free None = true
+pc_free (Some w) = false
 
 -- bit "1 NP_FREE (no request held)" (01, Registers and status; 004, table 4)
 abbrev pub np_free : Np → Bool

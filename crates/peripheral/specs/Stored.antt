@@ -1,5 +1,5 @@
 -- One queue's bytes put at their place are the whole channel's, where the others stand already; the status is read off the bytes.
-use Rattle.std.specs.Prelude.{◌≡◌, ℕ, ◌+◌, ◌≤◌, List, [], ◌∷◌, ◌++◌, length, take, drop, slice_index, slice_index_or, refl}
+use Rattle.std.specs.Prelude.{◌≡◌, ℕ, ◌+◌, ◌≤◌, List, [], ◌∷◌, ◌++◌, length, take, drop, slice_index, slice_index_or, refl, Option, Some, None}
 use Rattle.std.proofs.Common.{append_assoc, append-nil, sym, ap, ◌∙◌, arith, length-take-le}
 use Rattle.base.specs.Pick.{pick}
 use Rattle.base.specs.Bytes.{low4, number4, put, put_into}
@@ -11,11 +11,9 @@ use Rattle.peripheral.specs.Packing.{write-length, np_length, peripheral_length}
 use Rattle.peripheral.specs.declared.Request.{Request}
 use Rattle.peripheral.specs.declared.Np.{Np}
 use Rattle.peripheral.specs.declared.Np.TheVariants.{Free, Waiting, Ready, Failed}
-use Rattle.peripheral.specs.declared.Write.{Write}
-use Rattle.peripheral.specs.declared.Write.TheVariants.{Empty, Held}
 use Rattle.peripheral.specs.declared.Completion.{Completion}
-use Rattle.peripheral.specs.declared.Next.TheVariants.{Nothing, One}
 use Rattle.peripheral.specs.declared.Peripheral.{Peripheral}
+use Rattle.peripheral.specs.declared.Posted.{Posted}
 
 -- the channel's bytes stand at their place in l
 pub record Stands (p : Peripheral) (l : List ℕ) : Type 0 where
@@ -49,7 +47,8 @@ module _ (p q : Peripheral) (l : List ℕ) (h : Stands p l) where
       ∙ ap (put 12 (peripheral_bytes q)) (sym h.is)
 
 module _ (p : Peripheral) (l : List ℕ) (h : Stands p l) where
-  pub stored-write : (w : Write) → put 12 (write_bytes_value w) l ≡ put 12 (peripheral_bytes (record { write = w; request = p.request; serial = p.serial })) l
+  pub stored-write : (w : Option Posted)
+      → put 12 (write_bytes_value w) l ≡ put 12 (peripheral_bytes (record { write = w; request = p.request; serial = p.serial })) l
   stored-write w =
       stored p (record { write = w; request = p.request; serial = p.serial }) l h [] (write_bytes_value p.write) (write_bytes_value w)
       (np_bytes p.request ++ low4 p.serial) 12
@@ -94,11 +93,11 @@ bits_at (Waiting r) q sent = (refl, refl)
 bits_at (Ready r k) q sent = (refl, refl)
 bits_at (Failed r) q sent = (refl, refl)
 
-free_at : (x t : List ℕ) (w : Write) → length x ≡ 12 → pc_free (write_in (x ++ (write_bytes_value w ++ t))) ≡ pc_free w
-free_at x t Empty h = ap (λ (n : ℕ). pc_free (write_of n (posted_in (x ++ (write_bytes_value Empty ++ t)))))
-    (past x (write_bytes_value Empty ++ t) 12 0 (omega arith))
-free_at x t (Held w) h = ap (λ (n : ℕ). pc_free (write_of n (posted_in (x ++ (write_bytes_value (Held w) ++ t)))))
-    (past x (write_bytes_value (Held w) ++ t) 12 0 (omega arith))
+free_at : (x t : List ℕ) (w : Option Posted) → length x ≡ 12 → pc_free (write_in (x ++ (write_bytes_value w ++ t))) ≡ pc_free w
+free_at x t None h = ap (λ (n : ℕ). pc_free (write_of n (posted_in (x ++ (write_bytes_value None ++ t)))))
+    (past x (write_bytes_value None ++ t) 12 0 (omega arith))
+free_at x t (Some w) h = ap (λ (n : ℕ). pc_free (write_of n (posted_in (x ++ (write_bytes_value (Some w) ++ t)))))
+    (past x (write_bytes_value (Some w) ++ t) 12 0 (omega arith))
 
 status-at : (x t : List ℕ) (q : Peripheral) → length x ≡ 12 → peripheral_status (peripheral_in (x ++ (peripheral_bytes q ++ t))) ≡ peripheral_status q
 status-at x t q h =
@@ -126,17 +125,17 @@ status-stored q l h =
 
 -- ---- what a hand-over leaves, by what is handed over
 
-left_none : (cs : List Completion) (a l : List ℕ) → first_of cs ≡ Nothing → pick (some cs) a l ≡ l
+left_none : (cs : List Completion) (a l : List ℕ) → first_of cs ≡ None → pick (some cs) a l ≡ l
 left_none [] a l e = refl
 left_none (c ∷ cs) a l e = let z : ◌≡◌ {A = ℕ} 0 1 = cc in absurd (omega arith)
 
-left_one : (cs : List Completion) (c : Completion) (a l : List ℕ) → first_of cs ≡ One c → pick (some cs) a l ≡ a
+left_one : (cs : List Completion) (c : Completion) (a l : List ℕ) → first_of cs ≡ Some c → pick (some cs) a l ≡ a
 left_one [] c a l e = let z : ◌≡◌ {A = ℕ} 0 1 = cc in absurd (omega arith)
 left_one (x ∷ cs) c a l e = refl
 
 module _ (n : Np) (l : List ℕ) where
-  pub handed_none : first_of (upward n) ≡ Nothing → handed_bytes n l ≡ l
+  pub handed_none : first_of (upward n) ≡ None → handed_bytes n l ≡ l
   handed_none e = left_none (upward n) (put 29 (np_bytes (handed n)) l) l e
 
-  pub handed-one : (c : Completion) → first_of (upward n) ≡ One c → handed_bytes n l ≡ put 29 (np_bytes (handed n)) l
+  pub handed-one : (c : Completion) → first_of (upward n) ≡ Some c → handed_bytes n l ≡ put 29 (np_bytes (handed n)) l
   handed-one c e = left_one (upward n) c (put 29 (np_bytes (handed n)) l) l e

@@ -1,5 +1,5 @@
 -- The test of the bytes as they stand: what passes is packed again to the same bytes, and every packed channel passes.
-use Rattle.std.specs.Prelude.{◌≡◌, ℕ, zero, suc, ◌<◌, Bool, true, ◌&&◌, List, ◌∷◌, ◌++◌, length, ◌==◌, nat_le, slice_index, refl}
+use Rattle.std.specs.Prelude.{◌≡◌, ℕ, zero, suc, ◌<◌, Bool, true, ◌&&◌, List, ◌∷◌, ◌++◌, length, ◌==◌, nat_le, slice_index, refl, Option, Some, None}
 use Rattle.std.proofs.Common.{true≢false, append_assoc, sym, ap, ◌∙◌, arith, eqb-true, leb-true}
 use Rattle.base.specs.Pick.{and_left, and_right, and_true}
 use Rattle.base.specs.Bytes.{low4, low8, number4}
@@ -11,8 +11,6 @@ use Rattle.peripheral.specs.declared.Request.{Request}
 use Rattle.peripheral.specs.declared.Np.{Np}
 use Rattle.peripheral.specs.declared.Np.TheVariants.{Free, Waiting, Ready, Failed}
 use Rattle.peripheral.specs.declared.Posted.{Posted}
-use Rattle.peripheral.specs.declared.Write.{Write}
-use Rattle.peripheral.specs.declared.Write.TheVariants.{Empty, Held}
 use Rattle.peripheral.specs.declared.Peripheral.{Peripheral}
 use Rattle.peripheral.specs.Layout.{write_bytes_value, kind_number, number_bytes, np_bytes, peripheral_bytes, posted_in, write_of, kind_of, request_in, np_of, peripheral_in, tidy_write, blank, tidy_request, tidy_peripheral}
 use Rattle.peripheral.specs.Packing.{write-length, posted_at, request_at}
@@ -85,12 +83,12 @@ peripheral_again l byte e =
 
 -- ---- a packed channel passes
 
-write-tidy : (p t : List ℕ) (w : Write) → length p ≡ 12 → tidy_write (slice_index (p ++ (write_bytes_value w ++ t)) 12)
+write-tidy : (p t : List ℕ) (w : Option Posted) → length p ≡ 12 → tidy_write (slice_index (p ++ (write_bytes_value w ++ t)) 12)
     (posted_in (p ++ (write_bytes_value w ++ t))) ≡ true
-write-tidy p t Empty h =
-    let l = write_bytes_value Empty ++ t in
+write-tidy p t None h =
+    let l = write_bytes_value None ++ t in
     ap (tidy_write (slice_index (p ++ l) 12)) (posted_at p l h) ∙ rw (past p l 12 0 (omega arith))
-write-tidy p t (Held w) h = rw (past p (write_bytes_value (Held w) ++ t) 12 0 (omega arith))
+write-tidy p t (Some w) h = rw (past p (write_bytes_value (Some w) ++ t) 12 0 (omega arith))
 
 kind_tidy : (k : Kind) → nat_le (kind_number k) 2 ≡ true
 kind_tidy MemoryRead = refl

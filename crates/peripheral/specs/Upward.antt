@@ -1,5 +1,5 @@
 -- What GET_PC would hand over next (01, Requests, answers, pieces). PC_AVAIL, GET_PC's credit and the statements read this view.
-use Rattle.std.specs.Prelude.{ℕ, ◌+◌, List, [], ◌∷◌, ◌==◌}
+use Rattle.std.specs.Prelude.{ℕ, ◌+◌, List, [], ◌∷◌, ◌==◌, Option, Some, None}
 use Rattle.base.specs.Pick.{pick}
 use Rattle.pieces.specs.Marks.{mark_type}
 use Rattle.pieces.specs.Pieces.{next_size, next_mark}
@@ -9,8 +9,6 @@ use Rattle.peripheral.specs.declared.Request.{Request}
 use Rattle.peripheral.specs.declared.Np.{Np}
 use Rattle.peripheral.specs.declared.Np.TheVariants.{Free, Waiting, Ready, Failed}
 use Rattle.peripheral.specs.declared.Completion.{Completion}
-use Rattle.peripheral.specs.declared.Next.{Next}
-use Rattle.peripheral.specs.declared.Next.TheVariants.{Nothing, One}
 
 -- the next piece of a read, when `sent` bytes have gone; cut by the payload size held with it (01, Requests, answers, pieces; docs/DECISIONS.md, 19)
 abbrev pub next_of : Request → ℕ → ℕ
@@ -38,9 +36,9 @@ upward (Ready q sent) = success_of q.kind q sent ∷ []
 upward (Failed q) = bare 0x0E q ∷ []
 
 -- the head of that list, as a value: what a GET_PC is to "hand over" (demand 3)
-abbrev pub first_of : List Completion → Next
-first_of [] = Nothing
-first_of (c ∷ cs) = One c
+abbrev pub first_of : List Completion → Option Completion
+first_of [] = None
+first_of (c ∷ cs) = Some c
 
 -- what is held once so many bytes have gone: "until its last completion is sent" (01, Requests, answers, pieces)
 abbrev pub left_of : Request → ℕ → Np

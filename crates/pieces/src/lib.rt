@@ -29,37 +29,33 @@ pub fn next_size(address: u64, length: u32, payload: u32, sent: u32) -> u32
 {
     let low = (address % 4096) as u32;
     let room = payload - place_in(low + sent, payload);
-    let left = length - sent;
-    if left < room {
-        return left;
-    }
-    room
+    room.min(length - sent)
 }
 
 // The mark of a piece that is the first, the last, both or neither.
+#[tactic(auto, unfolding(crate::specs::Marks::mark_of))]
 pub fn mark_of(first: bool, last: bool) -> Mark
     ensures { result ≡ mark_of first last }
 {
-    if first {
-        if last {
-            return Mark::Only;
-        }
-        return Mark::First;
+    match (first, last) {
+        (true, true) => Mark::Only,
+        (true, false) => Mark::First,
+        (false, true) => Mark::Last,
+        (false, false) => Mark::Middle,
     }
-    if last {
-        return Mark::Last;
-    }
-    Mark::Middle
 }
 
 // The cycle type that says the mark.
-pub fn mark_type(m: Mark) -> u8
-    ensures { result ≡ mark_type m }
-{
-    match m {
-        Mark::Only => 0x0F,
-        Mark::First => 0x0B,
-        Mark::Middle => 0x09,
-        Mark::Last => 0x0D,
+// Stays a match: must-fail/cut_from_a.edit makes two marks one number; as discriminants that is no program, so no proof would refuse it.
+impl From<Mark> for u8 {
+    ghost from_gives = { λ m r. r ≡ mark_type m };
+
+    fn from(m: Mark) -> u8 {
+        match m {
+            Mark::Only => 0x0F,
+            Mark::First => 0x0B,
+            Mark::Middle => 0x09,
+            Mark::Last => 0x0D,
+        }
     }
 }

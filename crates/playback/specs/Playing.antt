@@ -1,6 +1,6 @@
 -- Laws by which `begin` and `play` meet their contracts.
 use Prim.Native.Nat.{ℕ, ◌+◌, ◌-◌, ◌%◌, ◌<◌, ◌≤◌}
-use Rattle.std.specs.Prelude.{true, ◌≡◌, refl, length, take, drop}
+use Rattle.std.specs.Prelude.{true, ◌≡◌, refl, length, take, drop, Option, Some, None}
 use mathlib.Core.List.{List}
 use Rattle.std.proofs.Common.{sym, subst, ◌∙◌}
 use Rattle.std.proofs.Math.Path.{ap}
@@ -13,8 +13,6 @@ use Rattle.housefile.specs.Format.{Capture, bad, good, row_at, rows_end, entries
 use Rattle.housefile.specs.Laws.{found-entries, length-entries}
 use Rattle.housefile.specs.declared.Kind.{Kind}
 use Rattle.housefile.specs.declared.Row.{Row}
-use Rattle.housefile.specs.declared.Found.{Found}
-use Rattle.housefile.specs.declared.Found.TheVariants.{Bad, Entries}
 use Rattle.playback.specs.Lines.{line_of, bad_line, line_length}
 use Rattle.playback.specs.Play.{entry_at, place_after, place, replied_length, Obeyed, obeyed, obey, Played, played, line_at, played_by, play_entry, Begun}
 use Rattle.playback.specs.Play.{begun, begin_with, begin_on}
@@ -25,28 +23,28 @@ use Rattle.playback.specs.declared.Said.{Said}
 
 -- ---- the beginning, by what reading gave
 
-pub begun_bad : (file st line line' : List ℕ) (f : Found) → f ≡ found (read file) → f ≡ Bad → line' ≡ over bad_line line
+pub begun_bad : (file st line line' : List ℕ) (f : Option ℕ) → f ≡ found (read file) → f ≡ None → line' ≡ over bad_line line
     → begun (record { size = 12; next = place 0 0 0 }) st line' ≡ begin_on file st line
 unfolding begin_on
 begun_bad file st line line' f e b h = go (read file) (sym b ∙ e)
   where
-    go : (c : Capture) → Bad ≡ found c → begun (record { size = 12; next = place 0 0 0 }) st line' ≡ begin_with c st line
+    go : (c : Capture) → None ≡ found c → begun (record { size = 12; next = place 0 0 0 }) st line' ≡ begin_with c st line
     go bad q = rw h
     go (good es) q = cc
 
-pub begun_good : (file st st' line : List ℕ) (f : Found) (r n : ℕ) → f ≡ found (read file) → f ≡ Entries n → done r st' ≡ start_call st
+pub begun_good : (file st st' line : List ℕ) (f : Option ℕ) (r n : ℕ) → f ≡ found (read file) → f ≡ Some n → done r st' ≡ start_call st
     → begun (record { size = 0; next = place 0 n (rows_end n) }) st' line ≡ begin_on file st line
 unfolding begin_on
 begun_good file st st' line f r n e b h = go (read file) (sym b ∙ e)
   where
-    go : (c : Capture) → Entries n ≡ found c → begun (record { size = 0; next = place 0 n (rows_end n) }) st' line ≡ begin_with c st line
+    go : (c : Capture) → Some n ≡ found c → begun (record { size = 0; next = place 0 n (rows_end n) }) st' line ≡ begin_with c st line
     go bad q = cc
     go (good es) q =
         let said : ℕ → List ℕ → Begun = λ m st. begun (record { size = 0; next = place 0 m (rows_end m) }) st line in
         let e : n ≡ length es = cc in
         ap (λ (m : ℕ). said m st') e ∙ ap (λ (d : Done). said (length es) d.state) h
 
-pub begun_few : (file : List ℕ) (f : Found) (n : ℕ) → f ≡ found (read file) → f ≡ Entries n → n < 21846
+pub begun_few : (file : List ℕ) (f : Option ℕ) (n : ℕ) → f ≡ found (read file) → f ≡ Some n → n < 21846
 begun_few file f n e b =
     let g = found-entries file n (sym b ∙ e) in
     let m = length-entries (row_at file) n 0 (drop (rows_end n) file) in
@@ -60,21 +58,21 @@ module _ (file : List ℕ) (p : Place) (s : Stands file p) (some : 0 < p.left) (
   abbrev part : List ℕ
   part = take (p.body + r.length - p.body) (drop p.body file)
 
-  pub part-ends : p.body + r.length ≤ length file
-  part-ends = subst (λ (r : Row). p.body + r.length ≤ length file) (sym er) (body_there file p s some)
+  pub part_ends : p.body + r.length ≤ length file
+  part_ends = subst (λ (r : Row). p.body + r.length ≤ length file) (sym er) (body_there file p s some)
 
-  part-is : part ≡ (entry_at file p).body
-  part-is =
+  part_is : part ≡ (entry_at file p).body
+  part_is =
       let e : p.body + r.length - p.body ≡ r.length = omega arith in
       ap (λ (n : ℕ). take n (drop p.body file)) (e ∙ ap (λ (r : Row). r.length) er)
 
   kind_is : k ≡ kind_of (entry_at file p).kind
   kind_is = ek ∙ ap (λ (r : Row). kind_of r.kind) er
 
-  pub part-fits : body_fits k (length part) ≡ true
-  part-fits =
+  pub part_fits : body_fits k (length part) ≡ true
+  part_fits =
       ap (λ (k : Kind). body_fits k (length part)) kind_is
-      ∙ ap (λ (l : List ℕ). body_fits (kind_of (entry_at file p).kind) (length l)) part-is
+      ∙ ap (λ (l : List ℕ). body_fits (kind_of (entry_at file p).kind) (length l)) part_is
       ∙ body_fits_lem file p s some
 
   -- its call, and how many bytes of the reply store it answers with
@@ -112,7 +110,7 @@ module _ (file : List ℕ) (p : Place) (s : Stands file p) (some : 0 < p.left) (
         ∙ ap (λ (r : Row). z r.length (length (line_at p k x)) (over (line_at p k x) line)) er
         ∙ ap (λ (y : Obeyed). played_by file p k y line) eo
         ∙ ap (λ (j : Kind). played_by file p j (obey j part st reply write read) line) kind_is
-        ∙ ap (λ (b : List ℕ). played_by file p k₀ (obey k₀ b st reply write read) line) part-is
+        ∙ ap (λ (b : List ℕ). played_by file p k₀ (obey k₀ b st reply write read) line) part_is
 
 -- ---- a program that loops: the places that it comes to stand, and each line has room
 

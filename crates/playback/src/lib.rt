@@ -9,7 +9,7 @@ ghost use Rattle.playback.specs.Lines.{digit_of, upper_of, decimal_of, hex_of, s
 ghost use Rattle.playback.specs.Play.{obeyed, taking, replied_length, played, play_entry, begun, begin_on};
 ghost use Rattle.playback.specs.Places.{Stands};
 
-use housefile::{Found, Kind};
+use housefile::Kind;
 
 // Where play stands: the entries before it, those to come, and where the next one's body begins.
 #[derive(Clone, Copy)]
@@ -20,11 +20,15 @@ pub struct Place {
 }
 
 // What is said, so many bytes at the start of the lent line, and where play goes on.
+// Stays: the line is its lender's, and `Told` (specs/Statements) takes so many bytes of it.
 #[derive(Clone, Copy)]
 pub struct Said {
     pub size: usize,
     pub next: Place,
 }
+
+// Stays: text byte by byte at a place of the lent line, since the clauses say which bytes stand there (`decimal_of`, `hex_of`, `put`); `write!` into a slice
+// promises none.
 
 fn digit(d: usize) -> u8
     requires { d < 10 }
@@ -38,13 +42,14 @@ fn upper(d: u8) -> u8
     requires { d < 16 }
     ensures { result ≡ upper_of d }
 {
-    if d < 10 {
-        return b'0' + d;
+    match d {
+        0..=9 => b'0' + d,
+        _ => b'A' + (d - 10),
     }
-    b'A' + (d - 10)
 }
 
 // A number's decimal digits from `at` on; where they end.
+#[tactic(auto, using(crate::specs::Laws::decimal_small, crate::specs::Written::decimal_length, crate::specs::Written::decimal_put))]
 fn decimal(line: &mut [u8], at: usize, value: usize) -> usize
     requires { at + length (decimal_of value) ≤ length line.old }
     ensures { (line.new ≡ put at (decimal_of value) line.old) × (result ≡ at + length (decimal_of value)) }
@@ -59,19 +64,15 @@ fn decimal(line: &mut [u8], at: usize, value: usize) -> usize
 }
 
 // Bytes in hex from `at` on; where they end.
+#[tactic(auto, using(crate::specs::Laws::length_hex))]
 fn hex(line: &mut [u8], at: usize, bytes: &[u8]) -> usize
     requires { at + length (hex_of bytes.now) ≤ length line.old }
     ensures { (line.new ≡ put at (hex_of bytes.now) line.old) × (result ≡ at + length (hex_of bytes.now)) }
 {
-    let mut end = at;
-    let mut i: usize = 0;
-    while i < bytes.len() {
-        let b = bytes[i];
-        base::put_at(line, end, &[upper(b / 16), upper(b % 16)]);
-        end += 2;
-        i += 1;
+    for (i, &b) in bytes.iter().enumerate() {
+        base::put_at(line, at + 2 * i, &[upper(b / 16), upper(b % 16)]);
     }
-    end
+    at + 2 * bytes.len()
 }
 
 // A reply in hex, or "-" if there is none.
@@ -79,7 +80,7 @@ fn shown(line: &mut [u8], at: usize, reply: &[u8]) -> usize
     requires { at + length (shown_of reply.now) ≤ length line.old }
     ensures { (line.new ≡ put at (shown_of reply.now) line.old) × (result ≡ at + length (shown_of reply.now)) }
 {
-    if reply.len() == 0 {
+    if reply.is_empty() {
         base::put_at(line, at, b"-");
         return at + 1;
     }
@@ -87,6 +88,7 @@ fn shown(line: &mut [u8], at: usize, reply: &[u8]) -> usize
 }
 
 // The line of an entry at the start of the lent one; how long it is.
+#[tactic(auto, using(crate::specs::Written::line_sum))]
 fn tell(line: &mut [u8], number: usize, refusal: u32, reply: &[u8]) -> usize
     requires { length (line_of number refusal reply.now) ≤ length line.old }
     ensures { (line.new ≡ over (line_of number refusal reply.now) line.old)
@@ -99,12 +101,6 @@ fn tell(line: &mut [u8], number: usize, refusal: u32, reply: &[u8]) -> usize
     let c = shown(line, b + 1, reply);
     base::put_at(line, c, b"\n");
     c + 1
-}
-
-fn wide(x: u8) -> u32
-    ensures { result ≡ x }
-{
-    x as u32
 }
 
 // An answer's body begins with the serial, low byte first.
@@ -123,10 +119,12 @@ fn set(state: &mut [u8], body: &[u8]) -> u32
     ensures { done result state.new
         ≡ set_wire_call state.old (get_or body.now 0 0) (get_or body.now 1 0) (get_or body.now 2 0) }
 {
-    espi::espi_set_wire(state, wide(body[0]), wide(body[1]), wide(body[2]))
+    let (index, bit, value) = (body[0], body[1], body[2]);
+    espi::espi_set_wire(state, u32::from(index), u32::from(bit), u32::from(value))
 }
 
 // The report is not told.
+#[tactic(auto, unfolding(crate::specs::Play::taking))]
 fn take(state: &mut [u8], write_store: &[u8]) -> u32
     ensures { done result state.new ≡ taking state.old write_store.now }
 {
@@ -135,6 +133,8 @@ fn take(state: &mut [u8], write_store: &[u8]) -> u32
 }
 
 // The entry's call on the lent bytes.
+// Stays: `play` alone hands the four slices on, and must be lent them one by one; in a struct they would be packed there and unpacked here.
+#[tactic(auto, unfolding(crate::specs::Play::obey, promises::specs::ByteRuns::byte_step_value, crate::specs::Play::taking))]
 fn obey(
     kind: Kind,
     body: &[u8],
@@ -165,23 +165,18 @@ fn replied(kind: Kind, word: u32) -> usize
 {
     match kind {
         Kind::Command => (word / 256) as usize,
-        Kind::Success => 0,
-        Kind::Failure => 0,
-        Kind::SetWire => 0,
-        Kind::PlatformReset => 0,
-        Kind::EspiReset => 0,
-        Kind::TakeWrite => 0,
+        _ => 0,
     }
 }
 
 // Reads the file and starts the state; of a bad file only the line is said.
+#[tactic(auto, using(crate::specs::Playing::begun_few, crate::specs::Playing::begun_bad, base::specs::Bytes::put_first))]
 pub fn begin(file: &[u8], state: &mut [u8], line: &mut [u8]) -> Said
     requires { line_length ≤ length line.old }
     ensures { begun result state.new line.new ≡ begin_on file.now state.old line.old }
 {
-    let found = housefile::read(file);
-    match found {
-        Found::Bad => {
+    match housefile::read(file) {
+        None => {
             base::put_at(line, 0, b"bad capture\n");
             Said {
                 size: 12,
@@ -192,7 +187,7 @@ pub fn begin(file: &[u8], state: &mut [u8], line: &mut [u8]) -> Said
                 },
             }
         }
-        Found::Entries(n) => {
+        Some(n) => {
             espi::espi_start(state);
             Said {
                 size: 0,

@@ -6,6 +6,10 @@ ghost use Rattle.base.specs.Bytes.{put};
 ghost use Rattle.registers.specs.Registers.{masked, forbidden008, forbidden010, write008, write010, write020, readied, fresh004, fresh008, fresh010, fresh020, size_of, crc_checked, on0, on1, payload_size, read_size, operating_count, fresh_config, read_at_value, forbidden_at, write_at, reachable008, reachable010, reachable020, reachable};
 ghost use Rattle.registers.specs.Layout.{config_bytes, config_in};
 
+// Stays: a type for each register (docs/DECISIONS.md, 74), with its own fresh, write, on and test of what it can hold. With the numbers as const parameters a
+// wrong reset value is another type, so that no function refuses it (must-fail/reset_values.edit); a trait is no plainer: each number twice, as constant and
+// ghost member, and a constructor and a reader, for bodies of one line.
+
 // Device identification.
 #[derive(Clone, Copy)]
 pub struct Reg004 {
@@ -60,14 +64,12 @@ fn enabled(v: u32) -> bool
 }
 
 // What a payload or read request code means in bytes.
+#[tactic(auto, unfolding(crate::specs::Registers::size_of))]
 fn size_of(code: u32) -> u32
     requires { code < 8 }
     ensures { result ≡ size_of code }
 {
-    if code == 0 {
-        return 64;
-    }
-    64 << (code - 1)
+    64 << code.saturating_sub(1)
 }
 
 impl Reg004 {
@@ -196,13 +198,11 @@ fn bad010(v: u32) -> bool
 pub fn forbidden(address: u32, val: u32) -> bool
     ensures { result ≡ forbidden_at address val }
 {
-    if address == 0x008 {
-        return bad008(val);
+    match address {
+        0x008 => bad008(val),
+        0x010 => bad010(val),
+        _ => false,
     }
-    if address == 0x010 {
-        return bad010(val);
-    }
-    false
 }
 
 impl Config {
@@ -220,50 +220,34 @@ impl Config {
     pub fn read(self, address: u32) -> u32
         ensures { result ≡ read_at_value self address }
     {
-        if address == 0x004 {
-            return Reg004::RESET;
+        match address {
+            0x004 => Reg004::RESET,
+            0x008 => self.r008.value,
+            0x010 => self.r010.value,
+            0x020 => self.r020.value,
+            _ => 0,
         }
-        if address == 0x008 {
-            return self.r008.value;
-        }
-        if address == 0x010 {
-            return self.r010.value;
-        }
-        if address == 0x020 {
-            return self.r020.value;
-        }
-        0
     }
 
     // The value written to the register at this address; other addresses take it without effect.
     pub fn write(self, address: u32, val: u32) -> Config
         ensures { result ≡ write_at self address val }
     {
-        let r008 = self.r008;
-        let r010 = self.r010;
-        let r020 = self.r020;
-        if address == 0x008 {
-            return Config {
-                r008: r008.write(val),
-                r010,
-                r020,
-            };
+        match address {
+            0x008 => Config {
+                r008: self.r008.write(val),
+                ..self
+            },
+            0x010 => Config {
+                r010: self.r010.write(val),
+                ..self
+            },
+            0x020 => Config {
+                r020: self.r020.write(val),
+                ..self
+            },
+            _ => self,
         }
-        if address == 0x010 {
-            return Config {
-                r008,
-                r010: r010.write(val),
-                r020,
-            };
-        }
-        if address == 0x020 {
-            return Config {
-                r008,
-                r010,
-                r020: r020.write(val),
-            };
-        }
-        self
     }
 
     // Each register holds a value that resets and accepted writes can make.
@@ -279,23 +263,10 @@ impl Config {
     fn bytes(self) -> [u8; 12]
         ensures { result ≡ config_bytes self }
     {
-        let a = self.r008.value;
-        let b = self.r010.value;
-        let c = self.r020.value;
-        [
-            (a % 256) as u8,
-            (a / 256 % 256) as u8,
-            (a / 65536 % 256) as u8,
-            (a / 16777216 % 256) as u8,
-            (b % 256) as u8,
-            (b / 256 % 256) as u8,
-            (b / 65536 % 256) as u8,
-            (b / 16777216 % 256) as u8,
-            (c % 256) as u8,
-            (c / 256 % 256) as u8,
-            (c / 65536 % 256) as u8,
-            (c / 16777216 % 256) as u8,
-        ]
+        let [a0, a1, a2, a3] = self.r008.value.to_le_bytes();
+        let [b0, b1, b2, b3] = self.r010.value.to_le_bytes();
+        let [c0, c1, c2, c3] = self.r020.value.to_le_bytes();
+        [a0, a1, a2, a3, b0, b1, b2, b3, c0, c1, c2, c3]
     }
 
     // Their bytes at their place in `dst`; what is beside them stays.
@@ -303,8 +274,7 @@ impl Config {
         requires { 12 ≤ length dst.old }
         ensures { dst.new ≡ put 0 (config_bytes self) dst.old }
     {
-        let bytes = self.bytes();
-        base::put_at(dst, 0, &bytes);
+        base::put_at(dst, 0, &self.bytes());
     }
 
     // The registers whose bytes stand at their place in `b`, sound or not.
@@ -312,19 +282,21 @@ impl Config {
         requires { 12 ≤ length b.now }
         ensures { result ≡ config_in b.now }
     {
-        let r008 = Reg008 {
-            value: base::get4(b, 0),
-        };
-        let r010 = Reg010 {
-            value: base::get4(b, 4),
-        };
-        let r020 = Reg020 {
-            value: base::get4(b, 8),
-        };
-        Config { r008, r010, r020 }
+        Config {
+            r008: Reg008 {
+                value: base::get4(b, 0),
+            },
+            r010: Reg010 {
+                value: base::get4(b, 4),
+            },
+            r020: Reg020 {
+                value: base::get4(b, 8),
+            },
+        }
     }
 }
 
+#[tactic(auto, unfolding(crate::specs::Registers::reachable008))]
 fn reachable_008(v: u32) -> bool
     ensures { result ≡ reachable008 v }
 {
@@ -332,6 +304,7 @@ fn reachable_008(v: u32) -> bool
     (r.value == v) & !bad008(v)
 }
 
+#[tactic(auto, unfolding(crate::specs::Registers::reachable010))]
 fn reachable_010(v: u32) -> bool
     ensures { result ≡ reachable010 v }
 {
@@ -339,6 +312,7 @@ fn reachable_010(v: u32) -> bool
     (r.value == v) & !bad010(v)
 }
 
+#[tactic(auto, unfolding(crate::specs::Registers::reachable020))]
 fn reachable_020(v: u32) -> bool
     ensures { result ≡ reachable020 v }
 {

@@ -1,8 +1,8 @@
 -- Laws by which the reply's writers meet their contracts: each follows the writes in the code's order.
-use Rattle.std.specs.Prelude.{ℕ, suc, ◌+◌, ◌-◌, ◌≤◌, true, List, [], ◌∷◌, ◌++◌, ◌≡◌, refl, length, take, drop}
+use Rattle.std.specs.Prelude.{ℕ, suc, ◌+◌, ◌-◌, ◌≤◌, true, List, [], ◌∷◌, ◌++◌, ◌≡◌, refl, length, take, drop, Option}
 use Rattle.std.proofs.Common.{true≢false, sym, ap, subst, ◌∙◌, arith, length-append, length-drop, length-take-le}
 use borrow.Rule.Slice.PartMut.{mid_of, put_mid}
-use Rattle.base.specs.Bytes.{low2, put, over, copied, put-over, put_first, take-over, over-over, tail_lent, tail_back, over-take, drop-over, over_parts, copied-over}
+use Rattle.base.specs.Bytes.{low2, put, over, copied, put-over, put_first, take-over, over-over, tail_lent, tail_back, over-take, drop-over, over_parts, copied_all}
 use Rattle.crc.specs.Crc.{crc}
 use Rattle.wires.specs.Senders.{AllWires}
 use Rattle.wires.specs.declared.Packet.{Packet}
@@ -44,16 +44,19 @@ said_by_lem l l₁ l₂ m n status e₁ en e₂ =
 pub piece_by : (l l₁ part src reads : List ℕ) (code from n : ℕ) (c : Completion)
     → from + n ≤ length reads
     → l₁ ≡ put 0 (code ∷ header_bytes c) l
-    → src ≡ drop from reads
-    → part ≡ copied (mid_of 4 (length l₁ - 4) l₁) src n
+    → src ≡ take n (drop from reads)
+    → part ≡ copied (mid_of 4 (length l₁ - 4) l₁) src (length src)
     → put_mid 4 (length l₁ - 4) l₁ part ≡ over ((code ∷ header_bytes c) ++ take n (drop from reads)) l
+unfolding over
 piece_by l l₁ part src reads code from n c hs e es p =
     let hd = code ∷ header_bytes c in
     let d = take n (drop from reads) in
     let f : l₁ ≡ over hd l = e ∙ put_first hd l in
     let hn : length d ≡ n = length-take-le n (drop from reads) (rw length-drop (omega arith)) in
     tail_back 4 l₁ part
-    ∙ ap (λ (z : List ℕ). take 4 l₁ ++ z) (p ∙ ap (λ (z : List ℕ). copied z src n) (tail_lent 4 l₁) ∙ ap (λ (z : List ℕ). copied (drop 4 l₁) z n) es)
+    ∙ ap (λ (z : List ℕ). take 4 l₁ ++ z)
+    (p ∙ ap (λ (z : List ℕ). copied z src (length src)) (tail_lent 4 l₁) ∙ copied_all (drop 4 l₁) src ∙ ap (λ (z : List ℕ). over z (drop 4 l₁)) es
+    ∙ ap (λ (k : ℕ). d ++ drop k (drop 4 l₁)) hn)
     ∙ ap (λ (z : List ℕ). take 4 z ++ copied (drop 4 z) (drop from reads) n) f
     ∙ ap (λ (z : List ℕ). z ++ copied (drop 4 (over hd l)) (drop from reads) n) (take-over hd l 4 refl)
     ∙ ap (λ (z : List ℕ). hd ++ (d ++ drop n z)) (drop-over hd l 4 refl)
@@ -81,18 +84,17 @@ pub no_packet : {X : Type 0} (body : Body) (p : Packet) → body ≡ B.Groups p 
 no_packet body p e f = absurd (true≢false (sym f ∙ ap plain_body e))
 
 -- the reply of the case that it is in
-pub by_reply : (r r' : Reply) (w : AllWires) (l l₁ reads : List ℕ) (n : ℕ)
+pub by_reply : (r r' : Option Reply) (w : AllWires) (l l₁ reads : List ℕ) (n : ℕ)
     → r ≡ r'
     → (l₁ ≡ over (reply_bytes r' w reads) l) × (n ≡ length (reply_bytes r' w reads)) × (n ≤ reply_length)
     → (l₁ ≡ over (reply_bytes r w reads) l) × (n ≡ length (reply_bytes r w reads)) × (n ≤ reply_length)
 by_reply r r' w l l₁ reads n e h =
-    subst (λ (z : Reply). (l₁ ≡ over (reply_bytes z w reads) l) × (n ≡ length (reply_bytes z w reads)) × (n ≤ reply_length)) (sym e) h
+    subst (λ (z : Option Reply). (l₁ ≡ over (reply_bytes z w reads) l) × (n ≡ length (reply_bytes z w reads)) × (n ≤ reply_length)) (sym e) h
 
 -- data kept at the start of a store
-pub data_by : (dst dst' src part : List ℕ) (at n : ℕ) → at + n ≤ length src → part ≡ drop at src → dst' ≡ copied dst part n
+pub data_by : (dst dst' src part : List ℕ) (at n : ℕ) → part ≡ take n (drop at src) → dst' ≡ copied dst part (length part)
     → dst' ≡ over (take n (drop at src)) dst
-data_by dst dst' src part at n h ep e =
-    e ∙ ap (λ (z : List ℕ). copied dst z n) ep ∙ copied-over dst (drop at src) n (rw length-drop (omega arith))
+data_by dst dst' src part at n ep e = e ∙ copied_all dst part ∙ ap (λ (z : List ℕ). over z dst) ep
 
-pub by_kept : (k k' : Kept) (dst dst' src : List ℕ) → k ≡ k' → dst' ≡ over (kept_bytes k' src) dst → dst' ≡ over (kept_bytes k src) dst
-by_kept k k' dst dst' src e h = h ∙ ap (λ (z : Kept). over (kept_bytes z src) dst) (sym e)
+pub by_kept : (k k' : Option Kept) (dst dst' src : List ℕ) → k ≡ k' → dst' ≡ over (kept_bytes k' src) dst → dst' ≡ over (kept_bytes k src) dst
+by_kept k k' dst dst' src e h = h ∙ ap (λ (z : Option Kept). over (kept_bytes z src) dst) (sym e)

@@ -1,42 +1,30 @@
 // A plan's reply written into the lent bytes, and its kept data into a lent store.
 #![tactic(auto)]
 
-ghost use Rattle.std.specs.Prelude.{◌≡◌, true, ◌∷◌, ◌++◌, ◌+◌, ◌*◌, ◌≤◌, ◌<◌, length, take, drop};
+ghost use Rattle.std.specs.Prelude.{◌≡◌, true, Some, ◌∷◌, ◌++◌, ◌+◌, ◌*◌, ◌≤◌, ◌<◌, length, take, drop};
 ghost use Rattle.base.specs.Bytes.{over};
 ghost use Rattle.wires.specs.Senders.{fresh_all};
-ghost use Rattle.rules.specs.Rules.Out.{response_byte};
 ghost use Rattle.rules.specs.Rules.Peripheral.{request_report, posted_report, take_report};
 ghost use Rattle.rules.specs.Rules.Reply.{header_bytes, data_bytes, body_bytes, closed, reply_bytes, kept_bytes};
 ghost use Rattle.reply.specs.Packets.{Fillable, PacketReady, packet_put, filled_by, packet_put_by};
 ghost use Rattle.rules.specs.Rules.Step.{reply_length, read_length, look_length, take_length};
 ghost use Rattle.rules.specs.Rules.Fits.{BodyFits, ReplyFits, KeptFits, plain_body, plain};
 
-use peripheral::{Completion, Peripheral, Posted, Request, Write};
+use peripheral::{Completion, Peripheral, Posted, Request};
 use registers::Config;
 use rules::{Body, Kept, Reply, Response};
 use wires::{Packet, Wires};
 
-fn response_byte(r: Response) -> u8
-    ensures { result ≡ response_byte r }
-{
-    match r {
-        Response::Accept => 0x08,
-        Response::Defer => 0x01,
-        Response::NonFatal => 0x02,
-        Response::Fatal => 0x03,
-    }
-}
+// Stays: `put_reply` and `put_packet`, public, take any slices of `reply_length` and `read_length` bytes or more (docs/CONTRACTS.md), and would make structs
+// with these lengths for the private ones. Those two part replies from packets, which is what `BodyFits` and `plain_body` say; `Body` has both, as the
+// definitions do.
 
 // The response byte and the header of a completion.
 fn header(code: u8, c: Completion) -> [u8; 4]
     ensures { result ≡ code ∷ header_bytes c }
 {
-    [
-        code,
-        c.cycle,
-        (c.tag % 16) * 16 + ((c.length / 256 % 16) as u8),
-        (c.length % 256) as u8,
-    ]
+    let [low, high, ..] = c.length.to_le_bytes();
+    [code, c.cycle, c.tag % 16 * 16 + high % 16, low]
 }
 
 // The data goes into the reply from its fifth byte on.
@@ -48,7 +36,7 @@ fn put_piece(reply: &mut [u8], code: u8, c: Completion, reads: &[u8]) -> usize
     let n = c.length as usize;
     let from = c.from as usize;
     base::put_at(reply, 0, &first);
-    base::copy_in(&mut reply[4..], &reads[from..], n);
+    base::copy_in(&mut reply[4..], &reads[from..from + n]);
     4 + n
 }
 
@@ -57,8 +45,8 @@ fn put_word(reply: &mut [u8], code: u8, v: u32) -> usize
     requires { reply_length ≤ length reply.old }
     ensures { (reply.new ≡ over (code ∷ Rattle.base.specs.Bytes.low4 v) reply.old) × (result ≡ 5) }
 {
-    let w = base::bytes4(v);
-    base::put_at(reply, 0, &[code, w[0], w[1], w[2], w[3]]);
+    let [a, b, c, d] = v.to_le_bytes();
+    base::put_at(reply, 0, &[code, a, b, c, d]);
     5
 }
 
@@ -80,6 +68,7 @@ fn put_body(reply: &mut [u8], code: u8, body: Body, reads: &[u8]) -> usize
 }
 
 // Status, and the CRC of all before it, after the first n bytes.
+// Stays: n stands beside the slice, since status and CRC go behind the first n bytes, into the rest of it.
 fn finish(reply: &mut [u8], n: usize, status: u32)
     requires { n + 3 ≤ length reply.old }
     ensures { reply.new ≡ over (closed (take n reply.old) status) reply.old }
@@ -87,35 +76,29 @@ fn finish(reply: &mut [u8], n: usize, status: u32)
     let w = base::bytes2(status);
     base::put_at(reply, n, &w);
     let end = n + 2;
-    let one = [crc::crc_first(reply, end)];
+    let one = [crc::crc_of(&reply[..end])];
     base::put_at(reply, end, &one);
 }
 
-fn say(reply: &mut [u8], code: u8, body: Body, status: u32, reads: &[u8]) -> u32
-    requires { (reply_length ≤ length reply.old) × (read_length ≤ length reads.now) × BodyFits body fresh_all × (plain_body body ≡ true) }
-    ensures { (reply.new ≡ over (closed (code ∷ body_bytes body fresh_all reads.now) status) reply.old)
-        × (result ≡ length (closed (code ∷ body_bytes body fresh_all reads.now) status)) × (result ≤ reply_length) }
+fn say(reply: &mut [u8], r: Reply, reads: &[u8]) -> u32
+    requires { (reply_length ≤ length reply.old) × (read_length ≤ length reads.now) × BodyFits r.body fresh_all × (plain_body r.body ≡ true) }
+    ensures { (reply.new ≡ over (reply_bytes (Some r) fresh_all reads.now) reply.old)
+        × (result ≡ length (reply_bytes (Some r) fresh_all reads.now)) × (result ≤ reply_length) }
 {
-    let n = put_body(reply, code, body, reads);
-    finish(reply, n, status);
+    let n = put_body(reply, u8::from(r.response), r.body, reads);
+    finish(reply, n, r.status);
     (n + 3) as u32
 }
 
 // The bytes of a reply that is no packet, the same over any wires; their count.
-pub fn put_reply(reply: &mut [u8], r: Reply, reads: &[u8]) -> u32
+pub fn put_reply(reply: &mut [u8], r: Option<Reply>, reads: &[u8]) -> u32
     requires { (reply_length ≤ length reply.old) × (read_length ≤ length reads.now) × ReplyFits r fresh_all × (plain r ≡ true) }
     ensures { (reply.new ≡ over (reply_bytes r fresh_all reads.now) reply.old)
         × (result ≡ length (reply_bytes r fresh_all reads.now)) × (result ≤ reply_length) }
 {
     match r {
-        Reply::Silent => 0,
-        Reply::Said(response, body, status) => say(
-            reply,
-            response_byte(response),
-            body,
-            status,
-            reads,
-        ),
+        None => 0,
+        Some(r) => say(reply, r, reads),
     }
 }
 
@@ -124,7 +107,7 @@ fn fill_packet(reply: &mut [u8], state: &mut [u8], p: Packet, others: u32) -> u3
     requires { (reply_length ≤ length reply.old) × Fillable p state.old × (others ≤ 19) }
     ensures { (packet_put result state.new reply.new ≡ filled_by p others state.old reply.old) × (result ≤ reply_length) }
 {
-    base::put_at(reply, 0, &[0x08, 0]);
+    base::put_at(reply, 0, &[u8::from(Response::Accept), 0]);
     let n = wires::send(state, reply, p);
     base::put_at(reply, 1, &[(n - 1) as u8]);
     let end = 2 + n * 2;
@@ -140,64 +123,63 @@ pub fn put_packet(reply: &mut [u8], state: &mut [u8]) -> u32
     let c = Config::unpack(state);
     let w = Wires::unpack(state);
     let others = Peripheral::status_in(state);
-    let r = c.r020;
     fill_packet(
         reply,
         state,
         Packet {
             place: w.place,
-            capacity: r.operating_count(),
+            capacity: c.r020.operating_count(),
         },
         others,
     )
 }
 
-fn keep_data(dst: &mut [u8], at: u32, n: u32, src: &[u8])
-    requires { (n ≤ length dst.old) × (at + n ≤ length src.now) }
-    ensures { dst.new ≡ over (take n (drop at src.now)) dst.old }
+fn keep_data(dst: &mut [u8], k: Kept, src: &[u8])
+    requires { (k.count ≤ length dst.old) × (k.from + k.count ≤ length src.now) }
+    ensures { dst.new ≡ over (take k.count (drop k.from src.now)) dst.old }
 {
-    let from = at as usize;
-    base::copy_in(dst, &src[from..], n as usize);
+    let from = k.from as usize;
+    let count = k.count as usize;
+    base::copy_in(dst, &src[from..from + count]);
 }
 
 // The call's data that a store keeps.
-pub fn keep(dst: &mut [u8], k: Kept, src: &[u8])
+pub fn keep(dst: &mut [u8], k: Option<Kept>, src: &[u8])
     requires { KeptFits k (length src.now) (length dst.old) }
     ensures { dst.new ≡ over (kept_bytes k src.now) dst.old }
 {
-    match k {
-        Kept::Nothing => {}
-        Kept::Data(at, n) => keep_data(dst, at, n, src),
+    if let Some(d) = k {
+        keep_data(dst, d, src);
     }
 }
 
 fn request_report(q: Request, serial: u32) -> [u8; 19]
     ensures { result ≡ request_report q serial }
 {
-    let k = q.kind;
-    let a = q.address;
-    let n = q.length;
-    let b = q.bytes;
+    let [a0, a1, a2, a3, a4, a5, a6, a7] = q.address.to_le_bytes();
+    let [n0, n1, ..] = q.length.to_le_bytes();
+    let [s0, s1, s2, s3] = serial.to_le_bytes();
+    let [b0, b1, b2, b3] = q.bytes.to_le_bytes();
     [
-        peripheral::kind_number(k),
-        (a % 256) as u8,
-        (a / 256 % 256) as u8,
-        (a / 65536 % 256) as u8,
-        (a / 16777216 % 256) as u8,
-        (a / 4294967296 % 256) as u8,
-        (a / 1099511627776 % 256) as u8,
-        (a / 281474976710656 % 256) as u8,
-        (a / 72057594037927936 % 256) as u8,
-        (n % 256) as u8,
-        (n / 256 % 256) as u8,
-        (serial % 256) as u8,
-        (serial / 256 % 256) as u8,
-        (serial / 65536 % 256) as u8,
-        (serial / 16777216 % 256) as u8,
-        (b % 256) as u8,
-        (b / 256 % 256) as u8,
-        (b / 65536 % 256) as u8,
-        (b / 16777216 % 256) as u8,
+        u8::from(q.kind),
+        a0,
+        a1,
+        a2,
+        a3,
+        a4,
+        a5,
+        a6,
+        a7,
+        n0,
+        n1,
+        s0,
+        s1,
+        s2,
+        s3,
+        b0,
+        b1,
+        b2,
+        b3,
     ]
 }
 
@@ -213,20 +195,9 @@ pub fn put_request(report: &mut [u8], q: Request, serial: u32)
 fn posted_report(w: Posted) -> [u8; 10]
     ensures { result ≡ posted_report w }
 {
-    let a = w.address;
-    let n = w.length;
-    [
-        (a % 256) as u8,
-        (a / 256 % 256) as u8,
-        (a / 65536 % 256) as u8,
-        (a / 16777216 % 256) as u8,
-        (a / 4294967296 % 256) as u8,
-        (a / 1099511627776 % 256) as u8,
-        (a / 281474976710656 % 256) as u8,
-        (a / 72057594037927936 % 256) as u8,
-        (n % 256) as u8,
-        (n / 256 % 256) as u8,
-    ]
+    let [a0, a1, a2, a3, a4, a5, a6, a7] = w.address.to_le_bytes();
+    let [n0, n1, ..] = w.length.to_le_bytes();
+    [a0, a1, a2, a3, a4, a5, a6, a7, n0, n1]
 }
 
 fn put_posted(report: &mut [u8], w: Posted)
@@ -238,12 +209,11 @@ fn put_posted(report: &mut [u8], w: Posted)
 }
 
 // The report of a take: address and length; nothing where no write is held.
-pub fn put_write(report: &mut [u8], w: Write)
+pub fn put_write(report: &mut [u8], w: Option<Posted>)
     requires { take_length ≤ length report.old }
     ensures { report.new ≡ over (take_report w) report.old }
 {
-    match w {
-        Write::Empty => {}
-        Write::Held(p) => put_posted(report, p),
+    if let Some(p) = w {
+        put_posted(report, p);
     }
 }

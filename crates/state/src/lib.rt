@@ -31,6 +31,9 @@ impl Core {
     }
 }
 
+// Stays: the public functions here and in the engine take any slice of 174 bytes or more (docs/CONTRACTS.md), so each says so; the private ones there take what
+// those are lent.
+
 // The bytes of a state in which no line is high or waits at the start of `dst`; what is past them stays. Start and both resets leave such a one.
 pub fn pack(s: Core, dst: &mut [u8])
     requires { state_length ≤ length dst.old }

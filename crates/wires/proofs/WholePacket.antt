@@ -1,7 +1,7 @@
 -- The whole pass: from the held values on it comes to the wires after all pairs, and to whether one has a third transition.
-use Rattle.std.specs.Prelude.{ℕ, ◌+◌, ◌*◌, ◌/◌, ◌%◌, ◌^◌, ◌<◌, Bool, true, false, ◌&&◌, not, List, ◌∷◌, ◌≡◌, refl, eqb, ltb, set}
-use Rattle.std.proofs.Common.{true≢false, sym, ap, ap₂, ◌∙◌, arith, zero-add, eqb-true, eq-eqb}
-use Rattle.base.specs.Pick.{and_left}
+use Rattle.std.specs.Prelude.{ℕ, ◌+◌, ◌*◌, ◌/◌, ◌%◌, ◌^◌, ◌<◌, Bool, true, false, ◌&&◌, not, List, ◌∷◌, ◌≡◌, refl, Ok, Err, eqb, ltb, set}
+use Rattle.std.proofs.Common.{true≢false, sym, ap, ap₂, ◌∙◌, arith, zero-add, eqb-true, eq-eqb, ne_eqb}
+use Rattle.base.specs.Pick.{and_left, taken, passed}
 use Rattle.base.specs.Bytes.{bit}
 use Rattle.wires.specs.Table.{is_group}
 use Rattle.wires.specs.Nibbles.{bit_of, binary, zero_bit, same_bits}
@@ -124,8 +124,13 @@ module _ (w : Wires) (whole : whole_wires w ≡ true) (small : Small w) where
         go true false e f = refl
 
     -- the pass comes to what the pairs come to
-    pub put-done : (c : Course) (next : Wires) → c ≡ end → next ≡ with_levels w c.level
-        → record { third = not (eqb c.third 0); next = next } ≡ putting w ps
-    put-done c next e f =
-        ap₂ (λ (t : Bool) (v : Wires). record { third = t; next = v }) (ap (λ (v : Course). not (eqb v.third 0)) e ∙ third_is)
-        (f ∙ ap (λ (v : Course). with_levels w v.level) e ∙ next_is)
+    pub put-done : (c : Course) (next : Wires) → c ≡ end → c.third ≡ 0 → next ≡ with_levels w c.level → Ok next ≡ putting w ps
+    put-done c next e z f =
+        passed _ _ (sym third_is ∙ ap not (eq-eqb end.third 0 (sym (ap (λ (v : Course). v.third) e) ∙ z)))
+        (ap Ok (f ∙ ap (λ (v : Course). with_levels w v.level) e ∙ next_is))
+
+    pub put_third : (c : Course) (next : Wires) → c ≡ end → (c.third ≡ 0 → ⊥) → next ≡ with_levels w c.level
+        → Err (record { next = next }) ≡ putting w ps
+    put_third c next e f g =
+        taken _ _ (sym third_is ∙ ap not (ne_eqb end.third 0 (λ z. f (ap (λ (v : Course). v.third) e ∙ z))))
+        (ap (λ (v : Wires). Err (record { next = v })) (g ∙ ap (λ (v : Course). with_levels w v.level) e ∙ next_is))

@@ -1,6 +1,6 @@
 -- How the code counts transitions: one pass over the pairs with four words, in which bit k of group i is bit i * 4 + k.
-use Rattle.std.specs.Prelude.{ℕ, suc, ◌+◌, ◌*◌, ◌/◌, ◌%◌, ◌^◌, ◌≤◌, ◌<◌, Bool, true, List, [], ◌∷◌, ◌≡◌, refl, ltb, get_or, length, take, drop}
-use Rattle.std.proofs.Common.{sym, ap, ap₂, ◌∙◌, arith, length-take, drop_of_length-le, shl_exact, drop-cons, get_or-take, lt-ltb, le-ltb}
+use Rattle.std.specs.Prelude.{ℕ, suc, ◌+◌, ◌*◌, ◌/◌, ◌%◌, ◌^◌, ◌≤◌, ◌<◌, Bool, true, List, [], ◌∷◌, ◌≡◌, refl, ltb, get_or, length, drop}
+use Rattle.std.proofs.Common.{ap, ap₂, ◌∙◌, arith, length-drop, shl_exact, drop-cons, lt-ltb, le-ltb}
 use Rattle.std.specs.Int.Bits.{bit_and, bit_or, bit_xor}
 use Rattle.base.specs.Pick.{pick, taken, passed}
 use Rattle.wires.specs.Kept.{sound_level}
@@ -82,7 +82,8 @@ past_as c r i d h l e =
     (shl_exact {a = d % 16} 4 (i * 4) 32 (omega arith) (omega arith))
     (shl_exact {a = d / 16} 4 (i * 4) 32 (omega arith) (omega arith) ∙ ap (λ (x : ℕ). x * 2 ^ (i * 4)) q))
 
-pair_next : (c : Course) (l : List ℕ) (i : ℕ) → i * 2 + 1 < length l
+-- the pair at place i, then those after it
+pub pair_next : (c : Course) (l : List ℕ) (i : ℕ) → i * 2 + 1 < length l
     → past_pairs c (drop (i * 2) l) ≡ past_pairs (past_pair c (get_or l (i * 2) 0) (get_or l (i * 2 + 1) 0)) (drop ((i + 1) * 2) l)
 unfolding past_pairs
 pair_next c l i h =
@@ -94,15 +95,12 @@ pair_next c l i h =
     ∙ ap (λ (t : List ℕ). get_or l (i * 2) 0 ∷ t) (drop-cons l (i * 2 + 1) 0 h))
     ∙ ap (λ (k : ℕ). past_pairs (past_pair c (get_or l (i * 2) 0) (get_or l (i * 2 + 1) 0)) (drop k l)) b
 
--- the pair at place i of n, then those after it
-pub pairs_next : (c : Course) (l : List ℕ) (n i : ℕ) → i < n → n * 2 ≤ length l
-    → past_pairs (past_pair c (get_or l (i * 2) 0) (get_or l (i * 2 + 1) 0)) (drop ((i + 1) * 2) (take (n * 2) l))
-    ≡ past_pairs c (drop (i * 2) (take (n * 2) l))
-pairs_next c l n i h k =
-    sym
-    (pair_next c (take (n * 2) l) i (simp length-take (omega arith))
-    ∙ simp (get_or-take (n * 2) l (i * 2) 0 (omega arith), get_or-take (n * 2) l (i * 2 + 1) 0 (omega arith)))
-
-pub pairs-done : (c : Course) (l : List ℕ) (n : ℕ) → past_pairs c (drop (n * 2) (take (n * 2) l)) ≡ c
+-- at most one byte is left: no pair
+pub pairs-done : (c : Course) (l : List ℕ) (i : ℕ) → length l ≤ i * 2 + 1 → past_pairs c (drop (i * 2) l) ≡ c
 unfolding past_pairs
-pairs-done c l n = ap (past_pairs c) (drop_of_length-le (take (n * 2) l) {i = n * 2} (simp length-take (omega arith)))
+pairs-done c l i h = rest (drop (i * 2) l) (rw length-drop (omega (arith, h)))
+  where
+    rest : (r : List ℕ) → length r ≤ 1 → past_pairs c r ≡ c
+    rest [] k = refl
+    rest (a ∷ []) k = refl
+    rest (a ∷ b ∷ r) k = absurd (omega (arith, k))

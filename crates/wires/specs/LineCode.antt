@@ -5,17 +5,21 @@ use mathlib.Core.List.{List, ◌++◌, append_assoc}
 use Rattle.std.proofs.Common.{inl, inr, ⊎_elim, sym, subst, ◌∙◌, mod-lt, mod-eq_of_lt, one-mul, arith, shl_exact, length-append, length-drop, take-append-drop, get_or-set_same, get_or-set_other, get_or-take, get_or-drop, take_all, take-add, drop-drop, ext_get_or, length-take-le, eqb-true, eq-eqb, ne_eqb, ltb-true, ltb-false}
 use Rattle.std.proofs.Math.Path.{ap}
 use Rattle.std.proofs.Math.ListN.{length-set, get_or-append, get_or-eq_default}
-use Rattle.std.proofs.Math.Seq.{paste, paste-zero, paste-suc, take-length}
-use Rattle.std.proofs.lemmas.List.Edits.{take-paste}
 use Rattle.std.proofs.lemmas.Bool.{eqb-false}
+use Rattle.std.proofs.lemmas.List.{take-replicate}
+use Rattle.std.proofs.Math.ListN.{replicate}
+use borrow.Rule.Slice.PartMut.{put_mid}
 use Rattle.base.specs.Pick.{and_left, taken, passed}
 use Rattle.base.specs.Bytes.{put, length-put, put-put}
 use Rattle.base.specs.Numbers.{listed, listed-drop, past, join}
-use Rattle.wires.specs.Below.{at_every}
 use Rattle.wires.specs.Table.{is_line}
 use Rattle.wires.specs.Kept.{set_cases}
 use Rattle.wires.specs.Lines.{line_value, byte_with, with_bit, no_bits_value, Lines, no_lines, line_level_ok, changed_line, set_line, pulse_line, raised, dropped, map_in, lines_in, bytes_from, map_bytes, lines_bytes}
+use Rattle.wires.specs.Places.{map_get}
 use Rattle.wires.specs.LineBits.{byte_small, length-bit, zero-byte}
+use Rattle.std.proofs.Math.Seq.{paste, paste-zero, paste-suc, take-length}
+use Rattle.std.proofs.lemmas.List.Edits.{take-paste}
+use Rattle.wires.specs.Below.{at_every}
 
 -- ---- reading
 
@@ -23,29 +27,17 @@ listed-length : (n i : ℕ) (l : List ℕ) → length (listed n i l) ≡ n
 listed-length zero i l = refl
 listed-length (suc n) i l = ap suc (listed-length n (suc i) l)
 
-listed_at : (n i : ℕ) (l : List ℕ) (k : ℕ) → k < n → get_or (listed n i l) k 0 ≡ get_or l (i + k) 0
-listed_at zero i l k h = absurd (omega arith)
-listed_at (suc n) i l zero h = let e : i ≡ i + 0 = omega arith in ap (λ (j : ℕ). get_or l j 0) e
-listed_at (suc n) i l (suc k) h = let e : suc i + k ≡ i + suc k = omega arith in listed_at n (suc i) l k (omega arith) ∙ ap (λ (j : ℕ). get_or l j 0) e
-
 pub map-length : (at : ℕ) (l : List ℕ) → length (map_in at l) ≡ 32
 unfolding map_in
 map-length at l = listed-length 32 at l
 
-pub map_at : (at : ℕ) (l : List ℕ) (k : ℕ) → k < 32 → get_or (map_in at l) k 0 ≡ get_or l (at + k) 0
-unfolding map_in
-map_at at l k h = listed_at 32 at l k h
-
-pub value_in : (at : ℕ) (l : List ℕ) (n : ℕ) → n < 256 → line_value (map_in at l) n ≡ get_or l (at + n / 8) 0 / 2 ^ (n % 8) % 2
-value_in at l n h = ap (λ (x : ℕ). x / 2 ^ (n % 8) % 2) (map_at at l (n / 8) (omega arith))
-
 -- a map is what stands at its bytes
 map_is : (at : ℕ) (l m : List ℕ) → length m ≡ 32 → ((k : ℕ) → k < 32 → get_or l (at + k) 0 ≡ get_or m k 0) → map_in at l ≡ m
 map_is at l m h f =
-    ext_get_or 0 (map_in at l) m (map-length at l ∙ sym h) (λ k b. let j : k < 32 = subst (λ (n : ℕ). k < n) (map-length at l) b in map_at at l k j ∙ f k j)
+    ext_get_or 0 (map_in at l) m (map-length at l ∙ sym h) (λ k b. let j : k < 32 = subst (λ (n : ℕ). k < n) (map-length at l) b in map_get at k l j ∙ f k j)
 
 map_same : (at : ℕ) (a b : List ℕ) → ((k : ℕ) → k < 32 → get_or a (at + k) 0 ≡ get_or b (at + k) 0) → map_in at a ≡ map_in at b
-map_same at a b f = map_is at a (map_in at b) (map-length at b) (λ k h. f k h ∙ sym (map_at at b k h))
+map_same at a b f = map_is at a (map_in at b) (map-length at b) (λ k h. f k h ∙ sym (map_get at k b h))
 
 -- ---- bytes that a change leaves
 
@@ -77,7 +69,7 @@ map-byte : (at : ℕ) (l : List ℕ) → ((j : ℕ) → get_or l j 0 < 256) → 
 map-byte at l f k = go (ltb k 32) refl
   where
     go : (t : Bool) → ltb k 32 ≡ t → get_or (map_in at l) k 0 < 256
-    go true e = subst (λ (x : ℕ). x < 256) (sym (map_at at l k (ltb-true k 32 e))) (f (at + k))
+    go true e = subst (λ (x : ℕ). x < 256) (sym (map_get at k l (ltb-true k 32 e))) (f (at + k))
     go false e =
         let h = map-length at l in
         subst (λ (x : ℕ). x < 256) (sym (get_or-eq_default (map_in at l) 0 {n = k} (omega (arith, ltb-false k 32 e)))) (omega arith)
@@ -155,13 +147,13 @@ bit_in at l n b h hn =
         let long = map-length at l in
         ap (λ (j : ℕ). get_or (bit_put at l n b) (at + j) 0) q
         ∙ get_or-set_same l (place at n) _ 0 (omega arith)
-        ∙ ap (λ (x : ℕ). byte_with x (n % 8) b) (sym (map_at at l (n / 8) (omega arith)))
+        ∙ ap (λ (x : ℕ). byte_with x (n % 8) b) (sym (map_get at (n / 8) l (omega arith)))
         ∙ sym (get_or-set_same (map_in at l) (n / 8) _ 0 (omega arith))
         ∙ ap (λ (j : ℕ). get_or (with_bit (map_in at l) n b) j 0) (sym q)
     go k hk false e =
         let q = eqb-false k (n / 8) e in
         get_or-set_other l (place at n) (at + k) _ 0 (λ r. q (omega arith))
-        ∙ sym (map_at at l k hk)
+        ∙ sym (map_get at k l hk)
         ∙ sym (get_or-set_other (map_in at l) (n / 8) k _ 0 q)
 
 -- the other maps stay
@@ -229,80 +221,25 @@ module _ (at : ℕ) (m is : List ℕ) (long : length m ≡ 32) (fits : at + 32 �
 
 -- ---- what the code has on its way
 
-pub power_exact : (k : ℕ) → k < 8 → (1 * 2 ^ k) % 256 ≡ 2 ^ k
-power_exact k h = shl_exact {a = 1} 1 k 8 (omega arith) (omega arith) ∙ one-mul (2 ^ k)
-
 pub line_small : (n level : ℕ) → line_level_ok n level ≡ true → n < 256
 line_small n level e = ltb-true n 256 (and_left (is_line n) (leb level 1) e)
-
--- the first i bytes of the levels are those of the waits: "every high line pending" (02, Q-4)
-abbrev pub waits_from : List ℕ → ℕ → List ℕ
-waits_from l i = paste l 110 (map_in 78 l) i
-
-pub waits_none : (l : List ℕ) → l ≡ waits_from l 0
-waits_none l = paste-zero l 110 (map_in 78 l)
-
-level_byte : (l : List ℕ) (i : ℕ) → 174 ≤ length l → i < 32 → get_or (waits_from l i) (78 + i) 0 ≡ get_or (map_in 78 l) i 0
-level_byte l i h b =
-    let m = map_in 78 l in
-    let long = map-length 78 l in
-    let first = length-take-le 110 l (omega arith) in
-    sym (get_or-take (110 + i) (waits_from l i) (78 + i) 0 (omega arith))
-    ∙ ap (λ (z : List ℕ). get_or z (78 + i) 0) (take-paste l 110 m i (omega arith) (omega arith))
-    ∙ get_or-append (take 110 l) (take i m) 0 (78 + i) (omega arith)
-    ∙ get_or-take 110 l (78 + i) 0 (omega arith)
-    ∙ sym (map_at 78 l i b)
-
-pub waits_next : (l is : List ℕ) (i : ℕ) → 174 ≤ length l → i < 32 → is ≡ waits_from l i → set is (110 + i) (get_or is (78 + i) 0) ≡ waits_from l (i + 1)
-waits_next l is i h b e =
-    let long = map-length 78 l in
-    let s : suc i ≡ i + 1 = omega arith in
-    ap (λ (z : List ℕ). set z (110 + i) (get_or z (78 + i) 0)) e
-    ∙ ap (set (waits_from l i) (110 + i)) (level_byte l i h b)
-    ∙ paste-suc l 110 (map_in 78 l) i 0 (omega arith) (omega arith)
-    ∙ ap (waits_from l) s
-
-pub waits_all : (l is : List ℕ) (i : ℕ) → i ≡ 32 → is ≡ waits_from l i → is ≡ put 110 (map_in 78 l) l
-unfolding put
-waits_all l is i q e =
-    let m = map_in 78 l in
-    e
-    ∙ ap (λ (k : ℕ). waits_from l k) (q ∙ sym (map-length 78 l))
-    ∙ ap (λ (z : List ℕ). take 110 l ++ z ++ drop (110 + length m) l) (take-length m)
 
 -- three maps with no bit: "lower all lines and drop their waits and edges" (02, Q-4)
 abbrev pub three_empty : List ℕ
 three_empty = no_bits_value ++ (no_bits_value ++ no_bits_value)
 
-empty_at : (k : ℕ) → k < 96 → get_or three_empty k 0 ≡ 0
-empty_at k h = eqb-true _ 0 (at_every 96 (λ (j : ℕ). eqb (get_or three_empty j 0) 0) refl k h)
-
--- cleared from a map up to i: "lower all lines and drop their waits and edges" (02, Q-4)
-abbrev pub cleared_to : ℕ → List ℕ → ℕ → List ℕ
-cleared_to at l i = paste l at three_empty (i - at)
-
-pub cleared_none : (at : ℕ) (l : List ℕ) → l ≡ cleared_to at l at
-cleared_none at l = let z : 0 ≡ at - at = omega arith in paste-zero l at three_empty ∙ ap (paste l at three_empty) z
-
-pub cleared_next : (at : ℕ) (l is : List ℕ) (i : ℕ) → 174 ≤ length l → 78 ≤ at → at ≤ i → i < 174 → is ≡ cleared_to at l i
-    → set is i 0 ≡ cleared_to at l (i + 1)
-cleared_next at l is i h ha hi b e =
-    let k = i - at in
-    let p : i ≡ at + k = omega arith in
-    let q : suc k ≡ i + 1 - at = omega arith in
-    ap (λ (z : List ℕ). set z i 0) e
-    ∙ ap (λ (j : ℕ). set (paste l at three_empty k) j 0) p
-    ∙ ap (set (paste l at three_empty k) (at + k)) (sym (empty_at k (omega arith)))
-    ∙ paste-suc l at three_empty k 0 (omega arith) (omega arith)
-    ∙ ap (paste l at three_empty) q
-
-pub cleared-all : (at : ℕ) (l is : List ℕ) (i : ℕ) → 78 ≤ at → i ≡ 174 → is ≡ cleared_to at l i → is ≡ put at (take (174 - at) three_empty) l
+-- bytes of 0 over the maps from one on: "lower all lines and drop their waits and edges" (02, Q-4)
+pub zeros_put : (at : ℕ) (l ys : List ℕ) → 174 ≤ length l → 78 ≤ at → at ≤ 174 → ys ≡ replicate (length (take (174 - at) (drop at l))) 0
+    → put_mid at (174 - at) l ys ≡ put at (take (174 - at) three_empty) l
 unfolding put
-cleared-all at l is i ha q e =
-    let long = length-take-le (174 - at) three_empty (omega arith) in
-    e
-    ∙ ap (cleared_to at l) q
-    ∙ ap (λ (n : ℕ). take at l ++ take (174 - at) three_empty ++ drop (at + n) l) (sym long)
+zeros_put at l ys h low high e =
+    let vs = take (174 - at) three_empty in
+    let part = length-take-le (174 - at) (drop at l) (simp length-drop (omega arith)) in
+    let same : ys ≡ vs = e ∙ ap (λ (n : ℕ). replicate n 0) part ∙ sym (take-replicate (174 - at) 96 0 (omega arith)) in
+    let long : length vs ≡ 174 - at = length-take-le (174 - at) three_empty (omega arith) in
+    ap (λ (z : List ℕ). take at l ++ (z ++ drop (174 - at) (drop at l))) same
+    ∙ sym (append_assoc (take at l) vs (drop (174 - at) (drop at l)))
+    ∙ ap (λ (z : List ℕ). take at l ++ vs ++ z) (drop-drop (174 - at) at l ∙ ap (λ (n : ℕ). drop (at + n) l) (sym long))
 
 -- ---- what each function leaves
 
@@ -399,3 +336,79 @@ module _ (l : List ℕ) (fits : 174 ≤ length l) (byte : (j : ℕ) → get_or l
       ∙ map_in_lem 78 no_bits_value l refl (omega arith))
       (map-beside 142 no_bits_value mid refl (omega arith) 110 (inr (omega arith)) ∙ map_in_lem 110 no_bits_value first refl (omega arith))
       (map_in_lem 142 no_bits_value mid refl (omega arith)))
+
+-- ---- a loop over the bytes, byte by byte
+
+pub map_at : (at : ℕ) (l : List ℕ) (k : ℕ) → k < 32 → get_or (map_in at l) k 0 ≡ get_or l (at + k) 0
+map_at at l k h = map_get at k l h
+
+pub value_in : (at : ℕ) (l : List ℕ) (n : ℕ) → n < 256 → line_value (map_in at l) n ≡ get_or l (at + n / 8) 0 / 2 ^ (n % 8) % 2
+value_in at l n h = ap (λ (x : ℕ). x / 2 ^ (n % 8) % 2) (map_at at l (n / 8) (omega arith))
+
+pub power_exact : (k : ℕ) → k < 8 → (1 * 2 ^ k) % 256 ≡ 2 ^ k
+power_exact k h = shl_exact {a = 1} 1 k 8 (omega arith) (omega arith) ∙ one-mul (2 ^ k)
+
+-- the first i bytes of the levels are those of the waits: "every high line pending" (02, Q-4)
+abbrev pub waits_from : List ℕ → ℕ → List ℕ
+waits_from l i = paste l 110 (map_in 78 l) i
+
+pub waits_none : (l : List ℕ) → l ≡ waits_from l 0
+waits_none l = paste-zero l 110 (map_in 78 l)
+
+level_byte : (l : List ℕ) (i : ℕ) → 174 ≤ length l → i < 32 → get_or (waits_from l i) (78 + i) 0 ≡ get_or (map_in 78 l) i 0
+level_byte l i h b =
+    let m = map_in 78 l in
+    let long = map-length 78 l in
+    let first = length-take-le 110 l (omega arith) in
+    sym (get_or-take (110 + i) (waits_from l i) (78 + i) 0 (omega arith))
+    ∙ ap (λ (z : List ℕ). get_or z (78 + i) 0) (take-paste l 110 m i (omega arith) (omega arith))
+    ∙ get_or-append (take 110 l) (take i m) 0 (78 + i) (omega arith)
+    ∙ get_or-take 110 l (78 + i) 0 (omega arith)
+    ∙ sym (map_at 78 l i b)
+
+pub waits_next : (l is : List ℕ) (i : ℕ) → 174 ≤ length l → i < 32 → is ≡ waits_from l i → set is (110 + i) (get_or is (78 + i) 0) ≡ waits_from l (i + 1)
+waits_next l is i h b e =
+    let long = map-length 78 l in
+    let s : suc i ≡ i + 1 = omega arith in
+    ap (λ (z : List ℕ). set z (110 + i) (get_or z (78 + i) 0)) e
+    ∙ ap (set (waits_from l i) (110 + i)) (level_byte l i h b)
+    ∙ paste-suc l 110 (map_in 78 l) i 0 (omega arith) (omega arith)
+    ∙ ap (waits_from l) s
+
+pub waits_all : (l is : List ℕ) (i : ℕ) → i ≡ 32 → is ≡ waits_from l i → is ≡ put 110 (map_in 78 l) l
+unfolding put
+waits_all l is i q e =
+    let m = map_in 78 l in
+    e
+    ∙ ap (λ (k : ℕ). waits_from l k) (q ∙ sym (map-length 78 l))
+    ∙ ap (λ (z : List ℕ). take 110 l ++ z ++ drop (110 + length m) l) (take-length m)
+
+empty_at : (k : ℕ) → k < 96 → get_or three_empty k 0 ≡ 0
+empty_at k h = eqb-true _ 0 (at_every 96 (λ (j : ℕ). eqb (get_or three_empty j 0) 0) refl k h)
+
+-- cleared from a map up to i: "lower all lines and drop their waits and edges" (02, Q-4)
+abbrev pub cleared_to : ℕ → List ℕ → ℕ → List ℕ
+cleared_to at l i = paste l at three_empty (i - at)
+
+pub cleared_none : (at : ℕ) (l : List ℕ) → l ≡ cleared_to at l at
+cleared_none at l = let z : 0 ≡ at - at = omega arith in paste-zero l at three_empty ∙ ap (paste l at three_empty) z
+
+pub cleared_next : (at : ℕ) (l is : List ℕ) (i : ℕ) → 174 ≤ length l → 78 ≤ at → at ≤ i → i < 174 → is ≡ cleared_to at l i
+    → set is i 0 ≡ cleared_to at l (i + 1)
+cleared_next at l is i h ha hi b e =
+    let k = i - at in
+    let p : i ≡ at + k = omega arith in
+    let q : suc k ≡ i + 1 - at = omega arith in
+    ap (λ (z : List ℕ). set z i 0) e
+    ∙ ap (λ (j : ℕ). set (paste l at three_empty k) j 0) p
+    ∙ ap (set (paste l at three_empty k) (at + k)) (sym (empty_at k (omega arith)))
+    ∙ paste-suc l at three_empty k 0 (omega arith) (omega arith)
+    ∙ ap (paste l at three_empty) q
+
+pub cleared-all : (at : ℕ) (l is : List ℕ) (i : ℕ) → 78 ≤ at → i ≡ 174 → is ≡ cleared_to at l i → is ≡ put at (take (174 - at) three_empty) l
+unfolding put
+cleared-all at l is i ha q e =
+    let long = length-take-le (174 - at) three_empty (omega arith) in
+    e
+    ∙ ap (cleared_to at l) q
+    ∙ ap (λ (n : ℕ). take at l ++ take (174 - at) three_empty ++ drop (at + n) l) (sym long)

@@ -14,7 +14,7 @@ use Rattle.wires.specs.Kept.{clash}
 use Rattle.wires.specs.Lines.{line_value, line_bit, any_bit, map_in, lines_in, edges_wait}
 use Rattle.wires.specs.LineBits.{value_bit, none_bit, no_bit}
 use Rattle.wires.specs.LinesKept.{edges_view, edges_test}
-use Rattle.wires.specs.LineCode.{value_in}
+use Rattle.wires.specs.Places.{line_get}
 
 -- some word of a map's four is not 0: "an edge waits" (02, Q-4), by whole words
 abbrev pub words_any : ℕ → List ℕ → Bool
@@ -200,7 +200,7 @@ module _ (l : List ℕ) (byte : (k : ℕ) → get_or l k 0 < 256) where
       let w = at + n / 64 * 8 in
       let p : at + n / 8 ≡ w + i = omega arith in
       let q : i * 8 + n % 8 ≡ n % 64 = omega arith in
-      value_in at l n h
+      line_get at n l h
       ∙ ap (λ (k : ℕ). bit_of (get_or l k 0) (n % 8)) p
       ∙ ap (λ (x : ℕ). bit_of x (n % 8)) (sym (word_byte w i (mod-lt (n / 8) (omega arith))))
       ∙ part-bit (number8 w l) (i * 8) (n % 8) (mod-lt n (omega arith))

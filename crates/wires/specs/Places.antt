@@ -16,17 +16,13 @@ use Rattle.wires.specs.Groups.{level_at, mark_at, with_place}
 use Rattle.wires.specs.Lines.{map_length, map_in, map_bytes, bytes_from, lines_in, lines_bytes, line_value, byte_with, with_bit}
 use Rattle.wires.specs.Senders.{AllWires, left_by}
 use Rattle.wires.specs.Layout.{wires_in, wires_bytes, all_bytes, wires_same}
+use Rattle.wires.specs.MapBytes.{listed_at}
 use Rattle.wires.specs.Turn.{after}
 use Rattle.wires.specs.Kept.{set_cases}
 use Rattle.wires.specs.Sent.{left_line, left_group}
 use Rattle.wires.specs.declared.Wires.{Wires}
 
 -- ---- some bytes of a list, one by one
-
-get_listed : (n at j : ℕ) (l : List ℕ) → j < n → get_or (listed n at l) j 0 ≡ get_or l (at + j) 0
-get_listed zero at j l h = absurd (omega arith)
-get_listed (suc n) at zero l h = let e : at ≡ at + 0 = omega arith in ap (λ (i : ℕ). get_or l i 0) e
-get_listed (suc n) at (suc j) l h = let e : suc at + j ≡ at + suc j = omega arith in get_listed n (suc at) j l (omega arith) ∙ ap (λ (i : ℕ). get_or l i 0) e
 
 listed-beside : (n at i v : ℕ) (l : List ℕ) → ((k : ℕ) → k < n → at + k ≡ i → ⊥) → listed n at (set l i v) ≡ listed n at l
 listed-beside zero at i v l h = refl
@@ -51,7 +47,7 @@ listed_own (suc n) at (suc j) v l h b =
 
 pub map_get : (at j : ℕ) (l : List ℕ) → j < 32 → get_or (map_in at l) j 0 ≡ get_or l (at + j) 0
 unfolding map_in
-map_get at j l h = get_listed map_length at j l h
+map_get at j l h = listed_at map_length at l j h
 
 -- a line's bit where its byte stands
 pub line_get : (at n : ℕ) (l : List ℕ) → n < 256 → line_value (map_in at l) n ≡ get_or l (at + n / 8) 0 / 2 ^ (n % 8) % 2
@@ -87,7 +83,7 @@ listed_again zero k i at l = refl
 listed_again (suc n) k i at l =
     let e : i + suc n + k ≡ suc i + n + k = omega arith in
     let f : at + suc i ≡ suc (at + i) = omega arith in
-    ap (λ (x : ℕ). x ∷ listed n (suc i) (listed (i + suc n + k) at l)) (get_listed (i + suc n + k) at i l (omega arith))
+    ap (λ (x : ℕ). x ∷ listed n (suc i) (listed (i + suc n + k) at l)) (listed_at (i + suc n + k) at l i (omega arith))
     ∙ ap (λ (x : ℕ). get_or l (at + i) 0 ∷ listed n (suc i) (listed x at l)) e
     ∙ ap (λ (xs : List ℕ). get_or l (at + i) 0 ∷ xs) (listed_again n k (suc i) at l ∙ ap (λ (x : ℕ). listed n x l) f)
 
@@ -105,7 +101,7 @@ map-bytes n at l h =
     length-listed (suc k) i = omega (arith, length-listed k (suc i))
 
     go : (j : ℕ) (b : Bool) → ltb j n ≡ b → get_or (listed n at l) j 0 < 256
-    go j true e = subst (λ (x : ℕ). x < 256) (sym (get_listed n at j l (ltb-true j n e))) (h (at + j))
+    go j true e = subst (λ (x : ℕ). x < 256) (sym (listed_at n at l j (ltb-true j n e))) (h (at + j))
     go j false e = let z = get_or-eq_default (listed n at l) 0 {n = j} (omega (arith, length-listed n at, ltb-false j n e)) in omega arith
 
 -- a map's bytes are those that stand there
@@ -218,7 +214,7 @@ group_mark l i h b =
     ap (λ (x : ℕ). get_or (wires_in l).pending (x - 2) false) (group_number i h b)
     ∙ ap (λ (x : ℕ). get_or (wires_in l).pending x false) e
     ∙ get_map (λ (x : ℕ). eqb x 1) (listed 6 70 l) j 0
-    ∙ ap (λ (x : ℕ). eqb x 1) (get_listed 6 70 j l (omega arith))
+    ∙ ap (λ (x : ℕ). eqb x 1) (listed_at 6 70 l j (omega arith))
     ∙ ap (λ (x : ℕ). eqb (get_or l x 0) 1) f
   where
     get_map : (f : ℕ → Bool) (m : List ℕ) (j d : ℕ) → get_or (map f m) j (f d) ≡ f (get_or m j d)
@@ -233,7 +229,7 @@ group_level l i h b =
     let f : 64 + j ≡ i - 190 = omega arith in
     ap (λ (x : ℕ). get_or (wires_in l).level (x - 2) 0) (group_number i h b)
     ∙ ap (λ (x : ℕ). get_or (wires_in l).level x 0) e
-    ∙ get_listed 6 64 j l (omega arith)
+    ∙ listed_at 6 64 l j (omega arith)
     ∙ ap (λ (x : ℕ). get_or l x 0) f
 
 marked_off : (l : List ℕ) (j p : ℕ) → j < 6 → 78 ≤ length l

@@ -69,6 +69,8 @@ const FIRST_PLACE: u32 = 256;
 const HOST_WIRES: u32 = 0x70007700;
 
 // Index i stands at place i - 2 of both arrays; `place` is the sender that the next GET_VWIRE begins with: a line, or 252 more than a group.
+// Stays: two lists, the form that document 01 names ("an array of six nibbles and one of pending marks"); `Put` (`marks`) and Wires/Rows in
+// rules/specs/Statements speak of them.
 #[derive(Clone, Copy)]
 pub struct Wires {
     pub level: [u8; 6],
@@ -76,10 +78,9 @@ pub struct Wires {
     pub place: u32,
 }
 
-// What a PUT_VWIRE's pairs come to: whether a wire has a third transition, and the wires after them all.
+// Why a PUT_VWIRE's pairs are refused: one of the wires has a third transition. The wires that all pairs would make are told beside it.
 #[derive(Clone, Copy)]
-pub struct Putting {
-    pub third: bool,
+pub struct ThirdTransition {
     pub next: Wires,
 }
 
@@ -138,9 +139,9 @@ impl Course {
         if 7 < index {
             return self;
         }
-        let at = (index as u32) * 4;
-        let value = ((byte % 16) as u32) << at;
-        let valid = (((byte / 16) as u32) << at) & HOST_WIRES;
+        let at = u32::from(index) * 4;
+        let value = u32::from(byte % 16) << at;
+        let valid = (u32::from(byte / 16) << at) & HOST_WIRES;
         self.counted((self.level ^ value) & valid)
     }
 }
@@ -150,13 +151,11 @@ pub fn pair(group: u8, level: u8) -> [u8; 2]
     requires { (is_up group ≡ true) × (level < 16) }
     ensures { result ≡ pair_at group level }
 {
-    if group == 4 {
-        return [group, TABLE[2].defined * 16 + level];
+    match group {
+        4 => [group, TABLE[2].defined * 16 + level],
+        5 => [group, TABLE[3].defined * 16 + level],
+        _ => [group, TABLE[4].defined * 16 + level],
     }
-    if group == 5 {
-        return [group, TABLE[3].defined * 16 + level];
-    }
-    [group, TABLE[4].defined * 16 + level]
 }
 
 pub fn defined_bit(index: u32, bit: u32) -> bool
@@ -185,26 +184,14 @@ pub fn settable(index: u32, bit: u32, value: u32) -> bool
     !TABLE[at].down & (value <= 1)
 }
 
-// The going-round place of its two bytes.
-fn place_of(low: u8, high: u8) -> u32
-    ensures { result ≡ low + high * 256 }
-{
-    (low as u32) + (high as u32) * 256
-}
-
+// Stays: an index and a bit are numbers as the C interface has them, and public functions here and in the engine take any; `2 ≤ index` and `index ≤ 7` are
+// asked for by three private ones, whose callers name the group, count it from the table or have tested it.
 impl Wires {
     pub fn fresh() -> Wires
         ensures { result ≡ fresh_wires }
     {
         Wires {
-            level: [
-                TABLE[0].reset,
-                TABLE[1].reset,
-                TABLE[2].reset,
-                TABLE[3].reset,
-                TABLE[4].reset,
-                TABLE[5].reset,
-            ],
+            level: TABLE.map(|row| row.reset),
             pending: [false; 6],
             place: FIRST_PLACE,
         }
@@ -216,10 +203,9 @@ impl Wires {
         ensures { result ≡ with_group self index level mark place }
     {
         let i = index - 2;
-        let mut next = self;
+        let mut next = Wires { place, ..self };
         next.level[i] = level;
         next.pending[i] = mark;
-        next.place = place;
         next
     }
 
@@ -228,11 +214,11 @@ impl Wires {
         requires { Small self }
         ensures { result ≡ course_of self }
     {
-        let two = (self.level[0] as u32) * 256;
-        let three = (self.level[1] as u32) * 4096;
-        let seven = (self.level[5] as u32) * 268435456;
+        let two = u32::from(self.level[0]) << 8;
+        let three = u32::from(self.level[1]) << 12;
+        let seven = u32::from(self.level[5]) << 28;
         Course {
-            level: two + three + seven,
+            level: two | three | seven,
             once: 0,
             twice: 0,
             third: 0,
@@ -250,26 +236,26 @@ impl Wires {
     fn with_levels(self, word: u32) -> Wires
         ensures { result ≡ with_levels self word }
     {
-        let two = self.with_level(2, (word / 256 % 16) as u8);
-        let three = two.with_level(3, (word / 4096 % 16) as u8);
-        three.with_level(7, (word / 268435456 % 16) as u8)
+        let two = self.with_level(2, ((word >> 8) % 16) as u8);
+        let three = two.with_level(3, ((word >> 12) % 16) as u8);
+        three.with_level(7, ((word >> 28) % 16) as u8)
     }
 
     // One pass over the pairs; the wires change after it, at once.
-    pub fn put(self, pairs: &[u8], n: usize) -> Putting
-        requires { (n * 2 ≤ length pairs.now) × Small self }
-        ensures { result ≡ putting self (take (n * 2) pairs.now) }
+    pub fn put(self, bytes: &[u8]) -> Result<Wires, ThirdTransition>
+        requires { Small self }
+        ensures { result ≡ putting self bytes.now }
     {
         let mut course = self.course();
-        let mut i: usize = 0;
-        while i < n {
-            course = course.past(pairs[i * 2], pairs[i * 2 + 1]);
-            i += 1;
+        let (pairs, _) = bytes.as_chunks::<2>();
+        for [index, byte] in pairs {
+            course = course.past(*index, *byte);
         }
-        Putting {
-            third: course.third != 0,
-            next: self.with_levels(course.level),
+        let next = self.with_levels(course.level);
+        if course.third != 0 {
+            return Err(ThirdTransition { next });
         }
+        Ok(next)
     }
 
     pub fn set(self, on: bool, index: u32, bit: u32, value: u32) -> Wires
@@ -292,7 +278,7 @@ impl Wires {
         ensures { result ≡ read_wire self index bit }
     {
         let at = (index - 2) as usize;
-        ((self.level[at] >> bit) % 2) as u32
+        u32::from((self.level[at] >> bit) % 2)
     }
 
     // Each mark anew: that of an up group that differs from its reset value, or none.
@@ -300,11 +286,9 @@ impl Wires {
         ensures { result ≡ remarked on self place }
     {
         let mut next = self;
-        let mut i: usize = 0;
-        while i < 6 {
-            let mark = on & (!TABLE[i].down & (self.level[i] != TABLE[i].reset));
+        for (i, row) in TABLE.iter().enumerate() {
+            let mark = on & (!row.down & (self.level[i] != row.reset));
             next = next.with(i + 2, self.level[i], mark, place);
-            i += 1;
         }
         next
     }
@@ -335,9 +319,11 @@ impl Wires {
         self.reset_group(6).reset_group(7)
     }
 
+    // Stays: a byte a place, as docs/STATE.md has them.
     fn bytes(self) -> [u8; 14]
         ensures { result ≡ wires_bytes self }
     {
+        let place = self.place.to_le_bytes();
         [
             self.level[0],
             self.level[1],
@@ -345,14 +331,14 @@ impl Wires {
             self.level[3],
             self.level[4],
             self.level[5],
-            base::bit_of(self.pending[0]),
-            base::bit_of(self.pending[1]),
-            base::bit_of(self.pending[2]),
-            base::bit_of(self.pending[3]),
-            base::bit_of(self.pending[4]),
-            base::bit_of(self.pending[5]),
-            (self.place % 256) as u8,
-            (self.place / 256 % 256) as u8,
+            u8::from(self.pending[0]),
+            u8::from(self.pending[1]),
+            u8::from(self.pending[2]),
+            u8::from(self.pending[3]),
+            u8::from(self.pending[4]),
+            u8::from(self.pending[5]),
+            place[0],
+            place[1],
         ]
     }
 
@@ -372,15 +358,8 @@ impl Wires {
     {
         Wires {
             level: [b[64], b[65], b[66], b[67], b[68], b[69]],
-            pending: [
-                b[70] == 1,
-                b[71] == 1,
-                b[72] == 1,
-                b[73] == 1,
-                b[74] == 1,
-                b[75] == 1,
-            ],
-            place: place_of(b[76], b[77]),
+            pending: [b[70], b[71], b[72], b[73], b[74], b[75]].map(|mark| mark == 1),
+            place: base::join2(b[76], b[77]),
         }
     }
 
@@ -397,7 +376,7 @@ impl Wires {
         requires { 174 ≤ length b.now }
         ensures { (result ≡ wires_status (all_in b.now)) × (result ≤ 68) }
     {
-        4 + (base::bit_of(Wires::any_pending(b)) as u32) * 64
+        4 + u32::from(Wires::any_pending(b)) * 64
     }
 
     // Whether the groups' bytes in `b` pack sound ones, the channel being on or off: eight bytes are tested at a time.
@@ -407,7 +386,7 @@ impl Wires {
     {
         let low = base::get8(b, 64);
         let high = base::get4(b, 72);
-        let place = place_of(b[76], b[77]);
+        let place = base::join2(b[76], b[77]);
         levels_fit(low) & (marks_fit(on, low, high) & (place < 259))
     }
 
@@ -428,27 +407,25 @@ fn in_row(k: usize, level: u8) -> bool
 }
 
 // The levels are the low six bytes.
+// Stays: a row each, as the definition has them; every call but a start goes through here, and so the masks are numbers that the compiler knows.
 fn levels_fit(low: u64) -> bool
     ensures { result ≡ levels_fit (low8 low) }
 {
-    in_row(0, (low % 256) as u8)
-        & in_row(1, (low / 256 % 256) as u8)
-        & in_row(2, (low / 65536 % 256) as u8)
-        & in_row(3, (low / 16777216 % 256) as u8)
-        & in_row(4, (low / 4294967296 % 256) as u8)
-        & in_row(5, (low / 1099511627776 % 256) as u8)
+    let levels = low.to_le_bytes();
+    in_row(0, levels[0])
+        & in_row(1, levels[1])
+        & in_row(2, levels[2])
+        & in_row(3, levels[3])
+        & in_row(4, levels[4])
+        & in_row(5, levels[5])
 }
 
 // The marks are the two bytes above them, and four more.
 fn marks_fit(on: bool, low: u64, high: u32) -> bool
     ensures { result ≡ marks_in on (low8 low ++ low4 high) }
 {
-    let a = low / 281474976710656 % 256;
-    let b = low / 72057594037927936 % 256;
-    let c = high % 256;
-    let d = high / 256 % 256;
-    let e = high / 65536 % 256;
-    let f = high / 16777216 % 256;
+    let [.., a, b] = low.to_le_bytes();
+    let [c, d, e, f] = high.to_le_bytes();
     (a == 0)
         & ((b == 0)
             & ((f == 0)
@@ -465,12 +442,14 @@ pub fn send(state: &mut [u8], reply: &mut [u8], p: Packet) -> usize
         left: sending::left_for(p.capacity as usize, 259),
         room: p.capacity as usize,
         at: 2,
-        place: place_of(state[76], state[77]) as usize,
+        place: base::join2(state[76], state[77]) as usize,
     };
+    // Stays: no index is counted here; a step passes over as many senders as it finds quiet, and what is left falls by those.
     while 0 < g.left {
         g = sending::step(state, reply, g);
     }
-    state[76] = (g.place % 256) as u8;
-    state[77] = (g.place / 256 % 256) as u8;
+    let place = g.place.to_le_bytes();
+    state[76] = place[0];
+    state[77] = place[1];
     (g.at - 2) / 2
 }

@@ -6,22 +6,27 @@ ghost use Rattle.wires.specs.Lines.{byte_with, no_lines, line_value, line_bit, a
 ghost use Rattle.wires.specs.LineCode.{bit_put, three_empty};
 ghost use Rattle.wires.specs.LineWords.{mask_of, wrong_in};
 
-const LEVELS: usize = 78;
+pub(crate) const LEVELS: usize = 78;
 
-const WAITS: usize = 110;
+pub(crate) const WAITS: usize = 110;
 
-const EDGES: usize = 142;
+pub(crate) const EDGES: usize = 142;
 
-// A line's bit as a number.
-fn value_at(b: &[u8], map: usize, line: usize) -> u32
+// Stays: of these functions the eight public ones take any slice of 174 bytes or more (docs/CONTRACTS.md), so each would make a struct with that length for the
+// nine private ones; and three ask `is_line` of a number that may be none. The private ones ask for `line < 256`: with a `u8` the sender that goes round, up to
+// 258, would be cut at each call. A map is told by the place of its first byte, as `map_in` has it; by an enum each of the definitions would be asked for that
+// place.
+
+// A line's bit of the map that begins at a byte.
+pub(crate) fn value_at(b: &[u8], map: usize, line: usize) -> u8
     requires { (174 ≤ length b.now) × (map ≤ 142) × (line < 256) }
-    ensures { result ≡ line_value (map_in map b.now) line }
+    ensures { (result ≡ line_value (map_in map b.now) line) × (result ≤ 1) }
 {
-    ((b[map + line / 8] >> (line % 8)) % 2) as u32
+    (b[map + line / 8] >> (line % 8)) % 2
 }
 
 // .. as a test.
-fn bit_at(b: &[u8], map: usize, line: usize) -> bool
+pub(crate) fn bit_at(b: &[u8], map: usize, line: usize) -> bool
     requires { (174 ≤ length b.now) × (map ≤ 142) × (line < 256) }
     ensures { result ≡ line_bit (map_in map b.now) line }
 {
@@ -40,7 +45,7 @@ fn byte_with(byte: u8, k: usize, on: bool) -> u8
 }
 
 // One byte changes.
-fn put_bit(b: &mut [u8], map: usize, line: usize, on: bool)
+pub(crate) fn put_bit(b: &mut [u8], map: usize, line: usize, on: bool)
     requires { (174 ≤ length b.old) × (map ≤ 142) × (line < 256) }
     ensures { b.new ≡ bit_put map b.old line on }
 {
@@ -69,7 +74,7 @@ pub fn set_line(b: &mut [u8], on: bool, line: u32, level: u32)
     ensures { b.new ≡ put 78 (lines_bytes (set_line on (lines_in b.old) line level)) b.old }
 {
     let at = line as usize;
-    if value_at(b, LEVELS, at) == level {
+    if u32::from(value_at(b, LEVELS, at)) == level {
         return;
     }
     put_bit(b, LEVELS, at, level == 1);
@@ -94,22 +99,17 @@ fn clear_from(b: &mut [u8], map: usize)
     requires { (174 ≤ length b.old) × (78 ≤ map) × (map ≤ 174) }
     ensures { b.new ≡ put map (take (174 - map) three_empty) b.old }
 {
-    let mut i = map;
-    while i < 174 {
-        b[i] = 0;
-        i += 1;
-    }
+    b[map..174].fill(0);
 }
 
 // The waits become the levels.
+// Stays a `for`: in archives for 32-bit cores the library's `copy_within` copies wrongly (docs/CONTRIBUTING.md, last section).
 fn levels_wait(b: &mut [u8])
     requires { 174 ≤ length b.old }
     ensures { b.new ≡ put 110 (map_in 78 b.old) b.old }
 {
-    let mut i: usize = 0;
-    while i < 32 {
+    for i in 0..32 {
         b[WAITS + i] = b[LEVELS + i];
-        i += 1;
     }
 }
 
@@ -138,6 +138,7 @@ pub fn clear_lines(b: &mut [u8])
 }
 
 // Four words.
+// Stays: unrolled, since every reply with a status goes through here: so the places are numbers that the compiler knows.
 fn any_in(b: &[u8], map: usize) -> bool
     requires { (174 ≤ length b.now) × (map ≤ 142) }
     ensures { result ≡ any_bit (map_in map b.now) }
@@ -165,10 +166,7 @@ pub fn any_edge(b: &[u8]) -> bool
 fn mask_of(b: bool) -> u64
     ensures { result ≡ mask_of b }
 {
-    if b {
-        return 18446744073709551615;
-    }
-    0
+    if b { u64::MAX } else { 0 }
 }
 
 // What is wrong in eight bytes of the maps: an edge that does not wait or has no room, and what may not wait. It is one word, so that all are tested
@@ -183,6 +181,7 @@ fn wrong_in(b: &[u8], k: usize, live: u64, room: u64) -> u64
 }
 
 // Whether the lines are sound: edges wait, none waits while the channel is off, and no edge while one entry fills a packet.
+// Stays: unrolled, since every call but a start goes through here: so the places are numbers that the compiler knows.
 pub(crate) fn lines_hold(b: &[u8], on: bool, count: u32) -> bool
     requires { 174 ≤ length b.now }
     ensures { result ≡ sound_lines on count (lines_in b.now) }

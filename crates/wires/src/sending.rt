@@ -4,10 +4,13 @@ ghost use Rattle.base.specs.Bytes.{put};
 ghost use Rattle.wires.specs.Turn.{after};
 ghost use Rattle.wires.specs.Table.{senders};
 ghost use Rattle.wires.specs.Lines.{line_value, line_entry, map_in};
-ghost use Rattle.wires.specs.Places.{cleared};
 ghost use Rattle.wires.specs.Going.{Quiet, empty_byte, empty_word, left_for, passed, took, InRange, AtEdge, Stepped};
 
+use crate::lines::{EDGES, LEVELS, WAITS, bit_at, put_bit, value_at};
 use crate::{Going, pair};
+
+// Stays: state, reply and g go together, in `InRange` too; with a struct of the two slices each step promises that it holds the same ones, which a parameter
+// says itself.
 
 // The sender behind one, going round.
 fn after(sender: usize) -> usize
@@ -20,22 +23,6 @@ fn after(sender: usize) -> usize
     0
 }
 
-// A line's bit of the map that begins at a byte.
-fn bit_in(b: &[u8], map: usize, line: usize) -> u8
-    requires { (174 ≤ length b.now) × (map ≤ 142) × (line < 256) }
-    ensures { (result ≡ line_value (map_in map b.now) line) × (result ≤ 1) }
-{
-    (b[map + line / 8] >> (line % 8)) % 2
-}
-
-fn clear_bit(b: &mut [u8], map: usize, line: usize)
-    requires { (174 ≤ length b.old) × (map ≤ 142) × (line < 256) }
-    ensures { b.new ≡ cleared map line b.old }
-{
-    let at = map + line / 8;
-    b[at] = b[at] & (255 - (1 << (line % 8)));
-}
-
 // 64 lines begin at one, and none of them waits.
 fn empty_word(b: &[u8], line: usize) -> bool
     requires { (174 ≤ length b.now) × (line < 256) }
@@ -44,7 +31,7 @@ fn empty_word(b: &[u8], line: usize) -> bool
     if line % 64 != 0 {
         return false;
     }
-    base::get8(b, 110 + line / 8) == 0
+    base::get8(b, WAITS + line / 8) == 0
 }
 
 // Eight lines begin at one, and none of them waits.
@@ -52,7 +39,7 @@ fn empty_byte(b: &[u8], line: usize) -> bool
     requires { (174 ≤ length b.now) × (line < 256) }
     ensures { result ≡ empty_byte b.now line }
 {
-    (line % 8 == 0) & (b[110 + line / 8] == 0)
+    (line % 8 == 0) & (b[WAITS + line / 8] == 0)
 }
 
 // How many lines from one on, which does not wait, are passed over at once.
@@ -83,30 +70,30 @@ pub(crate) fn left_for(room: usize, left: usize) -> usize
     left
 }
 
-fn passed(g: Going, next: usize, k: usize) -> Going
-    requires { k ≤ g.left }
-    ensures { result ≡ passed g next k }
-{
-    Going {
-        sender: next,
-        left: g.left - k,
-        room: g.room,
-        at: g.at,
-        place: g.place,
+impl Going {
+    fn passed(self, next: usize, k: usize) -> Going
+        requires { k ≤ self.left }
+        ensures { result ≡ passed self next k }
+    {
+        Going {
+            sender: next,
+            left: self.left - k,
+            ..self
+        }
     }
-}
 
-// The sender is taken, with n entries.
-fn took(g: Going, next: usize, n: usize) -> Going
-    requires { (0 < g.left) × (n ≤ g.room) × (n ≤ 2) × (g.at ≤ 130) }
-    ensures { result ≡ took g next n }
-{
-    Going {
-        sender: next,
-        left: left_for(g.room - n, g.left - 1),
-        room: g.room - n,
-        at: g.at + n * 2,
-        place: next,
+    // The sender is taken, with n entries.
+    fn took(self, next: usize, n: usize) -> Going
+        requires { (0 < self.left) × (n ≤ self.room) × (n ≤ 2) × (self.at ≤ 130) }
+        ensures { result ≡ took self next n }
+    {
+        Going {
+            sender: next,
+            left: left_for(self.room - n, self.left - 1),
+            room: self.room - n,
+            at: self.at + n * 2,
+            place: next,
+        }
     }
 }
 
@@ -133,13 +120,13 @@ fn edge_step(state: &mut [u8], reply: &mut [u8], g: Going) -> Going
     ensures { Stepped state.old reply.old g state.new reply.new result }
 {
     if g.room < 2 {
-        return passed(g, g.sender + 1, g.left);
+        return g.passed(g.sender + 1, g.left);
     }
-    let held = bit_in(state, 78, g.sender);
+    let held = value_at(state, LEVELS, g.sender);
     put_levels(reply, g.at, g.sender, 1 - held, held);
-    clear_bit(state, 110, g.sender);
-    clear_bit(state, 142, g.sender);
-    took(g, g.sender + 1, 2)
+    put_bit(state, WAITS, g.sender, false);
+    put_bit(state, EDGES, g.sender, false);
+    g.took(g.sender + 1, 2)
 }
 
 // A line is asked first whether it waits: where many do, no run is looked for.
@@ -148,17 +135,17 @@ fn line_step(state: &mut [u8], reply: &mut [u8], g: Going) -> Going
     ensures { Stepped state.old reply.old g state.new reply.new result }
 {
     let line = g.sender;
-    if bit_in(state, 110, line) == 0 {
+    if !bit_at(state, WAITS, line) {
         let k = quiet_run(state, line, g.left);
-        return passed(g, line + k, k);
+        return g.passed(line + k, k);
     }
-    if bit_in(state, 142, line) == 1 {
+    if bit_at(state, EDGES, line) {
         return edge_step(state, reply, g);
     }
-    let level = bit_in(state, 78, line);
+    let level = value_at(state, LEVELS, line);
     put_level(reply, g.at, line, level);
-    clear_bit(state, 110, line);
-    took(g, line + 1, 1)
+    put_bit(state, WAITS, line, false);
+    g.took(line + 1, 1)
 }
 
 // Groups 4 to 6 stand behind the lines.
@@ -170,13 +157,13 @@ fn group_step(state: &mut [u8], reply: &mut [u8], g: Going) -> Going
     let at = g.at;
     let next = after(sender);
     if state[sender - 184] != 1 {
-        return passed(g, next, 1);
+        return g.passed(next, 1);
     }
     let entry = pair((sender - 252) as u8, state[sender - 190]);
     reply[at] = entry[0];
     reply[at + 1] = entry[1];
     state[sender - 184] = 0;
-    took(g, next, 1)
+    g.took(next, 1)
 }
 
 pub(crate) fn step(state: &mut [u8], reply: &mut [u8], g: Going) -> Going

@@ -1,30 +1,25 @@
-use Rattle.command.specs.Laws.{high_next, power_next, within}
-use Prim.Native.Nat.{ℕ, ◌<◌, ◌+◌, ◌^◌}
-use mathlib.Core.Path.{◌≡◌, refl, ap, subst, ◌∙◌}
+use Prim.Native.Nat.{ℕ, ◌<◌, ◌+◌}
+use mathlib.Core.Path.{◌≡◌, ap, ◌∙◌}
 use native.Mathlib.Omega.{arith}
-use Rattle.command.specs.Decode.{high_first}
-use borrow.Author.Rules.{rules}
+use lib.ListN.{get_or}
+use Rattle.std.proofs.Common.{rules}
+use Rattle.command.specs.Laws.{byte_from, high_next, power_next, within}
 use Rattle.command.proofs.high_first.Goals as goal
 
+-- the byte that the loop adds
+added : (c : goal.After-from-in-loop-x) → (c.from-in-loop-x.result ≡ get_or c.args.b.now (c.args.at + c.loop-x.x-index) 0) × (c.loop-x.x-index < c.args.n)
+added c =
+    let (e, l) = byte_from c.args.b.now c.from-from.result c.from.result c.loop-x.x-index c.loop-x-test.true in
+    (c.from-in-loop-x.ensures ∙ e ∙ ap (λ (k : ℕ). get_or c.args.b.now (k + c.loop-x.x-index) 0) c.from-from.ensures, omega arith)
+
 pub overflow_mul-v : goal.overflow_mul-v
-overflow_mul-v c = omega (arith, within 7 _ _ (omega arith) c.loop-i.invariant.1.1)
+overflow_mul-v c = omega (arith, within 7 _ _ (search rules) c.loop-x.invariant.1)
 
-pub overflow_add-v-in-loop-i : goal.overflow_add-v-in-loop-i
-overflow_add-v-in-loop-i c =
-    let l = c.loop-i in
-    omega (arith, within 7 _ _ (omega arith) l.invariant.1.1, c.type_inv.b (c.args.at + l.i))
+pub overflow_add-v : goal.overflow_add-v
+overflow_add-v c =
+    let (e, l) = added c in omega (arith, within 7 _ _ (omega arith) c.loop-x.invariant.1, c.type_inv.b (c.args.at + c.loop-x.x-index))
 
-pub loop-i-preserved : goal.loop-i-preserved
-loop-i-preserved c =
-    let a = c.args in
-    let l = c.loop-i in (
-      search rules,
-      (high_next l.i a.at a.b.now l.invariant.1.0 refl, power_next _ _ _ l.invariant.1.1 (omega (arith, c.type_inv.b (a.at + l.i)))),
-    )
-
-pub returns : goal.returns
-returns c =
-    let a = c.args in
-    let l = c.loop-i in
-    let e : l.i ≡ a.n = omega arith in
-    (l.invariant.1.0 ∙ ap (λ (k : ℕ). high_first k a.at a.b.now) e, subst (λ (k : ℕ). l.v < 256 ^ k) e l.invariant.1.1)
+pub loop-x-preserved : goal.loop-x-preserved
+loop-x-preserved c =
+    let (e, l) = added c in
+    (high_next _ _ _ c.loop-x.invariant.0 e, power_next _ _ _ c.loop-x.invariant.1 (omega (arith, c.type_inv.b (c.args.at + c.loop-x.x-index))))

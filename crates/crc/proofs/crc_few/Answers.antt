@@ -2,7 +2,7 @@
 use Prim.Native.Nat.{ℕ, ◌+◌, ◌-◌, ◌*◌, ◌/◌, ◌^◌, ◌<◌, ◌≤◌}
 use mathlib.Core.Path.{◌≡◌, sym, ap, ap₂, ◌∙◌}
 use native.Mathlib.Omega.{arith}
-use native.Mathlib.Nat.{div-le_self, zero-add}
+use native.Mathlib.Nat.{zero-add}
 use lib.ListN.{length, get_or, drop_of_length-le}
 use lib.Pow.{shr-shr}
 use Rattle.crc.specs.Crc.{shifts, crc_from}
@@ -10,15 +10,6 @@ use Rattle.crc.specs.Residue.{residue}
 use Rattle.crc.specs.Turns.{word, word_add}
 use Rattle.crc.proofs.Turns.{word-front, first_from}
 use Rattle.crc.proofs.crc_few.Goals as goal
-
-pub overflow_cast-high-2 : goal.overflow_cast-high-2
-overflow_cast-high-2 c = record { fits = omega (arith, div-le_self (c.word4.result / 256) (2 ^ (56 - 8 * length c.args.s.now))) }
-
-pub overflow_mul-high-2 : goal.overflow_mul-high-2
-overflow_mul-high-2 c = record { fits = omega (arith, div-le_self (c.word4.result / 256) (2 ^ (56 - 8 * length c.args.s.now))) }
-
-pub overflow_add-high : goal.overflow_add-high
-overflow_add-high c = record { fits = omega (arith, div-le_self (c.word4.result / 256) (2 ^ (56 - 8 * length c.args.s.now))) }
 
 pub returns : goal.returns
 unfolding crc_from
@@ -38,4 +29,4 @@ returns c =
     ∙ ap (λ (k : ℕ). word k 0 s) e in
     let h : n ≤ n = omega arith in
     let first = first_from s bytes n (omega arith) (omega arith) (omega arith) in
-    c.crc_word.ensures ∙ ap (λ (w : ℕ). shifts 8 (residue w)) whole ∙ (rw (drop_of_length-le s h) at first)
+    c.crc_word.ensures ∙ ap (λ (w : ℕ). shifts 8 (residue w)) (c.halves.ensures ∙ whole) ∙ (rw (drop_of_length-le s h) at first)

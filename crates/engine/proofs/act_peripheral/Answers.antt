@@ -24,4 +24,4 @@ returns c =
     (peripheral_plain (unpacked l) (P.act_of (unpacked l).config a.o a.b.now))
     (c.decide-out.ensures ∙ e)
     (λ q. status_by (put peripheral x.next (unpacked l))
-    (c.status_in.ensures.0 ∙ q, c.status_in-others.ensures.0)) c.reply_with.ensures
+    (c.status_in.ensures.0 ∙ q, c.status_in-others.ensures.0)) c.spoken.ensures

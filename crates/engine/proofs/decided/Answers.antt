@@ -4,15 +4,9 @@ use Rattle.registers.specs.declared.Config.{Config}
 use Rattle.state.specs.Layout.{unpacked}
 use Rattle.rules.specs.Rules.Channel.{peripheral, wires}
 use Rattle.rules.specs.declared.Body.TheVariants as B
-use Rattle.engine.specs.Laws.Exchange.{fits_as, acted_decided, read_decided, set_decided, status_decided, reset_decided}
+use Rattle.engine.specs.Laws.Exchange.{acted_decided, read_decided, set_decided, status_decided, reset_decided}
 use Rattle.engine.specs.Laws.Loaded.{shown_is}
 use Rattle.engine.proofs.decided.Goals as goal
-
-pub act_peripheral-requires : goal.act_peripheral-requires
-act_peripheral-requires c = (c.requires.0, c.requires.1, fits_as c.args.b.now c.in-Peripheral.is c.requires.2)
-
-pub act_wires-requires : goal.act_wires-requires
-act_wires-requires c = (c.requires.0, c.requires.1, fits_as c.args.b.now c.in-Wires.is c.requires.2)
 
 pub returns-in-Peripheral : goal.returns-in-Peripheral
 returns-in-Peripheral c = acted_decided (unpacked c.args.state.now) _ _ _ peripheral _ _

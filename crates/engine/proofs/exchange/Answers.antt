@@ -24,7 +24,7 @@ decided-requires c =
       c.unpack-c.ensures ∙ config_in_lem a.state.now,
       command_fits _ _ a.b.now _ _
           (λ i. omega (arith, c.type_inv.b i))
-          c.admit-d.ensures c.in-Known.is,
+          c.admit-d.ensures c.in-Ok.is,
     )
 
 pub returns : goal.returns
@@ -35,5 +35,5 @@ returns c =
     exchange_decided (unpacked l) a.b.now l _ _ _ _ _
     (c.channels.ensures ∙ ap channels_of e)
     (c.crc_checked.ensures ∙ ap (λ (z : Config). crc_checked z.r008) e)
-    c.admit-d.ensures c.in-Known.is
+    c.admit-d.ensures c.in-Ok.is
     c.decided.ensures

@@ -13,6 +13,6 @@ unfolding unpacked W.settle
 returns c =
     let a = c.args in
     let l = a.state.now in
-    settled-carried l c.requires (W.pulse_line a.line) _ _ _ _ c.silently.ensures refl
+    settled-carried l c.requires (W.pulse_line a.line) _ _ _ _ c.settled.ensures refl
     (c.pulse_line.ensures ∙ ap (λ (z : Config). settled_by (W.pulsing_line z (all_in l) a.line) l)
     c.unpack-c.ensures)

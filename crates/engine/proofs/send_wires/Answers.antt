@@ -1,5 +1,8 @@
 use Rattle.engine.specs.Laws.Wires.{send_none, send-done}
-use mathlib.Core.Path.{ap}
+use Rattle.engine.specs.Carried.{carried}
+use Rattle.engine.specs.declared.Outgoing.{Outgoing}
+use Rattle.engine.specs.declared.Speech.TheVariants as Y
+use mathlib.Core.Path.{ap, ◌∙◌}
 use mathlib.Core.Bool.{not}
 use Rattle.engine.proofs.send_wires.Goals as goal
 
@@ -12,4 +15,5 @@ returns-then-not-any_pending c =
 -- src/lib.rt:144:1
 pub returns : goal.returns
 returns c =
-    send-done c.args.state.now c.requires _ c.any_pending.ensures (ap not c.if-not-any_pending.false)
+    ap (λ (z : Outgoing). carried (record z { speech = Y.Packet }) c.args.state.now) c.silently.ensures
+    ∙ send-done c.args.state.now c.requires _ c.any_pending.ensures (ap not c.if-not-any_pending.false)

@@ -14,6 +14,6 @@ returns c =
     let a = c.args in
     let l = a.state.now in
     settled-carried l c.requires (W.set_line a.line a.level) _ _ _ _
-    c.silently.ensures refl
+    c.settled.ensures refl
     (c.set_line.ensures ∙ ap (λ (z : Config). settled_by (W.setting_line z (all_in l) a.line a.level) l)
     c.unpack-c.ensures)

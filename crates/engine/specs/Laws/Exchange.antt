@@ -11,8 +11,6 @@ use Rattle.command.proofs.Facts.{admit-fits}
 use Rattle.command.specs.declared.Channels.{Channels}
 use Rattle.command.specs.declared.Command.{Command}
 use Rattle.command.specs.declared.Command.TheVariants as C
-use Rattle.command.specs.declared.Decoded.{Decoded}
-use Rattle.command.specs.declared.Decoded.TheVariants.{Known, Refused}
 use Rattle.state.specs.State.{State}
 use Rattle.rules.specs.Rules.Calls.{kept}
 use Rattle.rules.specs.Rules.Lift.{silent, show, non_fatal, accept_then, quietly}
@@ -26,6 +24,9 @@ use Rattle.engine.specs.Carried.{Packs, Carried, carried, carried_by, outgoing, 
 use Rattle.engine.specs.declared.Outgoing.{Outgoing}
 use Rattle.engine.specs.Laws.Tests.{tested}
 use Rattle.engine.specs.Laws.Stored.{outgoing-carried, stays_carried}
+use Rattle.std.specs.Prelude.{Result, Ok, Err}
+use Rattle.command.specs.declared.Refusal.{Refusal}
+use Rattle.command.specs.Numbers.{number_of}
 
 -- ---- configuration
 
@@ -95,33 +96,34 @@ module _ (s : State) (b l : List ℕ) (z : Command) where
 -- ---- the exchange
 
 module _ (s : State) (b l : List ℕ) where
-  admitted : (on : Channels) (checked : Bool) (d : Decoded) → on ≡ channels_of s.config → checked ≡ crc_checked s.config.r008 → d ≡ admit on checked b
-      → d ≡ admit (channels_of s.config) (crc_checked s.config.r008) b
+  admitted : (on : Channels) (checked : Bool) (d : Result Command Refusal) → on ≡ channels_of s.config → checked ≡ crc_checked s.config.r008
+      → d ≡ admit on checked b → d ≡ admit (channels_of s.config) (crc_checked s.config.r008) b
   admitted on checked d eo ec ed = ed ∙ ap (λ (z : Channels). admit z checked b) eo ∙ ap (λ (z : Bool). admit (channels_of s.config) z b) ec
 
-  pub exchange-silent : (on : Channels) (checked : Bool) (d : Decoded) (n : ℕ) (r : Outgoing)
+  pub exchange-silent : (on : Channels) (checked : Bool) (d : Result Command Refusal) (z : Refusal) (r : Outgoing)
       → Packs s l
       → on ≡ channels_of s.config
       → checked ≡ crc_checked s.config.r008
       → d ≡ admit on checked b
-      → d ≡ Refused n
+      → d ≡ Err z
       → r ≡ refused_by d
       → carried r l ≡ carried_by (exchange s b) l
   unfolding exchange
-  exchange-silent on checked d n r h eo ec ed er k =
-      stays_carried s l (silent n s) r h refl refl (k ∙ ap refused_by er) ∙ ap (λ (z : Decoded). carried_by (by_decoded s b z) l)
+  exchange-silent on checked d z r h eo ec ed er k =
+      stays_carried s l (silent (number_of z) s) r h refl refl (k ∙ ap refused_by er) ∙ ap (λ (x : Result Command Refusal). carried_by (by_decoded s b x) l)
       (sym er ∙ admitted on checked d eo ec ed)
 
-  pub exchange_decided : (on : Channels) (checked : Bool) (d : Decoded) (o : Command) (x : Carried)
+  pub exchange_decided : (on : Channels) (checked : Bool) (d : Result Command Refusal) (o : Command) (x : Carried)
       → on ≡ channels_of s.config
       → checked ≡ crc_checked s.config.r008
       → d ≡ admit on checked b
-      → d ≡ Known o
+      → d ≡ Ok o
       → x ≡ carried_by (decide s o b) l
       → x ≡ carried_by (exchange s b) l
   unfolding exchange
-  exchange_decided on checked d o x eo ec ed er k = k ∙ ap (λ (z : Decoded). carried_by (by_decoded s b z) l) (sym er ∙ admitted on checked d eo ec ed)
+  exchange_decided on checked d o x eo ec ed er k =
+      k ∙ ap (λ (z : Result Command Refusal). carried_by (by_decoded s b z) l) (sym er ∙ admitted on checked d eo ec ed)
 
-pub command_fits : (on : Channels) (checked : Bool) (b : List ℕ) (d : Decoded) (o : Command) → IsBytes b → d ≡ admit on checked b → d ≡ Known o
+pub command_fits : (on : Channels) (checked : Bool) (b : List ℕ) (d : Result Command Refusal) (o : Command) → IsBytes b → d ≡ admit on checked b → d ≡ Ok o
     → CommandFits o b
 command_fits on checked b d o h ed ek = admit-fits on checked b o h (sym ed ∙ ek)

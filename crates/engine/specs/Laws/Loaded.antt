@@ -1,5 +1,5 @@
 -- The bytes of a sound state: what the channels find in them, a change of channel 0 carried out on them, and one of channel 1 with the reset that may follow.
-use Rattle.std.specs.Prelude.{ℕ, ◌+◌, ◌/◌, ◌≤◌, Bool, ◌&&◌, ◌≡◌, length, take}
+use Rattle.std.specs.Prelude.{ℕ, ◌+◌, ◌/◌, ◌≤◌, Bool, ◌&&◌, ◌≡◌, length, take, Option, None}
 use Rattle.std.proofs.Math.Bool.{true, false, not}
 use mathlib.Core.List.{List, [], ◌++◌, append-nil}
 use Rattle.std.proofs.Math.Path.{refl, sym, ap, ap₂}
@@ -57,13 +57,11 @@ use Rattle.rules.proofs.Proofs.Wires.Sound.{acts_ok}
 use Rattle.rules.specs.declared.Body.{Body}
 use Rattle.rules.specs.declared.Body.TheVariants as B
 use Rattle.rules.specs.declared.Kept.{Kept}
-use Rattle.rules.specs.declared.GroupsChange.{GroupsChange}
 use Rattle.rules.specs.declared.Out.{Out}
-use Rattle.rules.specs.declared.Say.TheVariants as S
-use Rattle.rules.specs.declared.Reply.{Reply}
-use Rattle.rules.specs.declared.PeripheralChange.{PeripheralChange}
-use Rattle.rules.specs.Rules.Plan.{Plan, WiresChange}
-use Rattle.engine.specs.Carried.{Loadable, Stays, stored_by, Changed, changed_to, changed_by, Carried, carried_as, carried, carried_by, sent_in, beside, Puts, Sets, outgoing, showing, forbidding}
+use Rattle.rules.specs.Rules.Plan.{Plan, WiresChange, PeripheralChange, GroupsChange}
+use Rattle.engine.specs.declared.Speech.{Speech}
+use Rattle.engine.specs.declared.Speech.TheVariants as Y
+use Rattle.engine.specs.Carried.{Loadable, Stays, stored_by, Changed, changed_to, changed_by, Carried, carried_as, carried, carried_by, says_out, sent_in, beside, Puts, Sets, outgoing, showing, forbidding}
 use Rattle.engine.specs.Laws.Stored.{outgoing-carried, again, plain-status, lift-carried}
 use Rattle.engine.specs.declared.Outgoing.{Outgoing}
 
@@ -130,15 +128,10 @@ pub lifted_by : (k : C.Channel) (l : List ℕ) {x y : C.Change k} {z : Carried} 
     → z ≡ carried_by (lift k (unpacked l) y) l
 lifted_by k l e f = e ∙ ap (λ (c : C.Change k). carried_by (lift k (unpacked l) c) l) f
 
--- what goes out of a change, with this state's status
-abbrev goes_with : State → Out → Outgoing
-goes_with s out = record { number = out.number; reply = with_status out.say (status s); packet = false; kept = out.kept }
-
 -- what is carried out and is no packet is a reply that stands there
-pub record Replied (n : ℕ) (r : Reply) (t : Bool) (k : Kept) (l : List ℕ) (q : Carried) : Type 0 where
+pub record Replied (n : ℕ) (y : Speech) (k : Option Kept) (l : List ℕ) (q : Carried) : Type 0 where
   pub number : n ≡ q.number
-  pub reply : r ≡ q.reply
-  pub packet : t ≡ false
+  pub speech : y ≡ Y.Reply q.reply
   pub keeps : k ≡ q.kept
   pub state : l ≡ q.state
 
@@ -149,17 +142,16 @@ short-put w l e =
     ∙ ap (λ (z : List ℕ). length (all_bytes w ++ z)) (drop-nil (64 + length (all_bytes w)))
     ∙ ap length (append-nil (all_bytes w)) ∙ all-length w
 
-pub replied : (n : ℕ) (r : Reply) (t : Bool) (k : Kept) (l : List ℕ) (q : Carried) → carried_as n r t k l ≡ q → q.from ≡ []
-    → state_length ≤ length q.state → Replied n r t k l q
-replied n r false k l q e f h =
+pub replied : (n : ℕ) (y : Speech) (k : Option Kept) (l : List ℕ) (q : Carried) → carried_as n y k l ≡ q → q.from ≡ []
+    → state_length ≤ length q.state → Replied n y k l q
+replied n (Y.Reply r) k l q e f h =
     record {
       number = ap (λ (z : Carried). z.number) e;
-      reply = ap (λ (z : Carried). z.reply) e;
-      packet = refl;
+      speech = ap (λ (z : Carried). Y.Reply z.reply) e;
       keeps = ap (λ (z : Carried). z.kept) e;
       state = ap (λ (z : Carried). z.state) e;
     }
-replied n r true k l q e f h =
+replied n Y.Packet k l q e f h =
     let z = short-put (sent_in l) l (ap (λ (z : Carried). z.from) e ∙ f) in
     let g = ap (λ (z : Carried). length z.state) e in
     absurd (omega (arith, z, g))
@@ -205,21 +197,21 @@ module _ (l : List ℕ) (n : ℕ) (pairs : List ℕ) (h : Loadable l) (bytes : I
       with_part wires x.next p (acts_ok (p.each wires) (did wires s.config s.wires a))
 
   module _ (out : Outgoing) (l₁ : List ℕ) (e : carried out l₁ ≡ carried_by (lift wires s x) l) where
-    goes_out : Replied out.number out.reply out.packet out.kept l₁ (carried_by (lift wires s x) l)
+    goes_out : Replied out.number out.speech out.kept l₁ (carried_by (lift wires s x) l)
     unfolding lift carried
     goes_out =
-        replied out.number out.reply out.packet out.kept l₁ _ e
+        replied out.number out.speech out.kept l₁ _ e
         (ap (λ (b : Bool). pick b [] l) (plain-status x.out.say (status t) ∙ plain-put (did wires s.config s.wires a))) (kept_long t l)
 
     stored : l₁ ≡ kept t l
     unfolding lift
     stored = goes_out.state
 
-    sent : out ≡ goes_with t x.out
+    sent : out ≡ says_out x.out (status t)
     unfolding lift
     sent =
-        ap₂ (λ (m : ℕ) (k : Kept). record { number = m; reply = out.reply; packet = out.packet; kept = k }) goes_out.number goes_out.keeps
-        ∙ ap₂ (λ (r : Reply) (t : Bool). record { number = x.out.number; reply = r; packet = t; kept = x.out.kept }) goes_out.reply goes_out.packet
+        ap₂ (λ (m : ℕ) (k : Option Kept). record { number = m; speech = out.speech; kept = k }) goes_out.number goes_out.keeps
+        ∙ ap (λ (y : Speech). record { number = x.out.number; speech = y; kept = x.out.kept }) goes_out.speech
 
     found : unpacked l₁ ≡ t
     found = ap unpacked stored ∙ unpacked-over t l left-sound
@@ -243,7 +235,7 @@ module _ (l : List ℕ) (n : ℕ) (pairs : List ℕ) (h : Loadable l) (bytes : I
         where
           -- an accepted packet's reply, with the status before the reset
           goes : out ≡ outgoing (then_reset t)
-          goes = sent ∙ ap (goes_with t) (lowers_accepts (lowers (did wires s.config s.wires a) (follows f)))
+          goes = sent ∙ ap (λ (z : Out). says_out z (status t)) (lowers_accepts (lowers (did wires s.config s.wires a) (follows f)))
 
 pub set_there : (l : List ℕ) (c : Config) (w : Wires) (index bit value : ℕ) (x : GroupsChange) → c ≡ config_in l → w ≡ wires_in l
     → Sets c w index bit value x
@@ -292,11 +284,11 @@ acts_plain (A.Acts.accepted q body kept e f) = own_plain body e
 pub peripheral_plain : (s : State) (a : P.Act) → plain_say (P.acting s.config s.peripheral a).out.say ≡ true
 peripheral_plain s a = acts_plain (H.acts peripheral s.config s.peripheral a _ (did peripheral s.config s.peripheral a))
 
-settles_silent : {p : Peripheral} {o : P.Board} {x : PeripheralChange} → Settles peripheral p o x → x.out.say ≡ S.Silent
+settles_silent : {p : Peripheral} {o : P.Board} {x : PeripheralChange} → Settles peripheral p o x → x.out.say ≡ None
 settles_silent (A.Settles.refused n l m r v) = refl
 settles_silent (A.Settles.accepted q kept e) = refl
 
-pub settle-silent : (s : State) (o : P.Board) (x : PeripheralChange) → x ≡ P.settle s.config s.peripheral o → x.out.say ≡ S.Silent
+pub settle-silent : (s : State) (o : P.Board) (x : PeripheralChange) → x ≡ P.settle s.config s.peripheral o → x.out.say ≡ None
 settle-silent s o x e = ap (λ (z : PeripheralChange). z.out.say) e ∙ settles_silent (H.board_settles peripheral s o)
 
 pub settle-plain : (s : State) (o : P.Board) (x : PeripheralChange) → x ≡ P.settle s.config s.peripheral o → plain_say x.out.say ≡ true
@@ -313,15 +305,14 @@ module _ (l : List ℕ) (x : PeripheralChange) (h : Loadable l) (f : Stays (unpa
       go true k = status-stored x.next l (omega (arith, h.long))
       go false k = ap (λ (s : State). peripheral_status s.peripheral) (sym (f k))
 
-  pub acted-carried : (l' : List ℕ) (o : Out) (word : ℕ) (r : Reply)
+  pub acted-carried : (l' : List ℕ) (o : Out) (word : ℕ) (r : Outgoing)
       → plain_say x.out.say ≡ true
       → changed_to o l' ≡ changed_by peripheral x l
       → (peripheral_status (peripheral_in l') ≡ peripheral_status x.next → word ≡ status (C.put peripheral x.next (unpacked l)))
-      → r ≡ with_status o.say word
-      → carried (record { number = o.number; reply = r; packet = false; kept = o.kept }) l' ≡ carried_by (lift peripheral (unpacked l) x) l
+      → r ≡ says_out o word
+      → carried r l' ≡ carried_by (lift peripheral (unpacked l) x) l
   acted-carried l' o word r t e ew er =
       let eo : o ≡ x.out = ap (λ (z : Changed). z.goes) e in
       let el : l' ≡ (changed_by peripheral x l).state = ap (λ (z : Changed). z.state) e in
-      let k = er ∙ ap (λ (z : Out). with_status z.say word) eo ∙ ap (with_status x.out.say) (ew (said l' el)) in
-      ap (λ (z : Out). carried (record { number = z.number; reply = r; packet = false; kept = z.kept }) l') eo
-      ∙ lift-carried peripheral (unpacked l) x l h f l' r t el k
+      ap (λ (z : Outgoing). carried z l') (er ∙ ap (λ (z : Out). says_out z word) eo)
+      ∙ lift-carried peripheral (unpacked l) x l h f l' _ t el (ap (with_status x.out.say) (ew (said l' el)))

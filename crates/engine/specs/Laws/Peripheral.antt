@@ -1,5 +1,5 @@
 -- Channel 0.
-use Rattle.std.specs.Prelude.{ℕ, ◌+◌, ◌≤◌, ◌<◌, Bool, true, false, not, List, [], ◌∷◌, ◌≡◌, refl, eqb, get_or, take, drop}
+use Rattle.std.specs.Prelude.{ℕ, ◌+◌, ◌≤◌, ◌<◌, Bool, true, false, not, List, [], ◌∷◌, ◌≡◌, refl, eqb, get_or, take, drop, Option, Some, None}
 use Rattle.std.proofs.Common.{sym, subst, ◌∙◌, inl, inr, arith, length-take, get_or-take, get_or-drop}
 use Rattle.std.proofs.Math.Path.{ap}
 use Rattle.std.proofs.Math.ListN.{get_or-eq_default}
@@ -17,19 +17,16 @@ use Rattle.peripheral.specs.declared.Request.{Request}
 use Rattle.peripheral.specs.declared.Np.{Np}
 use Rattle.peripheral.specs.declared.Peripheral.{Peripheral}
 use Rattle.peripheral.specs.declared.Completion.{Completion}
-use Rattle.peripheral.specs.declared.Next.{Next}
-use Rattle.peripheral.specs.declared.Next.TheVariants.{Nothing, One}
 use Rattle.peripheral.specs.Sound.{within}
 use Rattle.pieces.specs.Blocks.{Block}
 use Rattle.peripheral.specs.Facts.{payload_block, read_block}
 use Rattle.peripheral.specs.Layout.{peripheral_bytes}
+use Rattle.rules.specs.Rules.Plan.{PeripheralChange}
 use Rattle.rules.specs.Rules.Channel.{peripheral}
-use Rattle.rules.specs.Rules.Out.{fatal, accept, defer, number}
+use Rattle.rules.specs.Rules.Out.{fatal, accept, defer, number, kept_from}
 use Rattle.rules.specs.Rules.Peripheral.{change, with_request, holding, post, request_of, size_for, asking, ask, bytes_of, handing, get_pc, bytes_for, answered, answering_waiting}
 use Rattle.rules.specs.declared.Body.TheVariants as B
-use Rattle.rules.specs.declared.Kept.TheVariants as K
 use Rattle.rules.specs.declared.Out.{Out}
-use Rattle.rules.specs.declared.PeripheralChange.{PeripheralChange}
 use Rattle.engine.specs.Carried.{Changed, changed_to, changed_by}
 use Rattle.engine.specs.Laws.Tests.{denied}
 
@@ -94,7 +91,7 @@ module _ (c : Config) (p : Peripheral) (address length from : ℕ) where
       → ok ≡ within address length size
       → not ok ≡ false
       → next ≡ holding p address length size
-      → out ≡ accept B.Nothing (K.Data from length)
+      → out ≡ accept B.Nothing (kept_from from length)
       → change next out ≡ post c p address length from
   unfolding post
   post-done free ok size next out e h es eo ho en k =
@@ -163,27 +160,27 @@ last-size n (inr (inr e)) a b = e
 -- ---- GET_PC
 
 module _ (p : Peripheral) where
-  hand_none : (cs : List Completion) → first_of cs ≡ Nothing → change p fatal ≡ handing p cs
+  hand_none : (cs : List Completion) → first_of cs ≡ None → change p fatal ≡ handing p cs
   hand_none [] e = refl
   hand_none (c ∷ cs) e = let z : ◌≡◌ {A = ℕ} 0 1 = cc in absurd (omega arith)
 
-  hand_one : (cs : List Completion) (c : Completion) → first_of cs ≡ One c
-      → change (with_request p (handed p.request)) (accept (B.Piece c) K.Nothing) ≡ handing p cs
+  hand_one : (cs : List Completion) (c : Completion) → first_of cs ≡ Some c
+      → change (with_request p (handed p.request)) (accept (B.Piece c) None) ≡ handing p cs
   hand_one [] c e = let z : ◌≡◌ {A = ℕ} 0 1 = cc in absurd (omega arith)
   hand_one (x ∷ cs) c e =
       let f : c ≡ x = cc in
-      ap (λ (z : Completion). change (with_request p (handed p.request)) (accept (B.Piece z) K.Nothing)) f
+      ap (λ (z : Completion). change (with_request p (handed p.request)) (accept (B.Piece z) None)) f
 
-  pub get_none : (up : Next) (r : PeripheralChange) → up ≡ first_of (upward p.request) → up ≡ Nothing → r ≡ change p fatal → r ≡ get_pc p
+  pub get_none : (up : Option Completion) (r : PeripheralChange) → up ≡ first_of (upward p.request) → up ≡ None → r ≡ change p fatal → r ≡ get_pc p
   unfolding get_pc
   get_none up r e h k = k ∙ hand_none (upward p.request) (sym e ∙ h)
 
-  pub get_one : (up : Next) (c : Completion) (n : Np) (next : Peripheral) (out : Out)
+  pub get_one : (up : Option Completion) (c : Completion) (n : Np) (next : Peripheral) (out : Out)
       → up ≡ first_of (upward p.request)
-      → up ≡ One c
+      → up ≡ Some c
       → n ≡ handed p.request
       → next ≡ with_request p n
-      → out ≡ accept (B.Piece c) K.Nothing
+      → out ≡ accept (B.Piece c) None
       → change next out ≡ get_pc p
   unfolding get_pc
   get_one up c n next out e h en ep k = changed (ep ∙ ap (with_request p) en) k ∙ hand_one (upward p.request) c (sym e ∙ h)

@@ -1,5 +1,5 @@
 -- One part stored in the bytes of a state is the whole next state stored.
-use Rattle.std.specs.Prelude.{ℕ, Bool, not, ◌&&◌, List, [], ◌≡◌, take}
+use Rattle.std.specs.Prelude.{ℕ, Bool, not, ◌&&◌, List, [], ◌≡◌, take, Option, Some, None}
 use Rattle.std.proofs.Math.Bool.{true, false}
 use Rattle.std.proofs.Common.{true≢false, sym, ap₂, subst, ◌∙◌, le_of_eq}
 use Rattle.std.proofs.Math.Path.{refl, ap}
@@ -32,9 +32,9 @@ use Rattle.rules.proofs.Proofs.Lift.{lift-change, lift_stays, put_same, each_as}
 use Rattle.rules.proofs.Proofs.Plans.{did}
 use Rattle.rules.proofs.Proofs.Channels as H
 use Rattle.rules.specs.declared.Say.{Say}
-use Rattle.rules.specs.declared.Say.TheVariants as S
 use Rattle.rules.specs.declared.Reply.{Reply}
 use Rattle.rules.specs.Rules.Plan.{Plan}
+use Rattle.engine.specs.declared.Speech.TheVariants as Y
 use Rattle.engine.specs.Carried.{Packs, carried, carried_by, outgoing, put_part, stored_by, edge_stored, Stays}
 use Rattle.engine.specs.declared.Outgoing.{Outgoing}
 
@@ -96,9 +96,9 @@ module _ (s : State) (l₀ l : List ℕ) (e : l ≡ kept s l₀) where
 
 -- ---- a channel's change
 
-pub plain-status : (y : Say) (word : ℕ) → plain (with_status y word) ≡ plain_say y
-plain-status S.Silent word = refl
-plain-status (S.Said response body) word = refl
+pub plain-status : (y : Option Say) (word : ℕ) → plain (with_status y word) ≡ plain_say y
+plain-status None word = refl
+plain-status (Some y) word = refl
 
 pub lift-plain : (k : Channel) (s : State) (x : Change k) → plain_say (out_of k x).say ≡ true → plain (lift k s x).reply ≡ true
 unfolding lift
@@ -113,13 +113,13 @@ module _ (k : Channel) (s : State) (x : Change k) (l : List ℕ) (h : Packs s l)
       go true e = part-stored s l l (unchanged s l h) k (next_of k x)
       go false e = unchanged s l h ∙ ap (λ (z : State). kept z l) (sym (f e))
 
-  pub lift-carried : (l' : List ℕ) (r : Reply) → plain_say (out_of k x).say ≡ true → l' ≡ stored_by k (out_of k x).number (next_of k x) l
+  pub lift-carried : (l' : List ℕ) (r : Option Reply) → plain_say (out_of k x).say ≡ true → l' ≡ stored_by k (out_of k x).number (next_of k x) l
       → r ≡ with_status (out_of k x).say (status (put k (next_of k x) s))
-      → carried (record { number = (out_of k x).number; reply = r; packet = false; kept = (out_of k x).kept }) l' ≡ carried_by (lift k s x) l
+      → carried (record { number = (out_of k x).number; speech = Y.Reply r; kept = (out_of k x).kept }) l' ≡ carried_by (lift k s x) l
   unfolding lift
   lift-carried l' r t es er =
       outgoing-carried (lift k s x) l l' _ (plain-status (out_of k x).say (status (put k (next_of k x) s)) ∙ t)
-      (ap (λ (z : Reply). record { number = (out_of k x).number; reply = z; packet = false; kept = (out_of k x).kept }) er) (es ∙ change-stored)
+      (ap (λ (z : Option Reply). record { number = (out_of k x).number; speech = Y.Reply z; kept = (out_of k x).kept }) er) (es ∙ change-stored)
 
 -- ---- configuration: its bytes, then those of each channel that has an enable_edge
 

@@ -1,5 +1,5 @@
 -- Channel 1.
-use Rattle.std.specs.Prelude.{ℕ, ◌+◌, ◌*◌, ◌<◌, ◌≤◌, Bool, true, false, not, ◌&&◌, ◌≡◌, eqb, length, get_or, take, drop}
+use Rattle.std.specs.Prelude.{ℕ, ◌+◌, ◌*◌, ◌<◌, ◌≤◌, Bool, true, false, not, ◌&&◌, Result, Ok, Err, ◌≡◌, eqb, length, get_or, take, drop, Option, Some, None}
 use Rattle.std.proofs.Common.{true≢false, sym, ◌∙◌, arith}
 use mathlib.Core.List.{List, [], ◌∷◌}
 use Rattle.std.proofs.Math.Path.{refl, ap, ap₂}
@@ -10,7 +10,7 @@ use Rattle.base.specs.Bytes as Z
 use Rattle.registers.specs.Registers.{operating_count, on1, write_at}
 use Rattle.registers.specs.declared.Config.{Config}
 use Rattle.wires.specs.Table.{is_line}
-use Rattle.wires.specs.Transitions.{putting}
+use Rattle.wires.specs.Transitions.{putting, third_put, done_put}
 use Rattle.wires.specs.Groups.{settable, set_wire}
 use Rattle.wires.specs.Lines as N
 use Rattle.wires.specs.Lines.{Lines, line_bit, line_level_ok, can_pulse, lines_in, lines_bytes}
@@ -21,7 +21,7 @@ use Rattle.wires.specs.AllKept.{sound-all-place}
 use Rattle.wires.specs.ForRules.{sizes_fit}
 use Rattle.wires.specs.Sent.{sent_none, sent-some}
 use Rattle.wires.specs.declared.Wires.{Wires}
-use Rattle.wires.specs.declared.Putting.{Putting}
+use Rattle.wires.specs.declared.ThirdTransition.{ThirdTransition}
 use Rattle.peripheral.specs.Status.{peripheral_status}
 use Rattle.state.specs.Status.{status}
 use Rattle.state.specs.Layout.{state_length, unpacked}
@@ -31,7 +31,7 @@ use Rattle.rules.specs.Rules.Out.{fatal, accept, number, keep}
 use Rattle.rules.specs.Rules.Wires as W
 use Rattle.rules.specs.Rules.Wires.{change, put_vwire, sent_out, get_vwire, setting, setting_line, pulsing_line}
 use Rattle.rules.specs.Rules.Channel.{wires, put}
-use Rattle.rules.specs.Rules.Lift.{lift, with_status}
+use Rattle.rules.specs.Rules.Lift.{lift, with_status, replying}
 use Rattle.rules.specs.Rules.Fits.{plain}
 use Rattle.rules.specs.Rules.Exchange.{acted, hindered}
 use Rattle.rules.specs.Statements.Channels as L
@@ -40,15 +40,12 @@ use Rattle.rules.proofs.Proofs.Lift.{put_same}
 use Rattle.rules.proofs.Proofs.Channels as H
 use Rattle.rules.specs.declared.Body.TheVariants as B
 use Rattle.rules.specs.declared.Say.{Say}
-use Rattle.rules.specs.declared.Say.TheVariants as S
 use Rattle.rules.specs.declared.Response.TheVariants as R₁
 use Rattle.rules.specs.declared.Reply.{Reply}
-use Rattle.rules.specs.declared.Reply.TheVariants as R
 use Rattle.rules.specs.declared.Kept.{Kept}
-use Rattle.rules.specs.declared.Kept.TheVariants as K
 use Rattle.rules.specs.declared.Out.{Out}
-use Rattle.rules.specs.declared.GroupsChange.{GroupsChange}
-use Rattle.rules.specs.Rules.Plan.{WiresChange}
+use Rattle.rules.specs.Rules.Plan.{WiresChange, GroupsChange}
+use Rattle.engine.specs.declared.Speech.TheVariants as Y
 use Rattle.engine.specs.Carried.{Loadable, carried, carried_by, groups_change, beside, Numbered, settled_to, settled_by, put_part, failing, quiet}
 use Rattle.engine.specs.Laws.Tests.{denied}
 use Rattle.engine.specs.Laws.Stored.{outgoing-carried, stays_carried, part-stored, unchanged, change-stored, settle_stays}
@@ -68,24 +65,24 @@ module _ (c : Config) (g : Wires) (l : Lines) where
   unfolding put_vwire
   put-over-count n count pairs r e h k = taken _ _ (ap (λ (z : ℕ). ltb z n) (sym e) ∙ h) (ap (beside l) k)
 
-  module _ (n count : ℕ) (b part : List ℕ) (o : Putting) (e : count ≡ operating_count c.r020) (h : ltb count n ≡ false) (ep : part ≡ drop 2 b)
-      (eo : o ≡ putting g (take (n * 2) part)) where
+  module _ (n count : ℕ) (b part : List ℕ) (o : Result Wires ThirdTransition) (e : count ≡ operating_count c.r020) (h : ltb count n ≡ false)
+      (ep : part ≡ take (n * 2) (drop 2 b)) (eo : o ≡ putting g part) where
     within : ltb (operating_count c.r020) n ≡ false
     within = ap (λ (z : ℕ). ltb z n) (sym e) ∙ h
 
     put_as : o ≡ putting g (take (n * 2) (drop 2 b))
-    put_as = eo ∙ ap (λ (z : List ℕ). putting g (take (n * 2) z)) ep
+    put_as = eo ∙ ap (putting g) ep
 
-    pub put_third : (r : GroupsChange) → o.third ≡ true → r ≡ groups_change g fatal → beside l r ≡ put_vwire c w n (take (n * 2) (drop 2 b))
+    pub put_third : (r : GroupsChange) (t : ThirdTransition) → o ≡ Err t → r ≡ groups_change g fatal → beside l r ≡ put_vwire c w n (take (n * 2) (drop 2 b))
     unfolding put_vwire
-    put_third r t k = passed _ _ within (taken _ _ (ap (λ (z : Putting). z.third) (sym put_as) ∙ t) (ap (beside l) k))
+    put_third r t h k = passed _ _ within (taken _ _ (third_put g (take (n * 2) (drop 2 b)) t (sym put_as ∙ h)) (ap (beside l) k))
 
-    pub put-done : (out : Out) → o.third ≡ false → out ≡ accept B.Nothing K.Nothing
-        → beside l (groups_change o.next out) ≡ put_vwire c w n (take (n * 2) (drop 2 b))
+    pub put-done : (next : Wires) (out : Out) → o ≡ Ok next → out ≡ accept B.Nothing None
+        → beside l (groups_change next out) ≡ put_vwire c w n (take (n * 2) (drop 2 b))
     unfolding put_vwire
-    put-done out t k =
-        passed _ _ within
-        (passed _ _ (ap (λ (z : Putting). z.third) (sym put_as) ∙ t) (ap (beside l) (changed (ap (λ (z : Putting). z.next) put_as) k)))
+    put-done next out h k =
+        let d = done_put g (take (n * 2) (drop 2 b)) next (sym put_as ∙ h) in
+        passed _ _ within (passed _ _ d.0 (ap (beside l) (changed d.1 k)))
 
   module _ (index bit value : ℕ) where
     pub set_refused : (ok : Bool) (out : Out) → ok ≡ settable index bit value → not ok ≡ true → out ≡ number 22
@@ -98,7 +95,7 @@ module _ (c : Config) (g : Wires) (l : Lines) where
         → not ok ≡ false
         → on ≡ on1 c.r020
         → next ≡ set_wire on g index bit value
-        → out ≡ keep K.Nothing
+        → out ≡ keep None
         → beside l (groups_change next out) ≡ setting c w index bit value
     unfolding setting
     set_changed ok on next out e h eo en k =
@@ -136,12 +133,12 @@ module _ (l : List ℕ) (h : Loadable l) where
       stays_carried s l (lift wires s (change s.wires fatal)) r h (put_same wires s) refl (k ∙ ap failing (ew ∙ ap status (sym (put_same wires s))))
       ∙ ap (λ (ks : List ℕ). carried_by (lift wires s (sent_out s.wires n ks)) l) (sym none)
 
-  sent_list : (ks : List ℕ) → 1 ≤ length ks → change (after_sent s.wires ks) (accept (B.Groups (packet_of s.wires n)) K.Nothing) ≡ sent_out s.wires n ks
+  sent_list : (ks : List ℕ) → 1 ≤ length ks → change (after_sent s.wires ks) (accept (B.Groups (packet_of s.wires n)) None) ≡ sent_out s.wires n ks
   sent_list [] q = absurd (omega arith)
   sent_list (k ∷ ks) q = refl
 
   pub send-done : (any : Bool) → any ≡ any_pending (all_in l) → not any ≡ false
-      → carried (record { number = 0; reply = R.Silent; packet = true; kept = K.Nothing }) l ≡ carried_by (acted wires s W.gets) l
+      → carried (record { number = 0; speech = Y.Packet; kept = None }) l ≡ carried_by (acted wires s W.gets) l
   unfolding get_vwire lift unpacked status carried
   send-done any e t =
       let z = sound_wires_lem s h.good in
@@ -151,8 +148,8 @@ module _ (l : List ℕ) (h : Loadable l) where
       let q = after_sent w (sent w n) in
       ap (λ (m : List ℕ). record {
         number = 0;
-        reply = R.Said R₁.Accept (B.Groups (packet_of w n)) (peripheral_status s.peripheral + wires_status q);
-        kept = K.Nothing;
+        reply = replying R₁.Accept (B.Groups (packet_of w n)) (peripheral_status s.peripheral + wires_status q);
+        kept = None;
         state = m;
         from = l;
       }) (part-stored s l l (unchanged s l h) wires q)
@@ -160,10 +157,10 @@ module _ (l : List ℕ) (h : Loadable l) where
 
 -- ---- the board's lines
 
-says_nothing : (p : AllWires) (o : W.Board) {x : WiresChange} → Settles wires p o x → (x.out.say ≡ S.Silent) × (x.out.kept ≡ K.Nothing)
+says_nothing : (p : AllWires) (o : W.Board) {x : WiresChange} → Settles wires p o x → (x.out.say ≡ None) × (x.out.kept ≡ None)
 says_nothing p o (L.Settles.refused n a b r v) = (refl, refl)
-says_nothing p o (L.Settles.accepted q K.Nothing e) = (refl, refl)
-says_nothing p o (L.Settles.accepted q (K.Data at m) e) = absurd (true≢false (sym e))
+says_nothing p o (L.Settles.accepted q None e) = (refl, refl)
+says_nothing p o (L.Settles.accepted q (Some d) e) = absurd (true≢false (sym e))
 
 module _ (l : List ℕ) (h : Loadable l) where
   -- a call of the board that stores what it changes itself
@@ -172,16 +169,15 @@ module _ (l : List ℕ) (h : Loadable l) where
   unfolding lift
   settled-carried o l' k x r er ex e =
       let n = says_nothing (unpacked l).wires o (H.board_settles wires (unpacked l) o) in
-      let y : x.out.say ≡ S.Silent = ap (λ (z : WiresChange). z.out.say) ex ∙ n.0 in
-      let f : x.out.kept ≡ K.Nothing = ap (λ (z : WiresChange). z.out.kept) ex ∙ n.1 in
+      let y : x.out.say ≡ None = ap (λ (z : WiresChange). z.out.say) ex ∙ n.0 in
+      let f : x.out.kept ≡ None = ap (λ (z : WiresChange). z.out.kept) ex ∙ n.1 in
       let st = settle_stays wires (unpacked l) o x ex in
-      outgoing-carried (lift wires (unpacked l) x) l l' r (ap (λ (z : Say). plain (with_status z (status (put wires x.next (unpacked l))))) y)
-      (er ∙ ap₂ (λ (a : ℕ) (b : Reply). record { number = a; reply = b; packet = false; kept = K.Nothing }) (ap (λ (z : Numbered). z.number) e)
-      (sym (ap (λ (z : Say). with_status z (status (put wires x.next (unpacked l)))) y))
-      ∙ ap (λ (z : Kept). record {
+      outgoing-carried (lift wires (unpacked l) x) l l' r (ap (λ (z : Option Say). plain (with_status z (status (put wires x.next (unpacked l))))) y)
+      (er ∙ ap₂ (λ (a : ℕ) (b : Option Reply). record { number = a; speech = Y.Reply b; kept = None }) (ap (λ (z : Numbered). z.number) e)
+      (sym (ap (λ (z : Option Say). with_status z (status (put wires x.next (unpacked l)))) y))
+      ∙ ap (λ (z : Option Kept). record {
         number = x.out.number;
-        reply = with_status x.out.say (status (put wires x.next (unpacked l)));
-        packet = false;
+        speech = Y.Reply (with_status x.out.say (status (put wires x.next (unpacked l))));
         kept = z;
       }) (sym f))
       (ap (λ (z : Numbered). z.state) e ∙ change-stored wires (unpacked l) x l h st)
@@ -206,7 +202,7 @@ module _ (c : Config) (l : List ℕ) (line level : ℕ) where
         let x = N.set_line (on1 c.r020) (lines_in l) line level in
         ap (settled_to 0) (el ∙ ap (λ (z : Bool). Z.put 78 (lines_bytes (N.set_line z (lines_in l) line level)) l) eo ∙ stored_lines l byte long tidy x)
         ∙ ap (λ (z : WiresChange). settled_by z l)
-        (passed _ _ (denied e t) (passed _ (change (with_lines (all_in l) x) (keep K.Nothing)) (sym f ∙ u) refl))
+        (passed _ _ (denied e t) (passed _ (change (with_lines (all_in l) x) (keep None)) (sym f ∙ u) refl))
 
 module _ (c : Config) (l : List ℕ) (line : ℕ) where
   pub pulse_none : not (is_line line) ≡ true → settled_to 22 l ≡ settled_by (pulsing_line c (all_in l) line) l
@@ -228,7 +224,7 @@ module _ (c : Config) (l : List ℕ) (line : ℕ) where
     pulse_done l' byte long tidy u el =
         let x = N.pulse_line (lines_in l) line in
         ap (settled_to 0) (el ∙ stored_lines l byte long tidy x)
-        ∙ ap (λ (z : WiresChange). settled_by z l) (passed _ _ t (passed _ (change (with_lines (all_in l) x) (keep K.Nothing)) (denied e u) refl))
+        ∙ ap (λ (z : WiresChange). settled_by z l) (passed _ _ t (passed _ (change (with_lines (all_in l) x) (keep None)) (denied e u) refl))
 
 -- ---- an edge that stands against a configuration
 

@@ -1,38 +1,24 @@
-use native.Mathlib.Omega.{arith}
-use mathlib.Core.Path.{refl, ap}
-use borrow.Author.Tests.{lt-ltb, le-ltb}
-use Rattle.base.specs.Pick.{taken, passed}
+use mathlib.Core.Bool.{false}
 use Rattle.state.specs.Layout.{unpacked}
-use Rattle.rules.specs.Rules.Calls.{set_line_call}
 use Rattle.rules.specs.Rules.Wires as W
-use Rattle.espi.specs.Boundary.{ok_is, loadable, settled_by_lem, board_plain}
-use mathlib.Core.Bool.{not}
+use Rattle.rules.specs.Rules.Calls.{done, set_line_call}
+use Rattle.espi.specs.Boundary.{refuses, goes_through, admitted, settled_by_lem, board_plain}
 use Rattle.espi.proofs.espi_set_line.Goals as goal
 
--- src/lib.rt:254:9
-pub returns-then-state-lt-STATE : goal.returns-then-state-lt-STATE
-unfolding set_line_call
-returns-then-state-lt-STATE c =
-    taken _ _ (lt-ltb _ _ c.if-state-lt-STATE.true) refl
+pub returns-in-Err : goal.returns-in-Err
+unfolding set_line_call W.settle
+returns-in-Err c =
+    refuses c.args.state.now false _ c.guard.ensures (λ n. done n c.args.state.now) _ _ _ c.number.ensures c.in-Err.is
 
--- src/lib.rt:257:9
-pub returns-then-not-holds : goal.returns-then-not-holds
-unfolding set_line_call
-returns-then-not-holds c =
-    passed _ _ (le-ltb _ _ c.if-state-lt-STATE.false) (taken _ _ (ok_is _ _ c.holds.ensures (ap not c.if-not-holds.true)) refl)
-
--- src/lib.rt:259:9
 pub set_line-p-requires : goal.set_line-p-requires
-set_line-p-requires c =
-    loadable c.args.state.now _ c.holds.ensures (omega arith) (ap not c.if-not-holds.false)
+set_line-p-requires c = (admitted c.args.state.now false _ _ c.guard.ensures c.in_default.is).state
 
--- src/lib.rt:249:1
 pub returns : goal.returns
 unfolding set_line_call W.settle
 returns c =
     let a = c.args in
     let l = a.state.now in
-    passed _ _ (le-ltb _ _ c.if-state-lt-STATE.false)
-    (passed _ _ (ok_is _ _ c.holds.ensures (ap not c.if-not-holds.false))
-    (settled_by_lem l _ c.set_line-p.result _ (board_plain (unpacked l) (W.set_line a.line a.level)) (omega arith)
-    c.set_line-p.ensures))
+    let t = admitted l false _ _ c.guard.ensures c.in_default.is in
+    goes_through l false _ c.guard.ensures (λ n. done n l) _ _ c.in_default.is
+    (rw c.from.ensures
+    (settled_by_lem l _ c.set_line-p.result _ (board_plain (unpacked l) (W.set_line a.line a.level)) t.state.long c.set_line-p.ensures))

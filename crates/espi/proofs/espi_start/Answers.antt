@@ -9,7 +9,7 @@ use Rattle.espi.proofs.espi_start.Goals as goal
 pub returns-then-state-lt-STATE : goal.returns-then-state-lt-STATE
 unfolding start_call
 returns-then-state-lt-STATE c =
-    taken _ _ (lt-ltb _ _ c.if-state-lt-STATE.true) refl
+    rw c.number.ensures (taken _ _ (lt-ltb _ _ c.if-state-lt-STATE.true) refl)
 
 -- src/lib.rt:36:1
 pub returns : goal.returns

@@ -1,7 +1,7 @@
 -- A file is good, or bad by a sentence of document 02.
-use Rattle.std.specs.Prelude.{ℕ, zero, suc, ◌+◌, ◌<◌, ◌≤◌, Bool, true, false, List, ◌⊎◌, ◌≡◌, refl, eqb, leb, ltb, length, drop}
+use Rattle.std.specs.Prelude.{ℕ, zero, suc, ◌+◌, ◌<◌, ◌≤◌, true, false, List, ◌⊎◌, ◌≡◌, refl, eqb, leb, ltb, length, drop}
 use Rattle.std.proofs.Common.{true≢false, inl, inr, sym, subst, ◌∙◌, eq-or-lt_of_le, pos_of_ne-zero, arith, ltb-true, ltb-false, eqb-true, leb-true, leb-false}
-use Rattle.std.proofs.lemmas.Bool.{eqb-false}
+use Rattle.std.proofs.lemmas.Bool.{cases_Bool, eqb-false}
 use Rattle.base.specs.Pick.{and_left, goes_on}
 use Rattle.housefile.specs.Kinds.{kind_of, body_fits, row_fits_value}
 use Rattle.housefile.specs.Format.{longest, count_of, rows_end, row, row_at, total, all_fit, entries}
@@ -9,10 +9,6 @@ use Rattle.housefile.specs.Statements.{AddsUp, WrongLength, answer_under, failur
 use Rattle.housefile.specs.Statements.{Refused, longer, unequal, unknown, wrong, Good, Spoilt}
 use Rattle.housefile.specs.Laws.{fit_at, length-entries, is_good, bad_longer, bad_unequal, bad_unfit}
 use Rattle.housefile.specs.declared.Row.{Row}
-
-told : (b : Bool) → (b ≡ true) ⊎ (b ≡ false)
-told true = inl refl
-told false = inr refl
 
 -- ---- one row
 
@@ -29,7 +25,7 @@ by_kind Q a b c d e f g h (suc (suc (suc (suc (suc (suc (suc k))))))) = h _ (ome
 
 unlike4 : (length : ℕ) → (length ≡ 4 → ⊥) → WrongLength 2 length
 unlike4 length n =
-    elim (told (ltb length 4)) [
+    elim (cases_Bool (ltb length 4)) [
       | inl e ↦ answer_under (inr refl) (ltb-true length 4 e)
       | inr e ↦ elim (eq-or-lt_of_le (ltb-false length 4 e)) [
         | inl q ↦ absurd (n (sym q))
@@ -88,7 +84,7 @@ unfit_at : (rows : ℕ → Row) (n i : ℕ) → all_fit rows n i ≡ false → U
 unfolding all_fit
 unfit_at rows zero i e = absurd (true≢false e)
 unfit_at rows (suc n) i e =
-    elim (told (row_fits_value (rows i))) [
+    elim (cases_Bool (row_fits_value (rows i))) [
       | inl t ↦
           let r = unfit_at rows n (suc i) (goes_on (all_fit rows n (suc i)) t ∙ e) in
           record { place = r.place; from = omega arith; upto = omega arith; unfit = r.unfit }
@@ -125,11 +121,11 @@ pub judged : (file : List ℕ) → Good file ⊎ Spoilt file
 judged file =
     let n = count_of file in
     let rows = row_at file in
-    elim (told (ltb longest (length file))) [
+    elim (cases_Bool (ltb longest (length file))) [
       | inl e ↦ let h = ltb-true longest (length file) e in inr (record { read = bad_longer file h; refused = longer h })
-      | inr short ↦ elim (told (eqb (rows_end n + total rows n 0) (length file))) [
+      | inr short ↦ elim (cases_Bool (eqb (rows_end n + total rows n 0) (length file))) [
         | inr e ↦ let h = eqb-false (rows_end n + total rows n 0) (length file) e in inr (record { read = bad_unequal file h; refused = unequal h })
-        | inl adds ↦ elim (told (all_fit rows n 0)) [
+        | inl adds ↦ elim (cases_Bool (all_fit rows n 0)) [
           | inr e ↦ inr (record { read = bad_unfit file e; refused = unfit_refused file e })
           | inl fit ↦ inl (whole file (ltb-false longest (length file) short) (eqb-true (rows_end n + total rows n 0) (length file) adds) fit)
         ]

@@ -1,17 +1,13 @@
 use Rattle.std.proofs.Common.{◌∙◌, arith}
 use Rattle.peripheral.specs.Sound.{sound_request}
-use Rattle.peripheral.specs.Coded.{phase-at, phase-held, phase_rest, then_true}
+use Rattle.peripheral.specs.Coded.{phase-at, phase-held, then_true}
 use Rattle.peripheral.proofs.request_holds.Goals as goal
 
 pub returns-then-phase-eq0 : goal.returns-then-phase-eq0
 unfolding sound_request
 returns-then-phase-eq0 c = phase-at c.args.b.now _ 0 c.if-phase-eq0.true (c.blank.ensures ∙ then_true _)
 
-pub returns-then-phase-gt3 : goal.returns-then-phase-gt3
-returns-then-phase-gt3 c = let l = c.if-phase-gt3.true in
-    phase_rest c.args.b.now (λ e. omega (arith, l)) (λ e. omega (arith, l)) (λ e. omega (arith, l)) (λ e. omega (arith, l))
-
 pub returns : goal.returns
 returns c = phase-held c.args.b.now _
     c.if-phase-eq0.false (omega (arith, c.if-phase-gt3.false))
-    (rw (c.held_holds.ensures, c.request_in.ensures, c.get4.ensures))
+    (rw (c.held_right.ensures, c.unpack.ensures, c.get4.ensures))

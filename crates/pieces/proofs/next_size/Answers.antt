@@ -3,12 +3,6 @@ use Rattle.pieces.specs.Edges.{place_low}
 use Rattle.pieces.specs.Pieces.{next_size}
 use Rattle.pieces.proofs.next_size.Goals as goal
 
-pub returns-then-left-room : goal.returns-then-left-room
-unfolding next_size
-returns-then-left-room c =
-    let a = c.args in
-    omega (arith, c.place_in.ensures.0, place_low a.address a.payload a.sent c.requires.2.divides)
-
 pub returns : goal.returns
 unfolding next_size
 returns c =

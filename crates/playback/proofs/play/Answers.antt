@@ -1,8 +1,7 @@
 use mathlib.Core.Path.{sym}
 use native.Mathlib.Omega.{arith}
 use lib.Seq.{length-take-le}
-use Rattle.playback.specs.Laws.{few}
-use Rattle.playback.specs.Playing.{part-ends, part-fits, reply_part, line_most, play_by}
+use Rattle.playback.specs.Playing.{part_ends, part_fits, reply_part, line_most, play_by}
 use Rattle.playback.proofs.play.Goals as goal
 
 pub overflow_add-end : goal.overflow_add-end
@@ -12,7 +11,7 @@ overflow_add-end c =
       fits = omega (
         arith,
         c.requires.0.short,
-        part-ends a.file.now a.place c.requires.0 c.requires.1 _ _ c.row_at-row.ensures.0
+        part_ends a.file.now a.place c.requires.0 c.requires.1 _ _ c.row_at-row.ensures.0
             c.kind_of-kind.ensures,
       );
     }
@@ -20,12 +19,12 @@ overflow_add-end c =
 pub slice_bounds-obey-end : goal.slice_bounds-obey-end
 slice_bounds-obey-end c =
     let a = c.args in
-    omega (arith, part-ends a.file.now a.place c.requires.0 c.requires.1 _ _ c.row_at-row.ensures.0 c.kind_of-kind.ensures)
+    omega (arith, part_ends a.file.now a.place c.requires.0 c.requires.1 _ _ c.row_at-row.ensures.0 c.kind_of-kind.ensures)
 
 pub obey-word-requires : goal.obey-word-requires
 obey-word-requires c =
     let a = c.args in
-    part-fits a.file.now a.place c.requires.0 c.requires.1 _ _ c.row_at-row.ensures.0 c.kind_of-kind.ensures
+    part_fits a.file.now a.place c.requires.0 c.requires.1 _ _ c.row_at-row.ensures.0 c.kind_of-kind.ensures
 
 pub slice_bounds-tell-end : goal.slice_bounds-tell-end
 slice_bounds-tell-end c =
@@ -48,10 +47,6 @@ tell-size-requires c =
       line_most a.file.now a.place c.requires.0 c.requires.1 _ _ c.row_at-row.ensures.0 c.kind_of-kind.ensures
           a.state.now a.reply.now a.write_store.now a.read_store.now _ _ _ _ _ c.obey-word.ensures _ c.replied-n.ensures,
     )
-
-pub overflow_add-result : goal.overflow_add-result
-overflow_add-result c =
-    record { fits = omega (arith, few c.args.file.now c.args.place c.requires.0) }
 
 pub returns : goal.returns
 returns c =

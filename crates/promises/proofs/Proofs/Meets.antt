@@ -1,5 +1,5 @@
 -- What the liftings of all calls share: chains of the same guards, one outcome that meets another, bytes that hold a state.
-use Rattle.std.specs.Prelude.{ℕ, zero, suc, ◌%◌, ◌≤◌, Bool, true, false, ◌||◌, not, List, [], ◌≡◌, refl, ltb, length, take, drop}
+use Rattle.std.specs.Prelude.{ℕ, zero, suc, ◌%◌, ◌≤◌, Bool, true, false, ◌||◌, not, List, [], ◌≡◌, refl, ltb, length, take, drop, Option, Some, None}
 use Rattle.std.proofs.Common.{sym, ap, ◌∙◌, subst, arith, le-ltb, ltb-true}
 use Rattle.base.specs.Pick.{pick}
 use Rattle.base.specs.Bytes.{over, over_none, length_over}
@@ -16,7 +16,6 @@ use Rattle.rules.specs.Rules.Calls.{word, kept}
 use Rattle.rules.proofs.Proofs.Refusals.{SettledAs, board_settled}
 use Rattle.rules.proofs.Proofs.WholeCalls.{number_word}
 use Rattle.rules.specs.declared.Kept.{Kept}
-use Rattle.rules.specs.declared.Kept.TheVariants as K
 use Rattle.rules.specs.Rules.Plan.{Plan}
 use Rattle.promises.specs.ByteRuns.{ByteWorld, ByteOutcome}
 use Rattle.promises.specs.Statements.Lifted.{Holding, world_of, value_of, lent_reply, lent_report, Meets}
@@ -93,9 +92,9 @@ board st long write read form report n s small good =
     meets (plain n) small (sym (over_none [])) refl refl (world-after st write read s good) (held_after st write read s long good)
 
 -- a plan without data leaves the read store
-pub none_kept : (k : Kept) (l : List ℕ) → over (kept_bytes k []) l ≡ l
-none_kept K.Nothing l = over_none l
-none_kept (K.Data at n) l = ap (λ (x : List ℕ). over x l) (ap (take n) (drop_none at) ∙ no_bytes n) ∙ over_none l
+pub none_kept : (k : Option Kept) (l : List ℕ) → over (kept_bytes k []) l ≡ l
+none_kept None l = over_none l
+none_kept (Some d) l = ap (λ (x : List ℕ). over x l) (ap (take d.count) (drop_none d.from) ∙ no_bytes d.count) ∙ over_none l
 
 -- a board call's number
 pub small : (s : State) (k : Channel) (o : Board k) → ltb (L.settled k s o).number 256 ≡ true

@@ -26,7 +26,7 @@ returns c =
     let e = c.send-n.ensures in (
       packet-put c.args.p c.args.others c.args.state.now c.args.reply.now c.requires.1
           (λ k. omega (arith, c.slice_known-2-1.given k)) (omega arith)
-          _ _ _ _ _ _ _ c.put_at.ensures e.state e.reply e.count c.put_at-2.ensures
+          _ _ _ _ _ _ _ (rw c.from.ensures at c.put_at.ensures) e.state e.reply e.count c.put_at-2.ensures
           c.status_in.ensures.0 c.finish.ensures,
       omega (arith, e.most),
     )

@@ -3,4 +3,4 @@ use Rattle.base.specs.Bytes.{put_first}
 use Rattle.reply.proofs.put_word.Goals as goal
 
 pub returns : goal.returns
-returns c = ((rw c.bytes4-w.ensures at c.put_at.ensures) ∙ put_first _ _, refl)
+returns c = ((rw c.to_le_bytes.ensures at c.put_at.ensures) ∙ put_first _ _, refl)

@@ -11,6 +11,7 @@ use Rattle.peripheral.specs.declared.Np.{Np}
 use Rattle.peripheral.specs.declared.Np.TheVariants.{Free, Waiting, Ready, Failed}
 use Rattle.peripheral.specs.declared.Peripheral.{Peripheral}
 use Rattle.peripheral.specs.declared.Request.{Request}
+use Rattle.rules.specs.Rules.Plan.{PeripheralChange}
 use Rattle.rules.specs.Rules.Peripheral.{succeeded, answer}
 use Rattle.rules.specs.Rules.Channel.{peripheral}
 use Rattle.rules.specs.Rules.Lift.{lift}
@@ -29,7 +30,6 @@ use Rattle.rules.proofs.Proofs.Requests.{end_is, ended-event, same_answer}
 use Rattle.rules.proofs.Proofs.View.{view, view_as}
 use Rattle.rules.proofs.Proofs.AfterEnd.{dropped_free, end_free}
 use Rattle.rules.proofs.Proofs.Owed.{free_run}
-use Rattle.rules.specs.declared.PeripheralChange.{PeripheralChange}
 
 -- ---- what is given
 

@@ -3,7 +3,7 @@
 -- A configuration write alone looks at the wires, whether an edge waits: both runs are held against what remains of them from one world in which none does,
 -- and without wire calls none comes to wait.
 use Prim.Native.Nat.{ℕ, ◌+◌, ◌-◌, ◌*◌, ◌/◌, ◌%◌}
-use Rattle.std.specs.Prelude.{Bool, ◌&&◌, ◌||◌, ◌≡◌, get_or, take}
+use Rattle.std.specs.Prelude.{Bool, ◌&&◌, ◌||◌, ◌≡◌, get_or, take, Option, Some, None}
 use Rattle.std.proofs.Math.Bool.{true, false, and-false}
 use Rattle.std.proofs.Common.{true≢false, ap₂, ◌∙◌, arith, length-append, take_at, get_or-append-add, eq-eqb, ne_eqb, eqb-true}
 use mathlib.Core.List.{List, [], ◌∷◌, ◌++◌, map}
@@ -27,7 +27,7 @@ use Rattle.command.specs.declared.Command.TheVariants as C
 use Rattle.state.specs.Parts.{sum, sum_as}
 use Rattle.state.specs.Status.{status}
 use Rattle.state.specs.State.{State}
-use Rattle.rules.specs.Rules.Out.{response_byte}
+use Rattle.rules.specs.Rules.Out.{response_byte, says}
 use Rattle.rules.specs.Rules.Reset.{Reset, start, espi_reset, platform_reset}
 use Rattle.rules.specs.Rules.Channel.{Channel, peripheral, wires, Part, Command, Act, Board, Change, change, next_of, out_of, act_of, acting, reset_follows, settle, report_of, value_of, given, bits, own_kept, part, put, each, on, enable_edge, same}
 use Rattle.rules.specs.Rules.Channel as N
@@ -66,9 +66,7 @@ use Rattle.rules.proofs.Proofs.Reads.{reads}
 use Rattle.rules.proofs.Proofs.Reply.{closed_as, closed-length, status-bits, status_small, over_long}
 use Rattle.rules.specs.declared.Body.TheVariants as B
 use Rattle.rules.specs.declared.Say.{Say}
-use Rattle.rules.specs.declared.Say.TheVariants as Y
 use Rattle.rules.specs.declared.Kept.{Kept}
-use Rattle.rules.specs.declared.Kept.TheVariants as K
 use Rattle.rules.specs.declared.Out.{Out}
 use Rattle.rules.specs.Rules.Plan.{Plan}
 use Rattle.rules.specs.declared.Response.TheVariants.{Accept, NonFatal}
@@ -119,30 +117,30 @@ closed_but x m s =
     ∙ ap (λ (n : ℕ). m ++ (clear x n ∷ [])) two
 
 -- what a plan says, in two states that are alike but for x, its body's bytes being the same
-abbrev body_of : Say → World → List ℕ
-body_of Y.Silent w = []
-body_of (Y.Said r body) w = body_in w body
+abbrev body_of : Option Say → World → List ℕ
+body_of None w = []
+body_of (Some y) w = body_in w y.body
 
 module _ (x : Channel) (s t : State) (h : StatesAlike x s t) (w v : World) where
-  abbrev reply_on : World → Say → ℕ → List ℕ
+  abbrev reply_on : World → Option Say → ℕ → List ℕ
   reply_on u y word = reply_bytes (with_status y word) u.state.wires u.read
 
-  said_but : (y : Say) → body_of y w ≡ body_of y v → reply_but x (reply_on w y (status s)) ≡ reply_but x (reply_on v y (status t))
+  said_but : (y : Option Say) → body_of y w ≡ body_of y v → reply_but x (reply_on w y (status s)) ≡ reply_but x (reply_on v y (status t))
   unfolding reply_bytes
-  said_but Y.Silent e = refl
-  said_but (Y.Said r body) e =
-      closed_but x (response_byte r ∷ body_in w body) s
-      ∙ ap (λ (z : ℕ). (response_byte r ∷ body_in w body) ++ (z ∷ [])) (status_alike x s t h)
-      ∙ ap (λ (z : List ℕ). (response_byte r ∷ z) ++ (clear x (status t) ∷ [])) e
-      ∙ sym (closed_but x (response_byte r ∷ body_in v body) t)
+  said_but None e = refl
+  said_but (Some q) e =
+      closed_but x (response_byte q.response ∷ body_in w q.body) s
+      ∙ ap (λ (z : ℕ). (response_byte q.response ∷ body_in w q.body) ++ (z ∷ [])) (status_alike x s t h)
+      ∙ ap (λ (z : List ℕ). (response_byte q.response ∷ z) ++ (clear x (status t) ∷ [])) e
+      ∙ sym (closed_but x (response_byte q.response ∷ body_in v q.body) t)
 
-  said-length : (y : Say) → body_of y w ≡ body_of y v → length (reply_on w y (status s)) ≡ length (reply_on v y (status t))
+  said-length : (y : Option Say) → body_of y w ≡ body_of y v → length (reply_on w y (status s)) ≡ length (reply_on v y (status t))
   unfolding reply_bytes
-  said-length Y.Silent e = refl
-  said-length (Y.Said r body) e =
-      closed-length (response_byte r ∷ body_in w body) (status s)
-      ∙ ap (λ (z : List ℕ). length (response_byte r ∷ z) + 3) e
-      ∙ sym (closed-length (response_byte r ∷ body_in v body) (status t))
+  said-length None e = refl
+  said-length (Some q) e =
+      closed-length (response_byte q.response ∷ body_in w q.body) (status s)
+      ∙ ap (λ (z : List ℕ). length (response_byte q.response ∷ z) + 3) e
+      ∙ sym (closed-length (response_byte q.response ∷ body_in v q.body) (status t))
 
 -- ---- states and worlds alike but for x
 
@@ -202,7 +200,7 @@ record Together (x : Channel) (o q : Outcome) : Type 0 where
 
 module _ (x : Channel) (w v : World) (h : Alike x w v) where
   -- a plan that says and keeps the same in both, with the status of s and t, and s' and t' after it
-  exchanged_together : (b : List ℕ) (n : ℕ) (y : Say) (kept : Kept) (s t s' t' : State) → StatesAlike x s t → StatesAlike x s' t'
+  exchanged_together : (b : List ℕ) (n : ℕ) (y : Option Say) (kept : Option Kept) (s t s' t' : State) → StatesAlike x s t → StatesAlike x s' t'
       → body_of y w ≡ body_of y v
       → SameLack (over (kept_bytes kept b) w.write) w.read (over (kept_bytes kept b) v.write) v.read
       → Together x (performed w b (record { number = n; reply = with_status y (status s); next = s'; kept = kept }))
@@ -219,14 +217,14 @@ module _ (x : Channel) (w v : World) (h : Alike x w v) where
       }
 
   -- above all channels nothing is kept and no store is read
-  above_together : (b : List ℕ) (n : ℕ) (y : Say) (s' t' : State) → StatesAlike x s' t' → body_of y w ≡ body_of y v
-      → Together x (performed w b (record { number = n; reply = with_status y (status w.state); next = s'; kept = K.Nothing }))
-      (performed v b (record { number = n; reply = with_status y (status v.state); next = t'; kept = K.Nothing }))
+  above_together : (b : List ℕ) (n : ℕ) (y : Option Say) (s' t' : State) → StatesAlike x s' t' → body_of y w ≡ body_of y v
+      → Together x (performed w b (record { number = n; reply = with_status y (status w.state); next = s'; kept = None }))
+      (performed v b (record { number = n; reply = with_status y (status v.state); next = t'; kept = None }))
   unfolding over
-  above_together b n y s' t' g e = exchanged_together b n y K.Nothing w.state v.state s' t' h.state g e h.room
+  above_together b n y s' t' g e = exchanged_together b n y None w.state v.state s' t' h.state g e h.room
 
   module _ (k : Channel) (other : same x k ≡ false) where
-    out_together : (b : List ℕ) (q : Part k) (n : ℕ) (y : Say) (kept : Kept) → body_of y w ≡ body_of y v → own_kept k kept ≡ true
+    out_together : (b : List ℕ) (q : Part k) (n : ℕ) (y : Option Say) (kept : Option Kept) → body_of y w ≡ body_of y v → own_kept k kept ≡ true
         → Together x (performed w b (lift k w.state (change k q (record { number = n; say = y; kept = kept }))))
         (performed v b (lift k v.state (change k q (record { number = n; say = y; kept = kept }))))
     out_together b q n y kept e o =
@@ -238,9 +236,9 @@ module _ (x : Channel) (w v : World) (h : Alike x w v) where
 
     acts_together : (b : List ℕ) {p : Part k} {a : Act k} {c : Change k} → Acts k p a c
         → Together x (performed w b (lift k w.state c)) (performed v b (lift k v.state c))
-    acts_together b {p = p} L.Acts.refused = out_together b p 1 _ K.Nothing refl (owns k).nothing
+    acts_together b {p = p} L.Acts.refused = out_together b p 1 _ None refl (owns k).nothing
     acts_together b (L.Acts.accepted q body kept o n) =
-        out_together b q 0 (Y.Said _ body) kept ((owns k).bytes body w v o (h.state.parts k other) (h.stores k other)) n
+        out_together b q 0 (says _ body) kept ((owns k).bytes body w v o (h.state.parts k other) (h.stores k other)) n
 
     settle_alike : (o : Board k) → settle k w.state.config (part k w.state) o ≡ settle k v.state.config (part k v.state) o
     settle_alike o =
@@ -279,7 +277,7 @@ module _ (x : Channel) (w v : World) (h : Alike x w v) where
     unfolding over
     follows_together b {c = c} d true =
         let g = put_alike x k (next_of k c) w.state v.state h.state in
-        exchanged_together b 0 (Y.Said Accept B.Nothing) K.Nothing _ _ _ _ g (reset_alike x platform_reset _ _ g) refl h.room
+        exchanged_together b 0 (says Accept B.Nothing) None _ _ _ _ g (reset_alike x platform_reset _ _ g) refl h.room
     follows_together b d false = acts_together b d
 
     -- the command in the other world, under a configuration and a part
@@ -305,18 +303,18 @@ module _ (x : Channel) (w v : World) (h : Alike x w v) where
   other_call : {c : Call} {o q : Outcome} → Both w v c o q → is_call_of x c ≡ false → Together x o q
   unfolding seen
   other_call (T.idle n l) e = record { alike = refl; next = h }
-  other_call (T.status {b = b} a) e = above_together b 0 (Y.Said Accept B.Nothing) w.state v.state h.state refl
+  other_call (T.status {b = b} a) e = above_together b 0 (says Accept B.Nothing) w.state v.state h.state refl
   other_call (T.register {b = b} a l) e =
       subst (λ (c : Config). Together x (T.registered b a w) (performed v b (show (B.Word (read_at_value c a)) v.state))) h.state.config
-      (above_together b 0 (Y.Said Accept (B.Word (read_at_value w.state.config a))) w.state v.state h.state refl)
+      (above_together b 0 (says Accept (B.Word (read_at_value w.state.config a))) w.state v.state h.state refl)
   other_call (T.acted {b = b} k o r a) e = acted_together k (sym (own_command x k w.state b o a) ∙ e) o b
   other_call (T.settles k o r) e =
       subst (λ (c : Change k). Together x (T.boarded k o w) (served k v o (lift k v.state c))) (settle_alike k e o)
       (settles_together k e o (L₁.board_settles k w.state o))
-  other_call (T.forbidden {b = b}) e = above_together b 2 (Y.Said NonFatal B.Nothing) w.state v.state h.state refl
-  other_call (T.configured {b = b} a n r) e = above_together b 0 (Y.Said Accept B.Nothing) _ _ (reconfigured_alike a n) refl
+  other_call (T.forbidden {b = b}) e = above_together b 2 (says NonFatal B.Nothing) w.state v.state h.state refl
+  other_call (T.configured {b = b} a n r) e = above_together b 0 (says Accept B.Nothing) _ _ (reconfigured_alike a n) refl
   other_call (T.cleared {b = b} r) e =
-      above_together b 0 Y.Silent _ _
+      above_together b 0 None _ _
       (each_alike x (λ k p. p) (λ k p. p) _ _ w.state v.state
       (ap (λ (c : Config). record { r008 = fresh008; r010 = c.r010; r020 = c.r020 }) h.state.config) (λ k p. refl) h.state) refl
   other_call (T.wiped {r = r}) e =
@@ -350,7 +348,7 @@ module _ (b write read : List ℕ) where
   abbrev StoresStay : Channel → (List ℕ → List ℕ) → Type 0
   StoresStay y f = (stores_of y (f write) read ≡ stores_of y write read) × (stores_of y write (f read) ≡ stores_of y write read)
 
-  stores_own : (k y : Channel) (kept : Kept) → own_kept k kept ≡ true → same k y ≡ false → StoresStay y (over (kept_bytes kept b))
+  stores_own : (k y : Channel) (kept : Option Kept) → own_kept k kept ≡ true → same k y ≡ false → StoresStay y (over (kept_bytes kept b))
   stores_own k y kept o =
       own_or_other peripheral (λ (z : Channel). same k z ≡ false → StoresStay z (over (kept_bytes kept b)))
       (λ e. kept_other (StoresStay peripheral) k (same_turned k peripheral e) kept b o (refl, refl))

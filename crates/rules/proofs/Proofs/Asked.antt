@@ -11,6 +11,7 @@ use Rattle.peripheral.specs.declared.Peripheral.{Peripheral}
 use Rattle.peripheral.specs.declared.Request.{Request}
 use Rattle.peripheral.specs.Layout.{kind_number}
 use Rattle.state.specs.Status.{status}
+use Rattle.rules.specs.Rules.Plan.{PeripheralChange}
 use Rattle.rules.specs.Rules.Peripheral.{look, request_report, look_report, bytes_of}
 use Rattle.rules.specs.Rules.Channel.{peripheral}
 use Rattle.rules.specs.Rules.Lift.{lift}
@@ -32,7 +33,6 @@ use Rattle.rules.proofs.Proofs.Events.{head_unended, tail_unended, head_without,
 use Rattle.rules.proofs.Proofs.Requests.{end_is, asked_opcode}
 use Rattle.rules.proofs.Proofs.View.{view, view_as}
 use Rattle.rules.proofs.Proofs.Owed.{np_shown, pc_shown, shown_silent, down_now}
-use Rattle.rules.specs.declared.PeripheralChange.{PeripheralChange}
 
 -- ---- the request as it was accepted, until it is answered
 

@@ -6,9 +6,9 @@ use Rattle.base.specs.Pick.{pick, pick_ind, passed}
 use Rattle.command.specs.Rows.{row_of, short}
 use Rattle.command.specs.declared.Access.{Access}
 use Rattle.command.specs.declared.Access.TheVariants.{IoRead, IoWrite, MemoryRead, MemoryWrite}
-use Rattle.command.specs.declared.Listed.{Listed}
-use Rattle.command.specs.declared.Listed.TheVariants.{Unlisted}
 use Rattle.rules.specs.Statements.Fields.{is_listed, is_posted, is_non_posted}
+use Rattle.std.specs.Prelude.{Option, None}
+use Rattle.command.specs.declared.Row.{Row}
 
 pub one : (Q : ℕ → Type 0) (op k : ℕ) → Q k → (eqb op k ≡ false → Q op) → Q op
 one Q op k q else = go (eqb op k) refl
@@ -22,11 +22,11 @@ pub outside : (p : ℕ → Bool) (op n : ℕ) → p n ≡ false → p op ≡ tru
 outside p op n f = one (λ (x : ℕ). p x ≡ true → eqb x n ≡ false) op n (λ t. absurd (true≢false (sym t ∙ f))) (λ e _. e)
 
 -- four values from a multiple of 4 on, without three of them
-no_short : (a : Access) (width : ℕ) (writes : Bool) (op q : ℕ) (rest : Listed) → eqb op (4 * q) ≡ false → eqb op (4 * q + 1) ≡ false
+no_short : (a : Access) (width : ℕ) (writes : Bool) (op q : ℕ) (rest : Option Row) → eqb op (4 * q) ≡ false → eqb op (4 * q + 1) ≡ false
     → eqb op (4 * q + 3) ≡ false
-    → Unlisted ≡ rest → Unlisted ≡ pick (eqb (op / 4) q) (short a width writes (op % 4)) rest
+    → None ≡ rest → None ≡ pick (eqb (op / 4) q) (short a width writes (op % 4)) rest
 no_short a n w op q rest e0 e1 e3 r =
-    pick_ind (λ (l : Listed). Unlisted ≡ l) (eqb (op / 4) q)
+    pick_ind (λ (l : Option Row). None ≡ l) (eqb (op / 4) q)
     (λ e. let two : op % 4 ≡ 2 = omega (arith, eqb-true (op / 4) q e, eqb-false op (4 * q) e0, eqb-false op (4 * q + 1) e1, eqb-false op (4 * q + 3) e3) in
     sym (ap (short a n w) two))
     (λ _. r)
@@ -35,7 +35,7 @@ no_short a n w op q rest e0 e1 e3 r =
 pub by_opcode : (Q : ℕ → Type 0)
     → Q 0x00 → Q 0x01 → Q 0x02 → Q 0x04 → Q 0x05 → Q 0x21 → Q 0x22 → Q 0x25 → Q 0xFF
     → Q 0x40 → Q 0x41 → Q 0x43 → Q 0x44 → Q 0x45 → Q 0x47 → Q 0x48 → Q 0x49 → Q 0x4B → Q 0x4C → Q 0x4D → Q 0x4F
-    → ((op : ℕ) → is_listed op ≡ false → row_of op ≡ Unlisted → Q op)
+    → ((op : ℕ) → is_listed op ≡ false → row_of op ≡ None → Q op)
     → (op : ℕ) → Q op
 by_opcode Q q00 q01 q02 q04 q05 q21 q22 q25 qFF q40 q41 q43 q44 q45 q47 q48 q49 q4B q4C q4D q4F else op =
     one Q op 0x00 q00 λ e00. one Q op 0x01 q01 λ e01. one Q op 0x02 q02 λ e02. one Q op 0x04 q04 λ e04. one Q op 0x05 q05 λ e05.

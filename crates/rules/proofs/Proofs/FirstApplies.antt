@@ -14,8 +14,6 @@ use Rattle.command.specs.Facts.{cycle_wrong}
 use Rattle.command.specs.declared.Data.{Data}
 use Rattle.command.specs.declared.Data.TheVariants.{Fixed, Length, Pairs, Ones}
 use Rattle.command.specs.declared.Row.{Row}
-use Rattle.command.specs.declared.Listed.{Listed}
-use Rattle.command.specs.declared.Listed.TheVariants.{As, Unlisted}
 use Rattle.command.specs.declared.Need.{Need}
 use Rattle.command.specs.declared.Need.TheVariants.{Whole}
 use Rattle.command.specs.declared.Command.{Command}
@@ -44,6 +42,7 @@ use Rattle.rules.proofs.Proofs.Wires.Rows as W
 use Rattle.rules.proofs.Proofs.Wires.Lowering.{lowers_did, lowers_accepts}
 use Rattle.rules.specs.declared.Out.{Out}
 use Rattle.rules.specs.Rules.Plan.{Plan}
+use Rattle.std.specs.Prelude.{Option, Some, None}
 
 -- ---- the decoder's tests in a chain
 
@@ -59,9 +58,9 @@ data_tests c b q Length = whole_test c b q (whole_with_value q b (length_of (get
 data_tests c b q Pairs = whole_test c b q (whole_with_value q b (group_count (get_or b 1 0) * 2))
 data_tests c b q Ones = pick (all_ff b) (pick (not (leb 2 (length b))) 13 (crc_test c b q)) 13
 
-abbrev tests : Config → List ℕ → Listed → ℕ
-tests c b Unlisted = 13
-tests c b (As q) =
+abbrev tests : Config → List ℕ → Option Row → ℕ
+tests c b None = 13
+tests c b (Some q) =
     pick (not (channel_on (channels_of c) q.channel)) 14
     (pick (cycle_wrong q b) 15
     (pick (ltb (length b) q.told) 12
@@ -83,9 +82,9 @@ module _ (c : Config) (b : List ℕ) where
   data_chain q Pairs = whole_chain q _
   data_chain q Ones = read_off (number q) (all_ff b) (λ _. read_off number_in (not (leb 2 (length b))) (λ _. refl) (λ _. crc_chain q)) (λ _. refl)
 
-  row_chain : (l : Listed) → number_in (admit_listed (channels_of c) (crc_checked c.r008) b l) ≡ tests c b l
-  row_chain Unlisted = refl
-  row_chain (As q) =
+  row_chain : (l : Option Row) → number_in (admit_listed (channels_of c) (crc_checked c.r008) b l) ≡ tests c b l
+  row_chain None = refl
+  row_chain (Some q) =
       read_off (number q) (not (channel_on (channels_of c) q.channel)) (λ _. refl)
       λ _. read_off (number q) (cycle_wrong q b) (λ _. refl)
       λ _. read_off (number q) (ltb (length b) q.told) (λ _. refl)
@@ -175,7 +174,7 @@ module _ (c : Config) (r : List ℕ) where
       go false true = refl
       go false false = refl
 
-  unlisted : (op : ℕ) → is_listed op ≡ false → row_of op ≡ Unlisted → AtOpcode op
+  unlisted : (op : ℕ) → is_listed op ≡ false → row_of op ≡ None → AtOpcode op
   unlisted op l u = rw (u, l)
 
   at_opcode : (op : ℕ) → AtOpcode op
@@ -244,7 +243,7 @@ module _ (s : State) (b : List ℕ) where
   plan_number : sound s ≡ true → {p : Plan} → Planned s b p → p.number ≡ first_of (command_rows s b)
   unfolding lift
   plan_number h (N.turned n q) =
-      first_among (form_rows s.config b) (later_rows s b) n (omega (arith, q.least)) (sym (ap number_in q.given) ∙ form_number s.config b)
+      first_among (form_rows s.config b) (later_rows s b) n (omega (arith, q.least)) (q.number ∙ sym (ap number_in q.given) ∙ form_number s.config b)
   plan_number h (N.shows (N.status e)) = admitted e (other_rows 0x25 (λ _. refl) (omega arith) (reads s b _ e))
   plan_number h (N.shows (N.register a e)) = admitted e (other_rows 0x21 (λ _. refl) (omega arith) (reads s b _ e).opcode)
   plan_number h (N.acts peripheral o x e d f) = admitted e (P.act-number s b (reads s b _ e) d)

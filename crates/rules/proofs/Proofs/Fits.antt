@@ -1,5 +1,5 @@
 -- A plan fits the lent slices: its reply and its data, by the case law and each channel's.
-use Rattle.std.specs.Prelude.{ℕ, ◌≤◌, true, List, ◌∷◌, ◌≡◌, length, drop}
+use Rattle.std.specs.Prelude.{ℕ, ◌≤◌, true, List, ◌∷◌, ◌≡◌, length, drop, Option, Some, None}
 use Rattle.std.proofs.Math.Path.{subst}
 use Rattle.std.proofs.Common.{arith, length-take}
 use Rattle.wires.specs.Sent.{packet-length}
@@ -25,11 +25,8 @@ use Rattle.rules.proofs.Proofs.Reply.{closed-length}
 use Rattle.rules.specs.declared.Body.{Body}
 use Rattle.rules.specs.declared.Body.TheVariants as B
 use Rattle.rules.specs.declared.Say.{Say}
-use Rattle.rules.specs.declared.Say.TheVariants as S
 use Rattle.rules.specs.declared.Reply.{Reply}
-use Rattle.rules.specs.declared.Reply.TheVariants.{Silent, Said}
-use Rattle.rules.specs.Rules.Plan.{Plan}
-use Rattle.rules.specs.declared.PeripheralChange.{PeripheralChange}
+use Rattle.rules.specs.Rules.Plan.{Plan, PeripheralChange}
 
 -- ---- the reply's length
 
@@ -40,17 +37,17 @@ body_length_lem (B.Piece c) w reads f = omega (arith, length-take c.length (drop
 body_length_lem (B.Groups p) w reads f = omega (arith, packet-length w p, f.most)
 
 -- "reply at least 263 bytes"
-pub reply_length_lem : (r : Reply) (w : AllWires) (reads : List ℕ) → ReplyFits r w → length (reply_bytes r w reads) ≤ 263
+pub reply_length_lem : (r : Option Reply) (w : AllWires) (reads : List ℕ) → ReplyFits r w → length (reply_bytes r w reads) ≤ 263
 unfolding reply_bytes
-reply_length_lem Silent w reads f = omega arith
-reply_length_lem (Said response body status) w reads f =
-    omega (arith, closed-length (response_byte response ∷ body_bytes body w reads) status, body_length_lem body w reads f)
+reply_length_lem None w reads f = omega arith
+reply_length_lem (Some r) w reads f =
+    omega (arith, closed-length (response_byte r.response ∷ body_bytes r.body w reads) r.status, body_length_lem r.body w reads f)
 
 -- ---- an exchange's plan
 
-with_status_lem : (say : Say) (word : ℕ) (w : AllWires) → SayFits say w → ReplyFits (with_status say word) w
-with_status_lem S.Silent word w f = f
-with_status_lem (S.Said response body) word w f = f
+with_status_lem : (say : Option Say) (word : ℕ) (w : AllWires) → SayFits say w → ReplyFits (with_status say word) w
+with_status_lem None word w f = f
+with_status_lem (Some y) word w f = f
 
 lift-fits : (k : Channel) (s : State) (x : Change k) (m : ℕ) → OutFits m s.wires (out_of k x) → PlanFits m s.wires (lift k s x)
 unfolding lift

@@ -1,5 +1,5 @@
 -- What the other channels leave of channel 0.
-use Rattle.std.specs.Prelude.{ℕ, Bool, true, false, ◌||◌, List, [], ◌∷◌, ◌≡◌, refl, eqb}
+use Rattle.std.specs.Prelude.{ℕ, Bool, true, false, ◌||◌, List, [], ◌∷◌, ◌≡◌, refl, eqb, Option, Some, None}
 use Rattle.std.proofs.Common.{true≢false, sym, ap, ◌∙◌}
 use Rattle.base.specs.Pick.{pick}
 use Rattle.state.specs.State.{State}
@@ -17,21 +17,20 @@ use Rattle.rules.proofs.Proofs.Events.{no_lowering}
 use Rattle.rules.proofs.Proofs.Effects.{command_own}
 use Rattle.rules.proofs.Proofs.Whose.{own_opcode, never-set}
 use Rattle.rules.specs.declared.Kept.{Kept}
-use Rattle.rules.specs.declared.Kept.TheVariants as K
 use Rattle.rules.specs.declared.Out.{Out}
 
 -- its calls keep nothing in channel 0's stores
-pub own_other : (k : Channel) → same peripheral k ≡ false → (kept : Kept) → own_kept k kept ≡ true → kept ≡ K.Nothing
+pub own_other : (k : Channel) → same peripheral k ≡ false → (kept : Option Kept) → own_kept k kept ≡ true → kept ≡ None
 own_other peripheral e kept f = absurd (true≢false e)
-own_other wires e K.Nothing f = refl
-own_other wires e (K.Data from n) f = absurd (true≢false (sym f))
+own_other wires e None f = refl
+own_other wires e (Some d) f = absurd (true≢false (sym f))
 
-pub acts_other : (k : Channel) → same peripheral k ≡ false → (p : Part k) (a : Act k) (x : Change k) → Acts k p a x → (out_of k x).kept ≡ K.Nothing
+pub acts_other : (k : Channel) → same peripheral k ≡ false → (p : Part k) (a : Act k) (x : Change k) → Acts k p a x → (out_of k x).kept ≡ None
 acts_other k e p a x L.Acts.refused = ap (λ (out : Out). out.kept) (out_change k p fatal)
 acts_other k e p a x (L.Acts.accepted q body kept f g) =
     ap (λ (out : Out). out.kept) (out_change k q (accepts (response_for k a) body kept)) ∙ own_other k e kept g
 
-pub settles_other : (k : Channel) → same peripheral k ≡ false → (p : Part k) (o : Board k) (x : Change k) → Settles k p o x → (out_of k x).kept ≡ K.Nothing
+pub settles_other : (k : Channel) → same peripheral k ≡ false → (p : Part k) (o : Board k) (x : Change k) → Settles k p o x → (out_of k x).kept ≡ None
 settles_other k e p o x (L.Settles.refused n f g h i) = ap (λ (out : Out). out.kept) (out_change k p (number n))
 settles_other k e p o x (L.Settles.accepted q kept f) = ap (λ (out : Out). out.kept) (out_change k q (keep kept)) ∙ own_other k e kept f
 

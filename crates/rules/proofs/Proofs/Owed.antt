@@ -21,6 +21,7 @@ use Rattle.state.specs.Status.{status}
 use Rattle.state.specs.State.{State}
 use Rattle.state.specs.Facts.{sound_off}
 use Rattle.state.specs.Sound.{Sound}
+use Rattle.rules.specs.Rules.Plan.{PeripheralChange}
 use Rattle.rules.specs.Rules.Peripheral as P₀
 use Rattle.rules.specs.Rules.Channel.{peripheral, on}
 use Rattle.rules.specs.Rules.Lift.{lift}
@@ -40,7 +41,6 @@ use Rattle.rules.proofs.Proofs.Events.{head_unended, tail_unended, head_without,
 use Rattle.rules.proofs.Proofs.Requests.{end_is}
 use Rattle.rules.proofs.Proofs.View.{view, view_as}
 use Rattle.rules.proofs.Proofs.AfterEnd.{dropped_free}
-use Rattle.rules.specs.declared.PeripheralChange.{PeripheralChange}
 
 -- ---- a GET_PC is accepted while a completion is ready
 

@@ -12,7 +12,7 @@ pub mod Sound
 pub mod Rows
 pub mod Status
 pub mod Steps
-use Rattle.std.specs.Prelude.{ℕ, Bool, true, false, ◌&&◌, not, List, [], ◌∷◌, ◌≡◌, refl, eqb, length}
+use Rattle.std.specs.Prelude.{ℕ, Bool, true, false, ◌&&◌, not, List, [], ◌∷◌, ◌≡◌, refl, eqb, length, Option, Some, None}
 use Rattle.std.proofs.Common.{ap, ◌∙◌, eqb-true}
 use Rattle.std.proofs.lemmas.Bool.{not-false, not-true}
 use Rattle.base.specs.Pick.{pick_ind}
@@ -23,16 +23,15 @@ use Rattle.peripheral.specs.Status.{pc_free, np_free}
 use Rattle.peripheral.specs.declared.Request.{Request}
 use Rattle.peripheral.specs.declared.Np.{Np}
 use Rattle.peripheral.specs.declared.Np.TheVariants.{Free, Waiting, Ready, Failed}
-use Rattle.peripheral.specs.declared.Write.{Write}
-use Rattle.peripheral.specs.declared.Write.TheVariants.{Empty, Held}
 use Rattle.peripheral.specs.declared.Peripheral.{Peripheral}
 use Rattle.peripheral.specs.declared.Completion.{Completion}
+use Rattle.peripheral.specs.declared.Posted.{Posted}
 use Rattle.peripheral.specs.Sound.{within}
+use Rattle.rules.specs.Rules.Plan.{PeripheralChange}
 use Rattle.rules.specs.Rules.Out.{number}
 use Rattle.rules.specs.Rules.Peripheral as P
 use Rattle.rules.specs.Rules.Peripheral.{Act, posts, asks, gets, Board, look, answer, take_write, size_for, succeeded, bytes_for}
 use Rattle.rules.specs.Statements.Peripheral.{Did, write_held, write_large, posted, request_held, request_large, asked, none_ready, handed_over, unanswered, Settled, look_done, no_look, no_such, miscounted, succeeds, fails, no_take, took}
-use Rattle.rules.specs.declared.PeripheralChange.{PeripheralChange}
 
 post_did : (c : Config) (p : Peripheral) (A L from : ℕ) → Did c p (posts A L from) (P.post c p A L from)
 unfolding P.post
@@ -92,9 +91,9 @@ module _ (p : Peripheral) (serial success : ℕ) (d : List ℕ) where
   answer-settled (Ready q sent) h = none (Ready q sent) h refl
   answer-settled (Failed q) h = none (Failed q) h refl
 
-take-settled : (p : Peripheral) (report : List ℕ) (x : Write) → p.write ≡ x → Settled p (take_write report) (P.taking p x)
-take-settled p report Empty e = no_take e
-take-settled p report (Held x) e = took e
+take-settled : (p : Peripheral) (report : List ℕ) (x : Option Posted) → p.write ≡ x → Settled p (take_write report) (P.taking p x)
+take-settled p report None e = no_take e
+take-settled p report (Some x) e = took e
 
 pub settles : (c : Config) (p : Peripheral) (o : Board) → Settled p o (P.settle c p o)
 unfolding P.settle P.answer_to P.taken

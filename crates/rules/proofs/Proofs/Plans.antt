@@ -9,8 +9,6 @@ use Rattle.command.specs.Decode.{admit}
 use Rattle.command.proofs.Facts.{refused_number}
 use Rattle.command.specs.declared.Command as C₀
 use Rattle.command.specs.declared.Command.TheVariants as C
-use Rattle.command.specs.declared.Decoded.{Decoded}
-use Rattle.command.specs.declared.Decoded.TheVariants.{Known, Refused}
 use Rattle.state.specs.State.{State}
 use Rattle.rules.specs.Rules.Channel as N
 use Rattle.rules.specs.Rules.Channel.{Channel, peripheral, wires, Part, Command, Act, Board, act_of, acting}
@@ -26,6 +24,9 @@ use Rattle.rules.specs.Rules.Plan.{Plan}
 use Rattle.rules.specs.Statements.Both as T
 use Rattle.rules.specs.Statements.Both.{Both, SameHindrance}
 use Rattle.rules.specs.Statements.Plans.{Did, Settled, command_of, Admits, Planned, turned, shows, acts, lowers, forbids, hinders, configures, clears, status, register, Plans}
+use Rattle.std.specs.Prelude.{Result, Ok, Err}
+use Rattle.command.specs.declared.Refusal.{Refusal}
+use Rattle.command.specs.Numbers.{number_of}
 
 pub did : (k : Channel) (c : Config) (p : Part k) (a : Act k) → Did k c p a (acting k c p a)
 did peripheral = P.did
@@ -56,9 +57,9 @@ module _ (s : State) (b : List ℕ) where
   known-planned C.GetStatus e = shows (status e)
   known-planned C.Reset e = clears e
 
-  decoded_planned : (d : Decoded) → admit (channels_of s.config) (crc_checked s.config.r008) b ≡ d → Planned s b (by_decoded s b d)
-  decoded_planned (Refused n) e = let t = refused_number _ _ b n e in turned n (record { given = e; least = t.0; most = t.1 })
-  decoded_planned (Known o) e = known-planned o e
+  decoded_planned : (d : Result C₀.Command Refusal) → admit (channels_of s.config) (crc_checked s.config.r008) b ≡ d → Planned s b (by_decoded s b d)
+  decoded_planned (Err z) e = let t = refused_number z in turned _ (record { refusal = z; given = e; number = refl; least = t.0; most = t.1 })
+  decoded_planned (Ok o) e = known-planned o e
 
 pub plans : Plans
 unfolding E.exchange
@@ -116,13 +117,13 @@ module _ (w v : World) (b r : List ℕ) (room : short_stores r w ≡ false) (sam
   known_both C.GetStatus e = T.status e
   known_both C.Reset e = T.cleared e
 
-  abbrev admitted : Config → Decoded
+  abbrev admitted : Config → Result C₀.Command Refusal
   admitted c = admit (channels_of c) (crc_checked c.r008) b
 
-  decoded_both : (d : Decoded) → admitted w.state.config ≡ d → Twice (by_decoded w.state b d) (by_decoded v.state b d)
+  decoded_both : (d : Result C₀.Command Refusal) → admitted w.state.config ≡ d → Twice (by_decoded w.state b d) (by_decoded v.state b d)
   unfolding performed reply_bytes over
-  decoded_both (Refused n) e = T.idle n (omega (arith, (refused_number _ _ b n e).0))
-  decoded_both (Known o) e = known_both o e
+  decoded_both (Err z) e = T.idle (number_of z) (omega (arith, (refused_number z).0))
+  decoded_both (Ok o) e = known_both o e
 
   pub exchange-both : w.state.config ≡ v.state.config → Twice (E.exchange w.state b) (E.exchange v.state b)
   unfolding E.exchange

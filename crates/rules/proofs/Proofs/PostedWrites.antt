@@ -1,5 +1,5 @@
 -- Proof of P13: one sweep over the case law for the held write and the write store, then by induction over the run.
-use Rattle.std.specs.Prelude.{ℕ, ◌≤◌, Bool, ◌&&◌, List, [], ◌∷◌, ◌≡◌, take, drop}
+use Rattle.std.specs.Prelude.{ℕ, ◌≤◌, Bool, ◌&&◌, List, [], ◌∷◌, ◌≡◌, take, drop, Option, Some, None}
 use Rattle.std.proofs.Math.Bool.{true, false, not}
 use Rattle.std.proofs.Common.{true≢false, sym, ◌∙◌, arith, take_at, le-ltb}
 use Rattle.std.proofs.Math.Path.{refl, ap}
@@ -9,10 +9,9 @@ use Rattle.base.specs.Bytes.{over, over_none}
 use Rattle.registers.specs.Registers.{write_at}
 use Rattle.peripheral.specs.Status.{pc_free}
 use Rattle.peripheral.specs.declared.Posted.{Posted}
-use Rattle.peripheral.specs.declared.Write.{Write}
-use Rattle.peripheral.specs.declared.Write.TheVariants.{Empty, Held}
 use Rattle.peripheral.specs.declared.Peripheral.{Peripheral}
 use Rattle.peripheral.specs.Queues as F
+use Rattle.rules.specs.Rules.Plan.{PeripheralChange}
 use Rattle.rules.specs.Rules.Reset.{Reset, start, espi_reset, platform_reset}
 use Rattle.rules.specs.Rules.Peripheral as P₀
 use Rattle.rules.specs.Rules.Channel.{Channel, peripheral, Command, Act, Board, Change, next_of, part, put, on, act_of, same}
@@ -45,20 +44,19 @@ use Rattle.rules.proofs.Proofs.Events.{write-ending, lowering-ends, head_unended
 use Rattle.rules.proofs.Proofs.Lift.{own_or_other, same_turned, part_stays}
 use Rattle.rules.proofs.Proofs.Others.{acts_other}
 use Rattle.rules.specs.declared.Kept.{Kept}
-use Rattle.rules.specs.declared.PeripheralChange.{PeripheralChange}
 
 -- ---- what a call does to the held write and the write store
 
 data WriteMove (w : World) (c : Call) (o : Outcome) : Type 0 where
   stays : held_write o.next ≡ held_write w → o.next.write ≡ w.write → WriteMove w c o
   lent : (write read : List ℕ) → c ≡ lend write read → held_write o.next ≡ held_write w → o.next.write ≡ write → WriteMove w c o
-  posted : held_write w ≡ Empty → accepted o && is_post c ≡ true → WriteMove w c o
-  taken : held_write o.next ≡ Empty → o.next.write ≡ w.write → accepted o && is_take c ≡ true → WriteMove w c o
-  ended : held_write o.next ≡ Empty → o.next.write ≡ w.write → ends_with peripheral w.state c o ≡ true → WriteMove w c o
+  posted : held_write w ≡ None → accepted o && is_post c ≡ true → WriteMove w c o
+  taken : held_write o.next ≡ None → o.next.write ≡ w.write → accepted o && is_take c ≡ true → WriteMove w c o
+  ended : held_write o.next ≡ None → o.next.write ≡ w.write → ends_with peripheral w.state c o ≡ true → WriteMove w c o
 
-no_write : (x : Write) → pc_free x ≡ true → x ≡ Empty
-no_write Empty e = refl
-no_write (Held p) e = absurd (true≢false (sym e))
+no_write : (x : Option Posted) → pc_free x ≡ true → x ≡ None
+no_write None e = refl
+no_write (Some p) e = absurd (true≢false (sym e))
 
 module _ (w : World) where
   -- channel 0's commands and calls
@@ -94,7 +92,7 @@ module _ (w : World) where
     acted-beside : (b r : List ℕ) (a : Act k) (x : Change k) → Acts k (part k w.state) a x → WriteMove w (exchange b r) (performed w b (lift k w.state x))
     unfolding performed lift
     acted-beside b r a x d =
-        stays (kept-write x) (ap (λ (kept : Kept). over (kept_bytes kept b) w.write) (acts_other k other (part k w.state) a x d) ∙ over_none w.write)
+        stays (kept-write x) (ap (λ (kept : Option Kept). over (kept_bytes kept b) w.write) (acts_other k other (part k w.state) a x d) ∙ over_none w.write)
 
     settled-beside : (o : Board k) (x : Change k) → WriteMove w (board k o) (served k w o (lift k w.state x))
     unfolding served lift
@@ -147,15 +145,15 @@ write_view w c = case_write w (cases w c)
 
 -- ---- one call
 
-held_by : (p : Posted) (w : World) (c : Call) → held_write w ≡ Held p → E.ends peripheral w c ≡ false → takes w c ≡ false → WriteMove w c (step w c)
-    → held_write (step w c).next ≡ Held p
+held_by : (p : Posted) (w : World) (c : Call) → held_write w ≡ Some p → E.ends peripheral w c ≡ false → takes w c ≡ false → WriteMove w c (step w c)
+    → held_write (step w c).next ≡ Some p
 held_by p w c h e f (stays a b) = a ∙ h
 held_by p w c h e f (lent write read g a b) = a ∙ h
 held_by p w c h e f (posted a b) = absurd (true≢false (cc))
 held_by p w c h e f (taken a b g) = absurd (true≢false (sym g ∙ f))
 held_by p w c h e f (ended a b g) = absurd (true≢false (sym g ∙ e))
 
-empty_by : (w : World) (c : Call) → held_write w ≡ Empty → posts w c ≡ false → WriteMove w c (step w c) → held_write (step w c).next ≡ Empty
+empty_by : (w : World) (c : Call) → held_write w ≡ None → posts w c ≡ false → WriteMove w c (step w c) → held_write (step w c).next ≡ None
 empty_by w c h e (stays a b) = a ∙ h
 empty_by w c h e (lent write read g a b) = a ∙ h
 empty_by w c h e (posted a b) = absurd (true≢false (sym b ∙ e))
@@ -171,15 +169,15 @@ store_by w c e s (ended a b g) = b
 
 -- ---- a run
 
-held-run : (p : Posted) (w : World) (xs : List Call) → held_write w ≡ Held p → unended peripheral w xs ≡ true → without takes w xs ≡ true
-    → held_write (run w xs) ≡ Held p
+held-run : (p : Posted) (w : World) (xs : List Call) → held_write w ≡ Some p → unended peripheral w xs ≡ true → without takes w xs ≡ true
+    → held_write (run w xs) ≡ Some p
 unfolding run
 held-run p w [] h e f = h
 held-run p w (c ∷ cs) h e f =
     held-run p (step w c).next cs (held_by p w c h (head_unended peripheral w c cs e) (head_without takes w c cs f) (write_view w c))
     (tail_unended peripheral w c cs e) (tail_without takes w c cs f)
 
-empty_run : (w : World) (xs : List Call) → held_write w ≡ Empty → without posts w xs ≡ true → held_write (run w xs) ≡ Empty
+empty_run : (w : World) (xs : List Call) → held_write w ≡ None → without posts w xs ≡ true → held_write (run w xs) ≡ None
 unfolding run
 empty_run w [] h e = h
 empty_run w (c ∷ cs) h e = empty_run (step w c).next cs (empty_by w c h (head_without posts w c cs e) (write_view w c)) (tail_without posts w c cs e)
@@ -200,7 +198,7 @@ module _ (w : World) (report : List ℕ) (long : 256 ≤ length w.write) (room :
   settled-take : P.Settled w.state.peripheral (P₀.take_write report) (P₀.settle w.state.config w.state.peripheral (P₀.take_write report))
   settled-take = L.settles w.state.config w.state.peripheral (P₀.take_write report)
 
-  take_none : held_write w ≡ Empty → (step w (takes_with report)).number ≡ 23
+  take_none : held_write w ≡ None → (step w (takes_with report)).number ≡ 23
   unfolding served lift
   take_none h = ap (λ (o : Outcome). o.number) take-is ∙ by settled-take
     where
@@ -211,9 +209,9 @@ module _ (w : World) (report : List ℕ) (long : 256 ≤ length w.write) (room :
   record Takes (p : Posted) : Type 0 where
     number : (step w (takes_with report)).number ≡ 0
     yields : (step w (takes_with report)).report ≡ P₀.posted_report p
-    frees : held_write (step w (takes_with report)).next ≡ Empty
+    frees : held_write (step w (takes_with report)).next ≡ None
 
-  take-held : (p : Posted) → held_write w ≡ Held p → Takes p
+  take-held : (p : Posted) → held_write w ≡ Some p → Takes p
   unfolding served lift
   take-held p h =
       record {
@@ -222,7 +220,7 @@ module _ (w : World) (report : List ℕ) (long : 256 ≤ length w.write) (room :
         frees = ap (λ (o : Outcome). held_write o.next) take-is ∙ (by settled-take).1;
       }
     where
-      by : {x : PeripheralChange} → P.Settled w.state.peripheral (P₀.take_write report) x → (x.out.number ≡ 0) × (x.next.write ≡ Empty)
+      by : {x : PeripheralChange} → P.Settled w.state.peripheral (P₀.take_write report) x → (x.out.number ≡ 0) × (x.next.write ≡ None)
       by (P.no_take e) = absurd (true≢false (cc))
       by (P.took e) = (refl, refl)
 
@@ -264,7 +262,7 @@ module _ (w : World) (b r : List ℕ) (h : AcceptedPost w b r) where
   whole : length (written_data b) ≡ access_length b
   whole = data_whole w b r (cases w (exchange b r)) h.posted h.number
 
-  first_held : held_write w' ≡ Held (posting w b)
+  first_held : held_write w' ≡ Some (posting w b)
   first_held = ap held_write row ∙ rw h.posted
 
   first_bytes : take (access_length b) w'.write ≡ written_data b

@@ -17,8 +17,6 @@ use Rattle.command.specs.Facts.{CommandLength}
 use Rattle.command.proofs.Facts.{Decodes, admit_decodes, admit-length}
 use Rattle.command.specs.declared.Row.{Row}
 use Rattle.command.specs.declared.Command.{Command}
-use Rattle.command.specs.declared.Listed.{Listed}
-use Rattle.command.specs.declared.Listed.TheVariants.{As, Unlisted}
 use Rattle.peripheral.specs.declared.Kind.{Kind}
 use Rattle.peripheral.specs.declared.Kind.TheVariants as R
 use Rattle.rules.specs.Rules.Peripheral as P
@@ -30,12 +28,13 @@ use Rattle.rules.specs.Statements.Fields.{byte, is_posted, is_non_posted, high_f
 use Rattle.rules.specs.Statements.Reads.{OpcodesListed, Peripheral, posts, asks, Wires, puts, ReadAs, Reads}
 use Rattle.rules.specs.Statements.Reads as S
 use Rattle.rules.proofs.Proofs.Fields.{by_opcode, one}
+use Rattle.std.specs.Prelude.{Option, Some, None}
 
 -- ---- opcodes
 
-abbrev is_row : Listed → Bool
-is_row Unlisted = false
-is_row (As q) = true
+abbrev is_row : Option Row → Bool
+is_row None = false
+is_row (Some q) = true
 
 listed-row : (op : ℕ) → is_listed op ≡ is_row (row_of op)
 listed-row =
@@ -44,9 +43,9 @@ listed-row =
     refl refl refl refl refl refl refl refl refl refl refl refl
     (λ op l u. l ∙ sym (ap is_row u))
 
-row_there : (t : Bool) (l : Listed) → t ≡ is_row l → (t ≡ true) ↔ ((q : Row) × (l ≡ As q))
-row_there t Unlisted e = (λ h. absurd (true≢false (sym h ∙ e)), λ p. absurd (true≢false (sym (ap is_row p.1))))
-row_there t (As q) e = (λ h. (q, refl), λ p. e)
+row_there : (t : Bool) (l : Option Row) → t ≡ is_row l → (t ≡ true) ↔ ((q : Row) × (l ≡ Some q))
+row_there t None e = (λ h. absurd (true≢false (sym h ∙ e)), λ p. absurd (true≢false (sym (ap is_row p.1))))
+row_there t (Some q) e = (λ h. (q, refl), λ p. e)
 
 pub opcodes_listed : OpcodesListed
 opcodes_listed op = row_there (is_listed op) (row_of op) (listed-row op)
@@ -113,10 +112,10 @@ module _ (c : Config) (b : List ℕ) where
   asks_as k A L tag v ek e f g i h = rw (ek, e, f, g, i) (asks h)
 
 module _ (c : Config) (r : List ℕ) where
-  abbrev OnRow : ℕ → Listed → Type 0
-  OnRow op (As q) =
+  abbrev OnRow : ℕ → Option Row → Type 0
+  OnRow op (Some q) =
       cycle_listed q.cycle (get_or r 0 0) ≡ true → CommandLength (command_of q (op ∷ r)) (length (op ∷ r)) → ReadAs c (op ∷ r) (command_of q (op ∷ r))
-  OnRow op Unlisted = Unit {0}
+  OnRow op None = Unit {0}
 
   abbrev At : ℕ → Type 0
   At op = OnRow op (row_of op)

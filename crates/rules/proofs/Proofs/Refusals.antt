@@ -1,6 +1,6 @@
 -- P5 proved of `step`: a refused plan is one of three, whatever the channel; and a plan keeps no more than its data.
 use Prim.Native.Nat.{ℕ, zero, suc, ◌+◌, ◌-◌, ◌≤◌, ◌<◌, zero-le}
-use Rattle.std.specs.Prelude.{true, false, List, ◌++◌, ◌≡◌, ltb, length, drop}
+use Rattle.std.specs.Prelude.{true, false, List, ◌++◌, ◌≡◌, ltb, length, drop, Option, Some, None}
 use Rattle.std.proofs.Common.{true≢false, sym, ap, ◌∙◌, le_trans, arith, length-take, drop-drop, lt-ltb}
 use Rattle.std.proofs.Math.Path.{refl, subst}
 use Rattle.std.proofs.Math.Seq.{drop-append-add}
@@ -28,7 +28,6 @@ use Rattle.rules.proofs.Proofs.Wires.Lawful as W
 use Rattle.rules.proofs.Proofs.Cases.{cases}
 use Rattle.rules.proofs.Proofs.Reads.{reads}
 use Rattle.rules.specs.declared.Kept.{Kept}
-use Rattle.rules.specs.declared.Kept.TheVariants as K
 use Rattle.rules.specs.Rules.Plan.{Plan}
 
 -- ---- a plan by its number
@@ -159,7 +158,7 @@ lift_keeps k s x = refl
 planned_keeps : {s : State} {b : List ℕ} {p : Plan} → Planned s b p → Keeps (posted_length b) p
 planned_keeps {s} {b} (N.turned n h) = zero-le
 planned_keeps {s} {b} (N.shows h) = zero-le
-planned_keeps {s} {b} (N.acts k o x e d f) = subst (λ (z : Kept). kept_count z ≤ posted_length b) (sym (lift_keeps k s x)) (acts_keep k s b o x e d)
+planned_keeps {s} {b} (N.acts k o x e d f) = subst (λ (z : Option Kept). kept_count z ≤ posted_length b) (sym (lift_keeps k s x)) (acts_keep k s b o x e d)
 planned_keeps {s} {b} (N.forbids a v e f) = zero-le
 planned_keeps {s} {b} (N.hinders a v e f g) = zero-le
 planned_keeps {s} {b} (N.configures a v e f g) = zero-le
@@ -177,9 +176,9 @@ settled_keeps wires s o x d = W.settled-keep d
 pub board_keeps : (k : Channel) (s : State) (o : Board k) → Keeps (board_reads k o) (M.settled k s o)
 board_keeps k s o = settled_keeps k s o _ (Q.settled k s.config (part k s) o)
 
-kept-length : (k : Kept) (b : List ℕ) → length (kept_bytes k b) ≤ kept_count k
-kept-length K.Nothing b = zero-le
-kept-length (K.Data at n) b = simp length-take (omega arith)
+kept-length : (k : Option Kept) (b : List ℕ) → length (kept_bytes k b) ≤ kept_count k
+kept-length None b = zero-le
+kept-length (Some d) b = simp length-take (omega arith)
 
 pub past_over : (p l : List ℕ) (n : ℕ) → length p ≤ n → drop n (over p l) ≡ drop n l
 unfolding over

@@ -1,5 +1,5 @@
 -- Proof of P9: the bits from the rows of P6, the status shown from the plan's law.
-use Rattle.std.specs.Prelude.{ℕ, ◌+◌, ◌*◌, Bool, true, false, List, [], ◌≢◌, ◌≡◌, refl, eqb, length}
+use Rattle.std.specs.Prelude.{ℕ, ◌+◌, ◌*◌, Bool, true, false, List, [], ◌≢◌, ◌≡◌, refl, eqb, length, Option, Some, None}
 use Rattle.std.proofs.Common.{true≢false, sym, ◌∙◌, subst, arith, le-ltb}
 use Rattle.std.proofs.Math.Path.{ap}
 use Rattle.base.specs.Pick.{pick, pick_ind}
@@ -36,7 +36,6 @@ use Rattle.rules.proofs.Proofs.StatusShown.{shown_same, shows_after, written_sho
 use Rattle.rules.proofs.Proofs.Wires.Lowering.{lowered_bytes}
 use Rattle.rules.specs.declared.Out.{Out}
 use Rattle.rules.specs.declared.Say.{Say}
-use Rattle.rules.specs.declared.Say.TheVariants as Y
 use Rattle.rules.specs.Rules.Plan.{Plan}
 
 -- ---- the bits
@@ -83,11 +82,11 @@ module _ (s : State) (b store : List ℕ) where
   abbrev Shown : Plan → Type 0
   Shown p = reply_bytes p.reply s.wires store ≢ [] → status_in (reply_bytes p.reply s.wires store) ≡ status (state_shown b s p.next)
 
-  said : (say : Say) (t : State) → reply_bytes (with_status say (status t)) s.wires store ≢ []
+  said : (say : Option Say) (t : State) → reply_bytes (with_status say (status t)) s.wires store ≢ []
       → status_in (reply_bytes (with_status say (status t)) s.wires store) ≡ status t
   unfolding reply_bytes
-  said Y.Silent t some = absurd (some refl)
-  said (Y.Said response body) t some = status_in_lem _ t
+  said None t some = absurd (some refl)
+  said (Some y) t some = status_in_lem _ t
 
   -- a refused one changes no state, so it shows either
   acted_shows : (k : Channel) (o : Command k) (x : Change k) → Admits s b (command_of k o) → Did k s.config (part k s) (act_of k s.config o b) x

@@ -1,5 +1,5 @@
 -- What no channel telling on another asks of a channel and its stores; and that a channel without stores has it.
-use Rattle.std.specs.Prelude.{ℕ, Bool, true, false, ◌||◌, List, [], ◌≡◌, refl, ltb, length}
+use Rattle.std.specs.Prelude.{ℕ, Bool, true, false, ◌||◌, List, [], ◌≡◌, refl, ltb, length, Option, None}
 use Rattle.std.proofs.Common.{sym, subst, ◌∙◌}
 use Rattle.base.specs.Bytes.{over}
 use Rattle.registers.specs.declared.Config.{Config}
@@ -12,7 +12,6 @@ use Rattle.rules.proofs.Proofs.Channels as L
 use Rattle.rules.proofs.Proofs.Others.{own_other, settles_other}
 use Rattle.rules.specs.declared.Body.{Body}
 use Rattle.rules.specs.declared.Kept.{Kept}
-use Rattle.rules.specs.declared.Kept.TheVariants as K
 
 -- number 10 of an exchange, by the stores
 abbrev pub lacks : (reply write read : List ℕ) → Bool
@@ -31,16 +30,16 @@ body_in w body = body_bytes body w.state.wires w.read
 
 -- a body of a channel's own reads none but its part and its stores, data of its own goes to none but these, and its calls ask for none but these
 pub record Owns (k : Channel) : Type 0 where
-  pub nothing : own_kept k K.Nothing ≡ true
+  pub nothing : own_kept k None ≡ true
   pub bytes : (body : Body) (w v : World) → own_body k body ≡ true → part k w.state ≡ part k v.state
       → SameStores k w.write w.read v.write v.read → body_in w body ≡ body_in v body
   -- the same data laid over a store of two worlds
   pub written : (d write read write' read' : List ℕ) → SameStores k write read write' read' → SameStores k (over d write) read (over d write') read'
   pub answered : (d write read write' read' : List ℕ) → SameStores k write read write' read' → SameStores k write (over d read) write' (over d read')
-  pub lack_written : (kept : Kept) (b write read write' read' : List ℕ) → own_kept k kept ≡ true → SameStores k write read write' read'
+  pub lack_written : (kept : Option Kept) (b write read write' read' : List ℕ) → own_kept k kept ≡ true → SameStores k write read write' read'
       → SameLack write read write' read'
       → SameLack (over (kept_bytes kept b) write) read (over (kept_bytes kept b) write') read'
-  pub lack_answered : (kept : Kept) (b write read write' read' : List ℕ) → own_kept k kept ≡ true → SameStores k write read write' read'
+  pub lack_answered : (kept : Option Kept) (b write read write' read' : List ℕ) → own_kept k kept ≡ true → SameStores k write read write' read'
       → SameLack write read write' read'
       → SameLack write (over (kept_bytes kept b) read) write' (over (kept_bytes kept b) read')
   pub short_alike_lem : (w v : World) (o : Board k) → SameStores k w.write w.read v.write v.read → short_for k o w ≡ short_for k o v
@@ -51,15 +50,16 @@ pub record Owns (k : Channel) : Type 0 where
 -- ---- a channel without stores: it keeps nothing, its bodies read none, and its calls are lent none
 
 -- what holds of stores as they are holds of them with its data laid over
-kept_none : (Q : (List ℕ → List ℕ) → Type 0) (kept : Kept) (b : List ℕ) → kept ≡ K.Nothing → Q (λ l. l) → Q (over (kept_bytes kept b))
+kept_none : (Q : (List ℕ → List ℕ) → Type 0) (kept : Option Kept) (b : List ℕ) → kept ≡ None → Q (λ l. l) → Q (over (kept_bytes kept b))
 unfolding over
-kept_none Q kept b e q = subst (λ (z : Kept). Q (over (kept_bytes z b))) (sym e) q
+kept_none Q kept b e q = subst (λ (z : Option Kept). Q (over (kept_bytes z b))) (sym e) q
 
-pub kept_other : (Q : (List ℕ → List ℕ) → Type 0) (k : Channel) → same peripheral k ≡ false → (kept : Kept) (b : List ℕ) → own_kept k kept ≡ true → Q (λ l. l)
+pub kept_other : (Q : (List ℕ → List ℕ) → Type 0) (k : Channel) → same peripheral k ≡ false → (kept : Option Kept) (b : List ℕ)
+    → own_kept k kept ≡ true → Q (λ l. l)
     → Q (over (kept_bytes kept b))
 kept_other Q k e kept b o = kept_none Q kept b (own_other k e kept o)
 
-module _ (k : Channel) (other : same peripheral k ≡ false) (none : (write read : List ℕ) → stores_of k write read ≡ []) (keeps : own_kept k K.Nothing ≡ true)
+module _ (k : Channel) (other : same peripheral k ≡ false) (none : (write read : List ℕ) → stores_of k write read ≡ []) (keeps : own_kept k None ≡ true)
     (bytes : (body : Body) (w v : World) → own_body k body ≡ true → part k w.state ≡ part k v.state → body_in w body ≡ body_in v body)
     (free : (o : Board k) (w : World) → short_for k o w ≡ false)
   where

@@ -1,5 +1,5 @@
 -- The view: one sweep over the case law, reading channel 0's law; whatever another channel does leaves channel 0's part.
-use Rattle.std.specs.Prelude.{ℕ, ◌/◌, ◌%◌, ◌^◌, ◌≤◌, Bool, ◌&&◌, not, ◌≡◌, eqb}
+use Rattle.std.specs.Prelude.{ℕ, ◌/◌, ◌%◌, ◌^◌, ◌≤◌, Bool, ◌&&◌, not, ◌≡◌, eqb, Option, Some, None}
 use Rattle.std.proofs.Math.Bool.{true, false}
 use mathlib.Core.List.{List, []}
 use Rattle.std.proofs.Math.Path.{refl, ap, ap₂}
@@ -18,7 +18,7 @@ use Rattle.peripheral.specs.Facts.{no_request}
 use Rattle.state.specs.Status.{status}
 use Rattle.state.specs.State.{State}
 use Rattle.rules.specs.Rules.Reset.{Reset, start, espi_reset, platform_reset}
-use Rattle.rules.specs.Rules.Out.{fatal, number}
+use Rattle.rules.specs.Rules.Out.{fatal, number, says}
 use Rattle.rules.specs.Rules.Peripheral as P₀
 use Rattle.rules.specs.Rules.Channel.{Channel, peripheral, wires, Part, Command, Board, Change, next_of, out_of, part, put, on, act_of, reset_follows, given, same}
 use Rattle.rules.specs.Rules.Lift.{lift, with_status, show, non_fatal, accept_then, quietly}
@@ -47,14 +47,12 @@ use Rattle.rules.proofs.Proofs.Lift.{own_or_other, same_turned, part_stays}
 use Rattle.rules.proofs.Proofs.Effects.{unlowered}
 use Rattle.rules.proofs.Proofs.Wires.Lowering.{lowered_bytes}
 use Rattle.rules.proofs.Proofs.Others.{settles_other, Plain, plain, command_other, board_other}
-use Rattle.rules.specs.declared.PeripheralChange.{PeripheralChange}
 use Rattle.rules.specs.declared.Say.{Say}
-use Rattle.rules.specs.declared.Say.TheVariants as S
 use Rattle.rules.specs.declared.Kept.{Kept}
 use Rattle.rules.specs.declared.Response.TheVariants.{Accept, NonFatal}
 use Rattle.rules.specs.declared.Body.{Body}
 use Rattle.rules.specs.declared.Body.TheVariants as B
-use Rattle.rules.specs.Rules.Plan.{Plan}
+use Rattle.rules.specs.Rules.Plan.{Plan, PeripheralChange}
 
 -- ---- the status that a reply shows
 
@@ -70,10 +68,10 @@ quiet : {n : Np} → Shown n []
 quiet = record { np = λ h. absurd (omega arith); pc = λ h. absurd (omega arith) }
 
 -- a reply, where there is one, that shows the status of a state
-shown : (s : State) (say : Say) (w : World) → Shown s.peripheral.request (reply_bytes (with_status say (status s)) w.state.wires w.read)
+shown : (s : State) (say : Option Say) (w : World) → Shown s.peripheral.request (reply_bytes (with_status say (status s)) w.state.wires w.read)
 unfolding reply_bytes
-shown s S.Silent w = quiet
-shown s (S.Said response body) w =
+shown s None w = quiet
+shown s (Some y) w =
     record { np = λ _. rw (status_in_lem _ s) (bits s).np; pc = λ _. rw (status_in_lem _ s) (bits s).pc }
 
 -- ---- commands that make no event of channel 0
@@ -173,7 +171,7 @@ module _ (w : World) where
     settled-beside o x d =
         seen idle (board_event_lem o _)
         (stays (ap (λ (q : Peripheral). q.request) (kept-part x)) (ap (λ (q : Peripheral). q.serial) (kept-part x))
-        (ap (λ (kept : Kept). over (kept_bytes kept (given k o)) w.read) (settles_other k other (part k w.state) o x d)) quiet)
+        (ap (λ (kept : Option Kept). over (kept_bytes kept (given k o)) w.read) (settles_other k other (part k w.state) o x d)) quiet)
 
   -- ---- above all channels
 
@@ -182,12 +180,12 @@ module _ (w : World) where
 
   shown_seen : (b r : List ℕ) (body : Body) → Plain w.state b → Plans b r (show body w.state)
   unfolding performed
-  shown_seen b r body p = seen idle (plain-event w.state b r _ (λ _. p)) (stays refl refl refl (shown w.state (S.Said Accept body) w))
+  shown_seen b r body p = seen idle (plain-event w.state b r _ (λ _. p)) (stays refl refl refl (shown w.state (says Accept body) w))
 
   forbidden_seen : (b r : List ℕ) → Plans b r (non_fatal w.state)
   unfolding performed
   forbidden_seen b r =
-      seen idle (refused_event w.state (exchange b r) _ refl) (stays refl refl refl (shown w.state (S.Said NonFatal B.Nothing) w))
+      seen idle (refused_event w.state (exchange b r) _ refl) (stays refl refl refl (shown w.state (says NonFatal B.Nothing) w))
 
   cleared-seen : (b r : List ℕ) → Plain w.state b → Plans b r (quietly (reset008h w.state))
   unfolding performed reply_bytes
@@ -199,11 +197,11 @@ module _ (w : World) where
   unfolding performed
   written-seen b r c true e =
       dropped (ap (λ (t : Bool). pick t (F.dropped w.state.peripheral) w.state.peripheral) e) refl
-      (shown w.state (S.Said Accept B.Nothing) w)
+      (shown w.state (says Accept B.Nothing) w)
   written-seen b r c false e =
       let kept : (reconfigured w.state c).peripheral ≡ w.state.peripheral = ap
       (λ (t : Bool). pick t (F.dropped w.state.peripheral) w.state.peripheral) e in
-      stays (ap (λ (q : Peripheral). q.request) kept) (ap (λ (q : Peripheral). q.serial) kept) refl (shown w.state (S.Said Accept B.Nothing) w)
+      stays (ap (λ (q : Peripheral). q.request) kept) (ap (λ (q : Peripheral). q.serial) kept) refl (shown w.state (says Accept B.Nothing) w)
 
   set-seen : (b r : List ℕ) (a v : ℕ) → Writes b a v → Plans b r (accept_then w.state (reconfigured w.state (write_at w.state.config a v)))
   unfolding performed
@@ -219,7 +217,7 @@ module _ (w : World) where
   lowered_seen b r v l =
       seen ends
       (accepted-event w.state (exchange b r) _ refl ∙ ap (λ (t : Bool). pick t ends (command_event b)) (lowering-ends peripheral w.state b l))
-      (dropped refl refl (shown (put wires v w.state) (S.Said Accept B.Nothing) w))
+      (dropped refl refl (shown (put wires v w.state) (says Accept B.Nothing) w))
 
   reset-seen : (r : Reset) → Seen (reset r) (only 0 (with_state w (was_reset r w.state)))
   unfolding event_of

@@ -1,5 +1,5 @@
 -- All that a channel is beyond its part of the state (state/specs/Channel), as families over the channels. A further channel is one clause in each.
-use Rattle.std.specs.Prelude.{ℕ, Bool, true, false, List, [], eqb}
+use Rattle.std.specs.Prelude.{ℕ, Bool, true, false, List, [], eqb, Option, Some, None}
 use Rattle.registers.specs.declared.Config.{Config}
 use Rattle.command.specs.declared.PeripheralCommand.{PeripheralCommand}
 use Rattle.command.specs.declared.WiresCommand.{WiresCommand}
@@ -10,10 +10,8 @@ use Rattle.rules.specs.Rules.Wires as W
 use Rattle.rules.specs.declared.Body.{Body}
 use Rattle.rules.specs.declared.Body.TheVariants as B
 use Rattle.rules.specs.declared.Kept.{Kept}
-use Rattle.rules.specs.declared.Kept.TheVariants as K
 use Rattle.rules.specs.declared.Out.{Out}
-use Rattle.rules.specs.declared.PeripheralChange.{PeripheralChange}
-use Rattle.rules.specs.Rules.Plan.{WiresChange}
+use Rattle.rules.specs.Rules.Plan.{WiresChange, PeripheralChange}
 
 -- ---- what a channel has
 
@@ -111,10 +109,10 @@ own_body wires (B.Piece c) = false
 own_body wires (B.Groups p) = true
 
 -- its own data: that which writes no other channel's stores; channel 1 has none (01, What the engine covers: "Stores lent to a call")
-abbrev pub own_kept : Channel → Kept → Bool
+abbrev pub own_kept : Channel → Option Kept → Bool
 own_kept peripheral k = true
-own_kept wires K.Nothing = true
-own_kept wires (K.Data from n) = false
+own_kept wires None = true
+own_kept wires (Some d) = false
 
 -- ---- which channel
 

@@ -7,8 +7,6 @@ use Rattle.command.specs.Decode.{admit}
 use Rattle.command.specs.declared.Channels.{Channels}
 use Rattle.command.specs.declared.Command.{Command}
 use Rattle.command.specs.declared.Command.TheVariants as C
-use Rattle.command.specs.declared.Decoded.{Decoded}
-use Rattle.command.specs.declared.Decoded.TheVariants.{Known, Refused}
 use Rattle.state.specs.State.{State}
 use Rattle.rules.specs.Rules.Reset.{Reset, start, espi_reset, platform_reset}
 use Rattle.rules.specs.Rules.Channel.{Channel, peripheral, wires, Act, Change, next_of, part, put, each, on, act_of, acting, reset_follows, enable_edge, reset}
@@ -16,6 +14,9 @@ use Rattle.rules.specs.Rules.Wires.{edge_hinders}
 use Rattle.rules.specs.Rules.Lift.{lift, silent, show, non_fatal, accept_then, quietly}
 use Rattle.rules.specs.declared.Body.TheVariants as B
 use Rattle.rules.specs.Rules.Plan.{Plan}
+use Rattle.std.specs.Prelude.{Result, Ok, Err}
+use Rattle.command.specs.declared.Refusal.{Refusal}
+use Rattle.command.specs.Numbers.{number_of}
 
 -- ---- configuration: each channel gets the enable_edge of its enable bit
 
@@ -83,9 +84,9 @@ abbrev pub channels_of : Config → Channels
 channels_of c = record { peripheral = on peripheral c; wires = on wires c }
 
 -- "A decode that gives no command ends the exchange at once" (01, Replies and refusals)
-abbrev pub by_decoded : State → List ℕ → Decoded → Plan
-by_decoded s b (Refused n) = silent n s
-by_decoded s b (Known o) = decide s o b
+abbrev pub by_decoded : State → List ℕ → Result Command Refusal → Plan
+by_decoded s b (Err z) = silent (number_of z) s
+by_decoded s b (Ok o) = decide s o b
 
 -- "One exchange is the whole command phase of one Chip Select# assertion" (01, What the engine covers), of a sound state: the order of refusals from
 -- "empty (12)" on (01, Replies and refusals), the CRC "checked only while register 008h bit 31 is 1" (01, Commands)

@@ -1,6 +1,6 @@
 -- What the lent slices must hold for a plan to be carried out: a piece's data in the read store and the reply, a packet over sound wires, the kept
 -- data in its source and its store.
-use Rattle.std.specs.Prelude.{ℕ, ◌+◌, ◌<◌, ◌≤◌, Bool, true, false}
+use Rattle.std.specs.Prelude.{ℕ, ◌+◌, ◌<◌, ◌≤◌, Bool, true, false, Option, Some, None}
 use Rattle.wires.specs.Table.{senders}
 use Rattle.wires.specs.Senders.{AllWires, sent_from, entries}
 use Rattle.wires.specs.declared.Packet.{Packet}
@@ -8,11 +8,8 @@ use Rattle.peripheral.specs.declared.Completion.{Completion}
 use Rattle.rules.specs.declared.Body.{Body}
 use Rattle.rules.specs.declared.Body.TheVariants as B
 use Rattle.rules.specs.declared.Reply.{Reply}
-use Rattle.rules.specs.declared.Reply.TheVariants.{Silent, Said}
 use Rattle.rules.specs.declared.Kept.{Kept}
-use Rattle.rules.specs.declared.Kept.TheVariants as K
 use Rattle.rules.specs.declared.Say.{Say}
-use Rattle.rules.specs.declared.Say.TheVariants as Y
 use Rattle.rules.specs.declared.Out.{Out}
 use Rattle.rules.specs.Rules.Plan.{Plan}
 use Rattle.rules.specs.Rules.Step.{write_length, read_length}
@@ -36,9 +33,9 @@ BodyFits (B.Piece c) w = PieceFits c
 BodyFits (B.Groups p) w = PacketFits w p
 
 -- .. of a reply, or none (01, Replies and refusals)
-abbrev pub ReplyFits : Reply → AllWires → Type 0
-ReplyFits Silent w = Unit {0}
-ReplyFits (Said response body status) w = BodyFits body w
+abbrev pub ReplyFits : Option Reply → AllWires → Type 0
+ReplyFits None w = Unit {0}
+ReplyFits (Some r) w = BodyFits r.body w
 
 -- n bytes from a place on, out of m bytes, into a store of at least `room` ("a lent store too short" is 10; 01, Replies and refusals)
 pub record DataFits (at n m room : ℕ) : Type 0 where
@@ -46,14 +43,14 @@ pub record DataFits (at n m room : ℕ) : Type 0 where
   pub most : n ≤ room
 
 -- .. of the kept data, or none (01, Requests, answers, pieces)
-abbrev pub KeptFits : Kept → ℕ → ℕ → Type 0
-KeptFits K.Nothing m room = Unit {0}
-KeptFits (K.Data at n) m room = DataFits at n m room
+abbrev pub KeptFits : Option Kept → ℕ → ℕ → Type 0
+KeptFits None m room = Unit {0}
+KeptFits (Some d) m room = DataFits d.from d.count m room
 
 -- what goes out of a channel's change: response and body (01, Replies and refusals)
-abbrev pub SayFits : Say → AllWires → Type 0
-SayFits Y.Silent w = Unit {0}
-SayFits (Y.Said response body) w = BodyFits body w
+abbrev pub SayFits : Option Say → AllWires → Type 0
+SayFits None w = Unit {0}
+SayFits (Some y) w = BodyFits y.body w
 
 -- .. and its data; that of an exchange goes to the write store: "write store at least 256" (01, What the engine covers)
 abbrev pub OutFits : ℕ → AllWires → Out → Type 0
@@ -72,11 +69,11 @@ plain_body (B.Piece c) = true
 plain_body (B.Groups p) = false
 
 -- .. of what a channel says (01, Replies and refusals)
-abbrev pub plain_say : Say → Bool
-plain_say Y.Silent = true
-plain_say (Y.Said response body) = plain_body body
+abbrev pub plain_say : Option Say → Bool
+plain_say None = true
+plain_say (Some y) = plain_body y.body
 
 -- .. of a reply, or none (01, Replies and refusals)
-abbrev pub plain : Reply → Bool
-plain Silent = true
-plain (Said response body status) = plain_body body
+abbrev pub plain : Option Reply → Bool
+plain None = true
+plain (Some r) = plain_body r.body

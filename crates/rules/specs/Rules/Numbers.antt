@@ -1,5 +1,7 @@
 -- The numbers of refusals that stand above the decoder (01, Replies and refusals); the decoder's own, 12 to 16, are in the crate command.
-use Rattle.std.specs.Prelude.{ℕ}
+use Rattle.std.specs.Prelude.{ℕ, ⊤, Result, Ok, Err}
+use Rattle.rules.specs.declared.Refusal.{Refusal}
+use Rattle.rules.specs.declared.Refusal.TheVariants.{Fatal, NonFatal, StoreTooShort, StateNotSound, NoSuchRequest, CountWrong, NoSuchWire, NothingThere, LineBusy}
 
 -- "no credit ..; too large; boundary crossed": FATAL
 abbrev pub fatal_error : ℕ
@@ -37,3 +39,20 @@ nothing_there = 23
 -- lower while its edge waits" (02, Q-4)
 abbrev pub line_busy : ℕ
 line_busy = 24
+
+-- each refusal has its number (01, Replies and refusals)
+abbrev pub number_of : Refusal → ℕ
+number_of Fatal = fatal_error
+number_of NonFatal = non_fatal_error
+number_of StoreTooShort = store_too_short
+number_of StateNotSound = state_not_sound
+number_of NoSuchRequest = no_such_request
+number_of CountWrong = count_wrong
+number_of NoSuchWire = no_such_wire
+number_of NothingThere = nothing_there
+number_of LineBusy = line_busy
+
+-- a call's: "0: accepted or deferred" (01, Replies and refusals), else its refusal's
+abbrev pub number_in : Result ⊤ Refusal → ℕ
+number_in (Ok u) = 0
+number_in (Err x) = number_of x

@@ -1,6 +1,6 @@
 -- Channel 0: what its commands and the board's calls make of its own part, under the configuration (01, Replies and refusals; Requests,
 -- answers, pieces). One pick a test, in document 01's order: credit (1), then size (1).
-use Rattle.std.specs.Prelude.{ℕ, ◌+◌, ◌%◌, ◌^◌, Bool, true, false, ◌&&◌, not, List, [], ◌∷◌, ◌++◌, eqb, length, get_or, take, drop}
+use Rattle.std.specs.Prelude.{ℕ, ◌+◌, ◌%◌, ◌^◌, Bool, true, false, ◌&&◌, not, List, [], ◌∷◌, ◌++◌, eqb, length, get_or, take, drop, Option, Some, None}
 use Rattle.base.specs.Pick.{pick}
 use Rattle.base.specs.Bytes.{joined4, low2, low4, low8}
 use Rattle.registers.specs.Registers.{payload_size, read_size}
@@ -21,18 +21,15 @@ use Rattle.peripheral.specs.declared.Request.{Request}
 use Rattle.peripheral.specs.declared.Np.{Np}
 use Rattle.peripheral.specs.declared.Np.TheVariants.{Free, Waiting, Ready, Failed}
 use Rattle.peripheral.specs.declared.Posted.{Posted}
-use Rattle.peripheral.specs.declared.Write.{Write}
-use Rattle.peripheral.specs.declared.Write.TheVariants.{Empty, Held}
 use Rattle.peripheral.specs.declared.Peripheral.{Peripheral}
 use Rattle.peripheral.specs.declared.Completion.{Completion}
 use Rattle.peripheral.specs.Sound.{within}
+use Rattle.rules.specs.Rules.Plan.{PeripheralChange}
 use Rattle.rules.specs.Rules.Numbers.{no_such_request, count_wrong, nothing_there}
 use Rattle.rules.specs.Rules.Reset.{Reset, start, espi_reset, platform_reset}
-use Rattle.rules.specs.Rules.Out.{fatal, accept, defer, number, keep}
+use Rattle.rules.specs.Rules.Out.{fatal, accept, defer, number, keep, kept_from}
 use Rattle.rules.specs.declared.Body.TheVariants as B
-use Rattle.rules.specs.declared.Kept.TheVariants as K
 use Rattle.rules.specs.declared.Out.{Out}
-use Rattle.rules.specs.declared.PeripheralChange.{PeripheralChange}
 
 -- what a command or call of channel 0 makes: its part after it, and what goes out (01, Replies and refusals: "Reply; state and stores")
 abbrev pub change : Peripheral → Out → PeripheralChange
@@ -90,14 +87,14 @@ act_of c (Short a at) b = short_act c a at b
 -- "One posted write is held with its payload size"
 abbrev pub holding : Peripheral → ℕ → ℕ → ℕ → Peripheral
 holding p address length payload =
-    record { write = Held (record { address = address; length = length; payload = payload }); request = p.request; serial = p.serial }
+    record { write = Some (record { address = address; length = length; payload = payload }); request = p.request; serial = p.serial }
 
 -- "no credit (posted write while one is held ..)", then the size rules (01, Replies and refusals); the data is kept (01, Requests, answers, pieces)
 unfoldable pub post : Config → Peripheral → (address length from : ℕ) → PeripheralChange
 post c p address length from =
     pick (not (pc_free p.write)) (change p fatal)
     (pick (not (within address length (payload_size c.r010))) (change p fatal)
-    (change (holding p address length (payload_size c.r010)) (accept B.Nothing (K.Data from length))))
+    (change (holding p address length (payload_size c.r010)) (accept B.Nothing (kept_from from length))))
 
 -- ---- non-posted requests
 
@@ -127,7 +124,7 @@ ask p q =
 -- "GET_PC with no completion ready" is 1; else the completion goes out (01, Replies and refusals)
 abbrev pub handing : Peripheral → List Completion → PeripheralChange
 handing p [] = change p fatal
-handing p (c ∷ cs) = change (with_request p (handed p.request)) (accept (B.Piece c) K.Nothing)
+handing p (c ∷ cs) = change (with_request p (handed p.request)) (accept (B.Piece c) None)
 
 -- "the next N accepted GET_PC commands hand over the answer's pieces" (demand 3): here the next one
 unfoldable pub get_pc : Peripheral → PeripheralChange
@@ -169,8 +166,8 @@ bytes_for q success = pick success (answer_length q.kind q) 0
 
 -- the answer's bytes go "to the start of the read store", and no byte is sent yet; a failure has none (01, Requests, answers, pieces)
 abbrev pub answered : Peripheral → Request → Bool → PeripheralChange
-answered p q true = change (with_request p (Ready q 0)) (keep (K.Data 0 (answer_length q.kind q)))
-answered p q false = change (with_request p (Failed q)) (keep K.Nothing)
+answered p q true = change (with_request p (Ready q 0)) (keep (kept_from 0 (answer_length q.kind q)))
+answered p q false = change (with_request p (Failed q)) (keep None)
 
 -- 20, "no unanswered request with this serial", then 21, "byte count wrong" (01, Replies and refusals)
 abbrev pub answering_waiting : Peripheral → Request → ℕ → Bool → ℕ → PeripheralChange
@@ -194,12 +191,12 @@ answer_to p serial success n = answering p serial success n p.request
 
 -- "the take .. frees the place" (01, Requests, answers, pieces)
 abbrev pub emptied : Peripheral → Peripheral
-emptied p = record { write = Empty; request = p.request; serial = p.serial }
+emptied p = record { write = None; request = p.request; serial = p.serial }
 
 -- 23, "no write to take"; the take "leaves the store" (01, Replies and refusals; Requests, answers, pieces)
-abbrev pub taking : Peripheral → Write → PeripheralChange
-taking p Empty = change p (number nothing_there)
-taking p (Held w) = change (emptied p) (keep K.Nothing)
+abbrev pub taking : Peripheral → Option Posted → PeripheralChange
+taking p None = change p (number nothing_there)
+taking p (Some w) = change (emptied p) (keep None)
 
 -- held "until the board takes it" (01, Requests, answers, pieces)
 unfoldable pub taken : Peripheral → PeripheralChange
@@ -210,9 +207,9 @@ abbrev pub posted_report : Posted → List ℕ
 posted_report w = low8 w.address ++ low2 w.length
 
 -- .. of a held write; "a refused one yields only its number" (01, Replies and refusals)
-abbrev pub take_report : Write → List ℕ
-take_report Empty = []
-take_report (Held w) = posted_report w
+abbrev pub take_report : Option Posted → List ℕ
+take_report None = []
+take_report (Some w) = posted_report w
 
 -- ---- look at the request
 

@@ -1,5 +1,5 @@
 -- A reply's bytes (01, Replies and refusals): response byte, body, status low byte first, CRC over all before it.
-use Rattle.std.specs.Prelude.{ℕ, ◌+◌, ◌*◌, ◌/◌, ◌%◌, List, [], ◌∷◌, ◌++◌, take, drop}
+use Rattle.std.specs.Prelude.{ℕ, ◌+◌, ◌*◌, ◌/◌, ◌%◌, List, [], ◌∷◌, ◌++◌, take, drop, Option, Some, None}
 use Rattle.base.specs.Bytes.{low2, low4}
 use Rattle.crc.specs.Crc.{crc}
 use Rattle.wires.specs.Senders.{AllWires, packet_bytes}
@@ -8,9 +8,7 @@ use Rattle.rules.specs.Rules.Out.{response_byte}
 use Rattle.rules.specs.declared.Body.{Body}
 use Rattle.rules.specs.declared.Body.TheVariants as B
 use Rattle.rules.specs.declared.Reply.{Reply}
-use Rattle.rules.specs.declared.Reply.TheVariants.{Silent, Said}
 use Rattle.rules.specs.declared.Kept.{Kept}
-use Rattle.rules.specs.declared.Kept.TheVariants as K
 
 -- "a 3-byte header (cycle type, tag and length as above)" (01, Replies and refusals); length 4,096 would be 0, and no piece has it
 abbrev pub header_bytes : Completion → List ℕ
@@ -33,11 +31,11 @@ unfoldable pub closed : List ℕ → ℕ → List ℕ
 closed m status = (m ++ low2 status) ++ (crc (m ++ low2 status) ∷ [])
 
 -- "Reply: response byte .., body, status .., CRC"; a refusal that has none gives no byte (01, Replies and refusals)
-unfoldable pub reply_bytes : Reply → AllWires → List ℕ → List ℕ
-reply_bytes Silent w reads = []
-reply_bytes (Said response body status) w reads = closed (response_byte response ∷ body_bytes body w reads) status
+unfoldable pub reply_bytes : Option Reply → AllWires → List ℕ → List ℕ
+reply_bytes None w reads = []
+reply_bytes (Some r) w reads = closed (response_byte r.response ∷ body_bytes r.body w reads) r.status
 
 -- the bytes that a store keeps of the call's data: a write's "data at the start of the write store", an answer's in the read store (01, Requests)
-abbrev pub kept_bytes : Kept → List ℕ → List ℕ
-kept_bytes K.Nothing from = []
-kept_bytes (K.Data at n) from = take n (drop at from)
+abbrev pub kept_bytes : Option Kept → List ℕ → List ℕ
+kept_bytes None from = []
+kept_bytes (Some d) from = take d.count (drop d.from from)

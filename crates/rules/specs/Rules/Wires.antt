@@ -1,5 +1,5 @@
 -- Channel 1: what its commands and the board's calls make of its own part, under the configuration (01, Wires).
-use Rattle.std.specs.Prelude.{ℕ, ◌*◌, Bool, false, ◌&&◌, not, List, [], ◌∷◌, eqb, ltb, take, drop}
+use Rattle.std.specs.Prelude.{ℕ, ◌*◌, Bool, false, ◌&&◌, not, List, [], ◌∷◌, eqb, ltb, take, drop, None}
 use Rattle.base.specs.Pick.{pick}
 use Rattle.registers.specs.Registers.{on1, operating_count}
 use Rattle.registers.specs.declared.Config.{Config}
@@ -16,7 +16,6 @@ use Rattle.rules.specs.Rules.Numbers.{no_such_wire, line_busy}
 use Rattle.rules.specs.Rules.Reset.{Reset, start, espi_reset, platform_reset}
 use Rattle.rules.specs.Rules.Out.{fatal, accept, number, keep}
 use Rattle.rules.specs.declared.Body.TheVariants as B
-use Rattle.rules.specs.declared.Kept.TheVariants as K
 use Rattle.rules.specs.declared.Out.{Out}
 use Rattle.rules.specs.Rules.Plan.{WiresChange}
 
@@ -40,12 +39,12 @@ unfoldable pub put_vwire : Config → AllWires → ℕ → List ℕ → WiresCha
 put_vwire c w n pairs =
     pick (ltb (operating_count c.r020) n) (change w fatal)
     (pick (third_transition w.groups pairs) (change w fatal)
-    (change (with_groups w (put_pairs w.groups pairs)) (accept B.Nothing K.Nothing)))
+    (change (with_groups w (put_pairs w.groups pairs)) (accept B.Nothing None)))
 
 -- "GET_VWIRE with nothing pending" is 1; else the packet goes out, "and their pending marks go" (01, Replies and refusals; Wires)
 abbrev pub sent_out : AllWires → ℕ → List ℕ → WiresChange
 sent_out w capacity [] = change w fatal
-sent_out w capacity (k ∷ ks) = change (after_sent w (k ∷ ks)) (accept (B.Groups (packet_of w capacity)) K.Nothing)
+sent_out w capacity (k ∷ ks) = change (after_sent w (k ∷ ks)) (accept (B.Groups (packet_of w capacity)) None)
 
 -- "GET_VWIRE sends min(pending, operating count) groups" (01, Wires); "A packet closes at the first sender that does not fit" (02, Q-4)
 unfoldable pub get_vwire : Config → AllWires → WiresChange
@@ -85,7 +84,7 @@ pub data Board : Type 0 where
 unfoldable pub setting : Config → AllWires → (index bit value : ℕ) → WiresChange
 setting c w index bit value =
     pick (not (settable index bit value)) (change w (number no_such_wire))
-    (change (with_groups w (G.set_wire (on1 c.r020) w.groups index bit value)) (keep K.Nothing))
+    (change (with_groups w (G.set_wire (on1 c.r020) w.groups index bit value)) (keep None))
 
 -- 22, "read: no such defined wire" (01, Replies and refusals)
 abbrev pub read_number : ℕ → ℕ → ℕ
@@ -100,14 +99,14 @@ unfoldable pub setting_line : Config → AllWires → (line level : ℕ) → Wir
 setting_line c w line level =
     pick (not (line_level_ok line level)) (change w (number no_such_wire))
     (pick (line_bit w.lines.edges line) (change w (number line_busy))
-    (change (with_lines w (L.set_line (on1 c.r020) w.lines line level)) (keep K.Nothing)))
+    (change (with_lines w (L.set_line (on1 c.r020) w.lines line level)) (keep None)))
 
 -- 22, then 24, "an edge while channel 1 is off or the operating count is 1, an edge on a line that already waits"; else it waits (02, Q-4)
 unfoldable pub pulsing_line : Config → AllWires → (line : ℕ) → WiresChange
 pulsing_line c w line =
     pick (not (is_line line)) (change w (number no_such_wire))
     (pick (not (can_pulse (on1 c.r020) (operating_count c.r020) w.lines line)) (change w (number line_busy))
-    (change (with_lines w (L.pulse_line w.lines line)) (keep K.Nothing)))
+    (change (with_lines w (L.pulse_line w.lines line)) (keep None)))
 
 -- one of these; a read changes nothing (01, What the engine covers: "set a wire, read a wire"; 02, Q-4)
 unfoldable pub settle : Config → AllWires → Board → WiresChange

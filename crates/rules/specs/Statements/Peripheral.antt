@@ -6,7 +6,7 @@ pub mod Makes
 pub mod Rows
 pub mod Status
 pub mod Steps
-use Rattle.std.specs.Prelude.{ℕ, Bool, true, false, ◌&&◌, List, [], ◌∷◌, ◌≡◌, eqb, length}
+use Rattle.std.specs.Prelude.{ℕ, Bool, true, false, ◌&&◌, List, [], ◌∷◌, ◌≡◌, eqb, length, Some, None}
 use Rattle.registers.specs.Registers.{payload_size}
 use Rattle.registers.specs.declared.Config.{Config}
 use Rattle.peripheral.specs.Upward.{upward, handed}
@@ -15,16 +15,14 @@ use Rattle.peripheral.specs.declared.Request.{Request}
 use Rattle.peripheral.specs.declared.Np.{Np}
 use Rattle.peripheral.specs.declared.Np.TheVariants.{Free, Waiting, Ready, Failed}
 use Rattle.peripheral.specs.declared.Posted.{Posted}
-use Rattle.peripheral.specs.declared.Write.TheVariants.{Empty, Held}
 use Rattle.peripheral.specs.declared.Peripheral.{Peripheral}
 use Rattle.peripheral.specs.declared.Completion.{Completion}
 use Rattle.peripheral.specs.Sound.{within}
+use Rattle.rules.specs.Rules.Plan.{PeripheralChange}
 use Rattle.rules.specs.Rules.Numbers.{no_such_request, count_wrong, nothing_there}
-use Rattle.rules.specs.Rules.Out.{fatal, accept, defer, number, keep}
+use Rattle.rules.specs.Rules.Out.{fatal, accept, defer, number, keep, kept_from}
 use Rattle.rules.specs.Rules.Peripheral.{Act, posts, asks, gets, Board, look, answer, take_write, change, with_request, holding, asking, emptied, size_for, succeeded, answer_length, bytes_for}
 use Rattle.rules.specs.declared.Body.TheVariants as B
-use Rattle.rules.specs.declared.Kept.TheVariants as K
-use Rattle.rules.specs.declared.PeripheralChange.{PeripheralChange}
 
 -- ---- commands
 
@@ -35,14 +33,14 @@ pub data Did (c : Config) (p : Peripheral) : Act → PeripheralChange → Type 0
   write_held : {A L from : ℕ} → pc_free p.write ≡ false → Did c p (posts A L from) (change p fatal)
   write_large : {A L from : ℕ} → pc_free p.write ≡ true → within A L (payload_size c.r010) ≡ false → Did c p (posts A L from) (change p fatal)
   posted : {A L from : ℕ} → pc_free p.write ≡ true → within A L (payload_size c.r010) ≡ true
-      → Did c p (posts A L from) (change (holding p A L (payload_size c.r010)) (accept B.Nothing (K.Data from L)))
+      → Did c p (posts A L from) (change (holding p A L (payload_size c.r010)) (accept B.Nothing (kept_from from L)))
   request_held : {q : Request} → np_free p.request ≡ false → Did c p (asks q) (change p fatal)
   request_large : {q : Request} → np_free p.request ≡ true → within q.address q.length (size_for q.kind q) ≡ false → Did c p (asks q) (change p fatal)
   asked : {q : Request} → np_free p.request ≡ true → within q.address q.length (size_for q.kind q) ≡ true
       → Did c p (asks q) (change (asking p q) defer)
   none_ready : upward p.request ≡ [] → Did c p gets (change p fatal)
   handed_over : {k : Completion} {ks : List Completion} → upward p.request ≡ k ∷ ks
-      → Did c p gets (change (with_request p (handed p.request)) (accept (B.Piece k) K.Nothing))
+      → Did c p gets (change (with_request p (handed p.request)) (accept (B.Piece k) None))
 
 -- ---- the board's calls
 
@@ -64,8 +62,8 @@ pub data Settled (p : Peripheral) : Board → PeripheralChange → Type 0 where
       → eqb (length bytes) (bytes_for q (succeeded success)) ≡ false → Settled p (answer serial success bytes) (change p (number count_wrong))
   succeeds : {serial success : ℕ} {bytes : List ℕ} {q : Request} → p.request ≡ Waiting q → serial ≡ p.serial → succeeded success ≡ true
       → length bytes ≡ answer_length q.kind q
-      → Settled p (answer serial success bytes) (change (with_request p (Ready q 0)) (keep (K.Data 0 (answer_length q.kind q))))
+      → Settled p (answer serial success bytes) (change (with_request p (Ready q 0)) (keep (kept_from 0 (answer_length q.kind q))))
   fails : {serial success : ℕ} {bytes : List ℕ} {q : Request} → p.request ≡ Waiting q → serial ≡ p.serial → succeeded success ≡ false
-      → length bytes ≡ 0 → Settled p (answer serial success bytes) (change (with_request p (Failed q)) (keep K.Nothing))
-  no_take : {report : List ℕ} → p.write ≡ Empty → Settled p (take_write report) (change p (number nothing_there))
-  took : {report : List ℕ} {x : Posted} → p.write ≡ Held x → Settled p (take_write report) (change (emptied p) (keep K.Nothing))
+      → length bytes ≡ 0 → Settled p (answer serial success bytes) (change (with_request p (Failed q)) (keep None))
+  no_take : {report : List ℕ} → p.write ≡ None → Settled p (take_write report) (change p (number nothing_there))
+  took : {report : List ℕ} {x : Posted} → p.write ≡ Some x → Settled p (take_write report) (change (emptied p) (keep None))

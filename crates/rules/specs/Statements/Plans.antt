@@ -6,7 +6,6 @@ use Rattle.registers.specs.declared.Config.{Config}
 use Rattle.command.specs.Decode.{admit}
 use Rattle.command.specs.declared.Command as C₀
 use Rattle.command.specs.declared.Command.TheVariants as C
-use Rattle.command.specs.declared.Decoded.TheVariants.{Known, Refused}
 use Rattle.state.specs.State.{State}
 use Rattle.rules.specs.Rules.Channel.{Channel, peripheral, wires, Part, Command, Act, Board, Change, next_of, part, put, act_of, reset_follows}
 use Rattle.rules.specs.Rules.Lift.{lift, silent, show, non_fatal, accept_then, quietly}
@@ -17,6 +16,9 @@ use Rattle.rules.specs.Statements.Wires as W
 use Rattle.rules.specs.declared.Body.{Body}
 use Rattle.rules.specs.declared.Body.TheVariants as B
 use Rattle.rules.specs.Rules.Plan.{Plan}
+use Rattle.std.specs.Prelude.{Ok, Err}
+use Rattle.command.specs.declared.Refusal.{Refusal}
+use Rattle.command.specs.Numbers.{number_of}
 
 -- ---- a channel's law, by channel
 
@@ -37,7 +39,7 @@ command_of wires o = C.Wires o
 
 -- the decoder gave this command, and its CRC was good or not checked ("checked only while register 008h bit 31 is 1", 01, Commands)
 abbrev pub Admits : State → List ℕ → C₀.Command → Type 0
-Admits s b o = admit (channels_of s.config) (crc_checked s.config.r008) b ≡ Known o
+Admits s b o = admit (channels_of s.config) (crc_checked s.config.r008) b ≡ Ok o
 
 -- GET_STATUS and GET_CONFIGURATION: accepted, and nothing changes
 -- ("All other replies show the status after the command"; "Other addresses read 0", 01, Registers and status)
@@ -52,7 +54,9 @@ pub record Silent (n : ℕ) : Type 0 where
 
 -- the decoder's refusal ("empty (12), 13, 14, a missing header byte needed next (12) or 15, exact length (12), 16", 01, Replies and refusals)
 pub record Refuses (s : State) (b : List ℕ) (n : ℕ) : Type 0 where
-  pub given : admit (channels_of s.config) (crc_checked s.config.r008) b ≡ Refused n
+  pub refusal : Refusal
+  pub given : admit (channels_of s.config) (crc_checked s.config.r008) b ≡ Err refusal
+  pub number : n ≡ number_of refusal
   pub least : 12 ≤ n
   pub most : n ≤ 16
 

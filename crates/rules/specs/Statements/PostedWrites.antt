@@ -1,10 +1,8 @@
 -- P13. Posted writes over runs (01, Requests, answers, pieces: "One posted write is held with its payload size, its data at the start of the
 -- write store, until the board takes it; the take yields its address and length, frees the place and leaves the store").
-use Rattle.std.specs.Prelude.{ℕ, ◌≤◌, Bool, true, false, ◌&&◌, List, ◌++◌, ◌≡◌, length, take}
+use Rattle.std.specs.Prelude.{ℕ, ◌≤◌, Bool, true, false, ◌&&◌, List, ◌++◌, ◌≡◌, length, take, Option, Some}
 use Rattle.base.specs.Bytes.{low2, low8}
 use Rattle.peripheral.specs.declared.Posted.{Posted}
-use Rattle.peripheral.specs.declared.Write.{Write}
-use Rattle.peripheral.specs.declared.Write.TheVariants.{Held}
 use Rattle.rules.specs.Rules.Peripheral as P
 use Rattle.rules.specs.Rules.Channel.{Channel, peripheral, wires, Board}
 use Rattle.rules.specs.Rules.Step.{World, Call, reset, exchange, board, short, lend, step, run}
@@ -55,7 +53,7 @@ abbrev pub takes_with : List ℕ → Call
 takes_with report = board peripheral (P.take_write report)
 
 -- the write that is held ("One posted write is held", 01, Requests, answers, pieces)
-abbrev pub held_write : World → Write
+abbrev pub held_write : World → Option Posted
 held_write w = w.state.peripheral.write
 
 -- ---- an accepted posted write, and the calls since
@@ -97,7 +95,7 @@ pub record PostedWrite (w : World) (b reply : List ℕ) (xs : List Call) : Type 
   -- until the next accepted write, its first L bytes are the command's data, if nobody else writes the store
   pub bytes : without posts (step w (exchange b reply)).next xs ≡ true → write_handed_on (step w (exchange b reply)).next xs
       → take (access_length b) (since w (exchange b reply) xs).write ≡ written_data b
-  pub held : Untaken w b reply xs → held_write (since w (exchange b reply) xs) ≡ Held (posting w b)
+  pub held : Untaken w b reply xs → held_write (since w (exchange b reply) xs) ≡ Some (posting w b)
   pub taken : Untaken w b reply xs → (report : List ℕ) → 256 ≤ length (since w (exchange b reply) xs).write → 10 ≤ length report
       → Taken w b reply xs report
 

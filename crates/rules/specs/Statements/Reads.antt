@@ -3,7 +3,6 @@ use Rattle.std.specs.Prelude.{ℕ, ◌+◌, ◌≤◌, true, List, ◌↔◌, �
 use Rattle.registers.specs.declared.Config.{Config}
 use Rattle.command.specs.Rows.{row_of}
 use Rattle.command.specs.declared.Row.{Row}
-use Rattle.command.specs.declared.Listed.TheVariants.{As}
 use Rattle.command.specs.declared.Command.{Command}
 use Rattle.command.specs.declared.Command.TheVariants as C
 use Rattle.peripheral.specs.declared.Request.{Request}
@@ -14,10 +13,11 @@ use Rattle.rules.specs.Rules.Wires as W
 use Rattle.rules.specs.Statements.Cases.{Admits}
 use Rattle.rules.specs.Statements.Fields.{is_listed}
 use Rattle.rules.specs.Statements.Fields.{byte, is_posted, is_non_posted, access_address, access_length, access_tag, data_from, request_kind, io_bytes, groups, pairs, register_at, register_value}
+use Rattle.std.specs.Prelude.{Some}
 
 -- the decoder has a row for exactly the opcodes that are listed, of all numbers ("Opcodes", 01, Commands; 13, "unknown opcode", 01, Replies and refusals)
 abbrev pub OpcodesListed : Type 0
-OpcodesListed = (op : ℕ) → (is_listed op ≡ true) ↔ ((q : Row) × (row_of op ≡ As q))
+OpcodesListed = (op : ℕ) → (is_listed op ≡ true) ↔ ((q : Row) × (row_of op ≡ Some q))
 
 -- the request that a command makes: what its bytes ask, "with its tag, payload and read sizes then in force"
 abbrev pub request_in : Config → List ℕ → Request

@@ -1,6 +1,6 @@
 -- P5. "A refusal, silent or not, changes no state and no buffer, but for the four bytes of an error reply" (demand 1), and which bytes of a
 -- lent store an accepted call leaves (01, Replies and refusals: "Store bytes that no rule writes are unchanged").
-use Rattle.std.specs.Prelude.{ℕ, zero, suc, ◌/◌, ◌%◌, Bool, true, false, List, [], ◌∷◌, ◌++◌, ◌≢◌, ◌≡◌, eqb, length, drop}
+use Rattle.std.specs.Prelude.{ℕ, zero, suc, ◌/◌, ◌%◌, Bool, true, false, List, [], ◌∷◌, ◌++◌, ◌≢◌, ◌≡◌, eqb, length, drop, Option, Some, None}
 use Rattle.base.specs.Pick.{pick}
 use Rattle.crc.specs.Crc.{crc}
 use Rattle.state.specs.Status.{status}
@@ -11,7 +11,6 @@ use Rattle.rules.specs.Rules.Channel.{Channel, peripheral, wires, Board}
 use Rattle.rules.specs.Rules.Step.{World, Call, reset, exchange, board, short, lend, Outcome, step, look_length, take_length}
 use Rattle.rules.specs.Rules.Calls.{word, Exchanged, done, exchanged, stored, looked, start_call, espi_reset_call, platform_reset_call, exchange_call, look_call, answer_call, take_write_call, set_wire_call, read_wire_call, set_line_call, pulse_line_call}
 use Rattle.rules.specs.declared.Kept.{Kept}
-use Rattle.rules.specs.declared.Kept.TheVariants as K
 use Rattle.rules.specs.Statements.Fields.{byte, is_posted, access_length}
 
 -- ---- refusals of `step`
@@ -103,9 +102,9 @@ is_lend (lend write read) = true
 
 -- as many bytes as are kept
 -- ("its data at the start of the write store", "copies exactly L bytes to the start of the read store", 01, Requests, answers, pieces)
-abbrev pub kept_count : Kept → ℕ
-kept_count K.Nothing = 0
-kept_count (K.Data at n) = n
+abbrev pub kept_count : Option Kept → ℕ
+kept_count None = 0
+kept_count (Some d) = d.count
 
 -- "Store bytes that no rule writes are unchanged" (01, Replies and refusals)
 pub record StoresKept (w : World) (c : Call) : Type 0 where

@@ -3,7 +3,7 @@ pub mod Effects
 pub mod LineEffects
 pub mod SoundMeans
 pub mod Rows
-use Rattle.std.specs.Prelude.{ℕ, true, false, List, [], ◌∷◌, ◌≡◌, ltb}
+use Rattle.std.specs.Prelude.{ℕ, true, false, List, [], ◌∷◌, ◌≡◌, ltb, None}
 use Rattle.registers.specs.Registers.{on1, operating_count}
 use Rattle.registers.specs.declared.Config.{Config}
 use Rattle.wires.specs.Groups as G
@@ -17,7 +17,6 @@ use Rattle.rules.specs.Rules.Numbers.{no_such_wire, line_busy}
 use Rattle.rules.specs.Rules.Out.{fatal, accept, number, keep}
 use Rattle.rules.specs.Rules.Wires.{Act, puts, gets, Board, set_wire, read_wire, set_line, pulse_line, change}
 use Rattle.rules.specs.declared.Body.TheVariants as B
-use Rattle.rules.specs.declared.Kept.TheVariants as K
 use Rattle.rules.specs.Rules.Plan.{WiresChange}
 
 -- ---- commands
@@ -30,16 +29,16 @@ pub data Did (c : Config) (w : AllWires) : Act → WiresChange → Type 0 where
   third : {n : ℕ} {pairs : List ℕ} → ltb (operating_count c.r020) n ≡ false → third_transition w.groups pairs ≡ true
       → Did c w (puts n pairs) (change w fatal)
   put : {n : ℕ} {pairs : List ℕ} → ltb (operating_count c.r020) n ≡ false → third_transition w.groups pairs ≡ false
-      → Did c w (puts n pairs) (change (with_groups w (put_pairs w.groups pairs)) (accept B.Nothing K.Nothing))
+      → Did c w (puts n pairs) (change (with_groups w (put_pairs w.groups pairs)) (accept B.Nothing None))
   none_pending_lem : sent w (operating_count c.r020) ≡ [] → Did c w gets (change w fatal)
   sent_off_lem : {k : ℕ} {ks : List ℕ} → sent w (operating_count c.r020) ≡ k ∷ ks
-      → Did c w gets (change (after_sent w (k ∷ ks)) (accept (B.Groups (packet_of w (operating_count c.r020))) K.Nothing))
+      → Did c w gets (change (after_sent w (k ∷ ks)) (accept (B.Groups (packet_of w (operating_count c.r020))) None))
 
 -- of these, "an accepted PUT_VWIRE [that] ends with PLTRST# low that was high before" (02, Q-1)
 pub data Lowers (c : Config) (w : AllWires) : Act → WiresChange → Type 0 where
   lowered : {n : ℕ} {pairs : List ℕ} → ltb (operating_count c.r020) n ≡ false → third_transition w.groups pairs ≡ false → level w.groups 3 1 ≡ 1
       → level (put_pairs w.groups pairs) 3 1 ≡ 0
-      → Lowers c w (puts n pairs) (change (with_groups w (put_pairs w.groups pairs)) (accept B.Nothing K.Nothing))
+      → Lowers c w (puts n pairs) (change (with_groups w (put_pairs w.groups pairs)) (accept B.Nothing None))
 
 -- ---- the board's calls
 
@@ -50,16 +49,16 @@ pub data Lowers (c : Config) (w : AllWires) : Act → WiresChange → Type 0 whe
 pub data Settled (c : Config) (w : AllWires) : Board → WiresChange → Type 0 where
   not_boards : {index bit value : ℕ} → settable index bit value ≡ false → Settled c w (set_wire index bit value) (change w (number no_such_wire))
   set : {index bit value : ℕ} → settable index bit value ≡ true
-      → Settled c w (set_wire index bit value) (change (with_groups w (G.set_wire (on1 c.r020) w.groups index bit value)) (keep K.Nothing))
+      → Settled c w (set_wire index bit value) (change (with_groups w (G.set_wire (on1 c.r020) w.groups index bit value)) (keep None))
   no_wire_lem : {index bit : ℕ} → defined_bit index bit ≡ false → Settled c w (read_wire index bit) (change w (number no_such_wire))
   read : {index bit : ℕ} → defined_bit index bit ≡ true → Settled c w (read_wire index bit) (change w (number 0))
   no_line_lem : {line level : ℕ} → line_level_ok line level ≡ false → Settled c w (set_line line level) (change w (number no_such_wire))
   edge_waits_lem : {line level : ℕ} → line_level_ok line level ≡ true → line_bit w.lines.edges line ≡ true
       → Settled c w (set_line line level) (change w (number line_busy))
   line_set_lem : {line level : ℕ} → line_level_ok line level ≡ true → line_bit w.lines.edges line ≡ false
-      → Settled c w (set_line line level) (change (with_lines w (L.set_line (on1 c.r020) w.lines line level)) (keep K.Nothing))
+      → Settled c w (set_line line level) (change (with_lines w (L.set_line (on1 c.r020) w.lines line level)) (keep None))
   no_line_to_pulse : {line : ℕ} → is_line line ≡ false → Settled c w (pulse_line line) (change w (number no_such_wire))
   cannot_pulse : {line : ℕ} → is_line line ≡ true → can_pulse (on1 c.r020) (operating_count c.r020) w.lines line ≡ false
       → Settled c w (pulse_line line) (change w (number line_busy))
   pulsed : {line : ℕ} → is_line line ≡ true → can_pulse (on1 c.r020) (operating_count c.r020) w.lines line ≡ true
-      → Settled c w (pulse_line line) (change (with_lines w (L.pulse_line w.lines line)) (keep K.Nothing))
+      → Settled c w (pulse_line line) (change (with_lines w (L.pulse_line w.lines line)) (keep None))

@@ -1,11 +1,10 @@
-use mathlib.Core.Path.{refl, sym, subst, ◌∙◌}
-use Rattle.pieces.specs.Blocks.{Block}
+use mathlib.Core.Path.{refl, ◌∙◌}
 use Rattle.peripheral.specs.Layout.{peripheral_in}
 use Rattle.peripheral.specs.Stored.{stored-asking}
 use Rattle.peripheral.specs.declared.Np.TheVariants.{Waiting}
 use Rattle.rules.specs.Rules.Out as O
 use Rattle.rules.specs.Rules.Peripheral as P
-use Rattle.engine.specs.Laws.Peripheral.{ask-held, ask_large, ask-done, size_there, refused_there, stored_there}
+use Rattle.engine.specs.Laws.Peripheral.{ask-held, ask_large, ask-done, refused_there, stored_there}
 use mathlib.Core.Path.{ap}
 use mathlib.Core.Bool.{not}
 use Rattle.engine.proofs.peripheral_channel.ask.Goals as goal
@@ -15,12 +14,6 @@ returns-then-not-takes_request c =
     let a = c.args in let p = peripheral_in a.state.now in
     refused_there a.state.now _ p _ (ask-held p a.q _ _ c.takes_request.ensures (ap not c.if-not-takes_request.true) refl) c.fatal.ensures
     refl
-
-pub within-requires : goal.within-requires
-within-requires c =
-    let q = c.args.q in
-    subst Block (sym c.size_for-size.ensures)
-    (size_there q q.kind c.requires.2 c.requires.3)
 
 pub returns-then-not-within : goal.returns-then-not-within
 returns-then-not-within c =

@@ -1,5 +1,4 @@
-use mathlib.Core.Path.{ap, sym, subst, ◌∙◌}
-use Rattle.command.specs.Facts.{PeripheralFits}
+use mathlib.Core.Path.{ap, sym, ◌∙◌}
 use Rattle.command.specs.declared.PeripheralCommand.{PeripheralCommand}
 use Rattle.peripheral.specs.Layout.{peripheral_in}
 use Rattle.peripheral.specs.declared.Kind.TheVariants as R
@@ -14,16 +13,6 @@ ask-requires c =
     c.requires.2 c.request_of.result R.MemoryRead h.address h.length h.tag 0
     c.request_of.ensures in
     (c.requires.0, c.requires.1, s.0, s.1)
-
-pub short_access-requires : goal.short_access-requires
-short_access-requires c =
-    let p = c.requires in (
-      p.0,
-      p.1,
-      p.2,
-      subst (λ (z : PeripheralCommand). PeripheralFits z c.args.b.now)
-          c.in-Short.is p.4,
-    )
 
 pub returns-in-PutPc : goal.returns-in-PutPc
 unfolding decide

@@ -1,12 +1,12 @@
+use Rattle.std.specs.Prelude.{Some}
 use mathlib.Core.Path.{refl, sym, subst, ◌∙◌}
+use Rattle.rules.specs.Rules.Out.{kept_from}
 use Rattle.pieces.specs.Blocks.{Block}
 use Rattle.peripheral.specs.Layout.{peripheral_in}
 use Rattle.peripheral.specs.Stored.{stored-write}
-use Rattle.peripheral.specs.declared.Write.TheVariants.{Held}
 use Rattle.rules.specs.Rules.Out as O
 use Rattle.rules.specs.Rules.Peripheral as P
 use Rattle.rules.specs.declared.Body.TheVariants as B
-use Rattle.rules.specs.declared.Kept.TheVariants as K
 use Rattle.engine.specs.Laws.Peripheral.{payload_there, post_held, post_large, post-done, refused_there, stored_there}
 use mathlib.Core.Path.{ap}
 use mathlib.Core.Bool.{not}
@@ -36,7 +36,7 @@ pub returns : goal.returns
 returns c =
     let a = c.args in let l = a.state.now in
     let p = peripheral_in l in let n = c.payload_size-payload.result in
-    stored_there l _ (P.holding p a.address a.length n) _ (O.accept B.Nothing (K.Data a.from a.length)) refl
+    stored_there l _ (P.holding p a.address a.length n) _ (O.accept B.Nothing (kept_from a.from a.length)) refl
     (post-done a.c p a.address a.length a.from _ _ _ _ _
     c.takes_write.ensures
     (ap not c.if-not-takes_write.false)
@@ -44,4 +44,4 @@ returns c =
     (ap not c.if-not-within.false) refl refl) c.accept.ensures
     (c.hold.ensures ∙ stored-write p l
     c.requires.1
-    (Held (record { address = a.address; length = a.length; payload = n })))
+    (Some (record { address = a.address; length = a.length; payload = n })))

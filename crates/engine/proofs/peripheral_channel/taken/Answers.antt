@@ -3,12 +3,12 @@ use Rattle.rules.specs.Rules.Peripheral.{taken, taking}
 use Rattle.engine.specs.Laws.Peripheral.{changed}
 use Rattle.engine.proofs.peripheral_channel.taken.Goals as goal
 
-pub returns-in-Empty : goal.returns-in-Empty
+pub returns-in-None : goal.returns-in-None
 unfolding taken
-returns-in-Empty c = c.refused.ensures ∙ ap (taking c.args.p) (sym c.in-Empty.is)
+returns-in-None c = c.refused.ensures ∙ ap (taking c.args.p) (sym c.in-None.is)
 
-pub returns-in-Held : goal.returns-in-Held
+pub returns-in-Some : goal.returns-in-Some
 unfolding taken
-returns-in-Held c =
+returns-in-Some c =
     changed c.emptied.ensures c.keep.ensures ∙ ap (taking c.args.p)
-    (sym c.in-Held.is)
+    (sym c.in-Some.is)

@@ -4,20 +4,16 @@ use mathlib.Core.Bool.{not}
 use borrow.Author.Tests.{lt-ltb, le-ltb}
 use Rattle.engine.specs.Laws.Loaded.{tidy_there}
 use Rattle.engine.specs.Laws.Wires.{pulse_none, can_pulse_lem, pulse_busy, pulse_done}
-use borrow.Author.Rules.{rules}
 use Rattle.engine.proofs.wires_channel.pulse_line.Goals as goal
 
 -- src/wires_channel.rt:101:9
+
 pub returns-then-line-ge256 : goal.returns-then-line-ge256
 returns-then-line-ge256 c =
     let a = c.args in pulse_none a.c a.state.now a.line (ap not (le-ltb a.line 256 c.if-line-ge256.true))
 
 -- src/wires_channel.rt:104:9
-pub line_waits-waits-requires : goal.line_waits-waits-requires
-line_waits-waits-requires c =
-    (c.requires.long, lt-ltb _ _ c.if-line-ge256.false)
 
--- src/wires_channel.rt:106:9
 pub returns-then-not-on-operating_count : goal.returns-then-not-on-operating_count
 returns-then-not-on-operating_count c =
     let a = c.args in
@@ -26,11 +22,7 @@ returns-then-not-on-operating_count c =
     c.line_waits-waits.ensures) (ap not c.if-not-on-operating_count.true)
 
 -- src/wires_channel.rt:108:5
-pub pulse_line-requires : goal.pulse_line-requires
-pulse_line-requires c =
-    (search rules, lt-ltb _ _ c.if-line-ge256.false)
 
--- src/wires_channel.rt:96:1
 pub returns : goal.returns
 returns c =
     let a = c.args in

@@ -1,35 +1,25 @@
 use native.Mathlib.Omega.{arith}
 use mathlib.Core.Path.{refl, ap}
-use borrow.Author.Tests.{not-false}
-use Rattle.base.specs.Pick.{and_left}
 use Rattle.engine.specs.Laws.Loaded.{tidy_there}
 use Rattle.engine.specs.Laws.Wires.{line_none, line_busy_lem, line_set}
-use borrow.Author.Rules.{rules}
 use mathlib.Core.Bool.{not}
 use Rattle.engine.proofs.wires_channel.set_line.Goals as goal
 
 -- src/wires_channel.rt:85:9
+
 pub returns-then-not-line-level : goal.returns-then-not-line-level
 returns-then-not-line-level c =
     let a = c.args in line_none a.c a.state.now a.line a.level _ refl (ap not c.if-not-line-level.true)
 
 -- src/wires_channel.rt:87:8
-pub edge_waits-requires : goal.edge_waits-requires
-edge_waits-requires c =
-    (search rules, and_left _ _ c.if-not-line-level.false)
 
--- src/wires_channel.rt:88:9
 pub returns-then-edge_waits : goal.returns-then-edge_waits
 returns-then-edge_waits c =
     let a = c.args in line_busy_lem a.c a.state.now a.line a.level _ refl
     (ap not c.if-not-line-level.false) _ c.edge_waits.ensures c.if-edge_waits.true
 
 -- src/wires_channel.rt:91:5
-pub set_line-requires : goal.set_line-requires
-set_line-requires c =
-    (search rules, not-false _ (ap not c.if-not-line-level.false))
 
--- src/wires_channel.rt:80:1
 pub returns : goal.returns
 returns c =
     let a = c.args in

@@ -1,22 +1,17 @@
-use borrow.Author.Tests.{not-false}
-use Rattle.engine.specs.Laws.Tests.{denied}
 use Rattle.engine.specs.Laws.Wires.{set_refused, set_changed}
 use mathlib.Core.Path.{ap}
 use mathlib.Core.Bool.{not}
 use Rattle.engine.proofs.wires_channel.setting.Goals as goal
 
 -- src/wires_channel.rt:65:9
+
 pub returns-then-not-settable : goal.returns-then-not-settable
 returns-then-not-settable c =
     let a = c.args in
     λ l. set_refused a.c a.w l a.index a.bit a.value _ _ c.settable.ensures (ap not c.if-not-settable.true) c.number.ensures
 
 -- src/wires_channel.rt:72:15
-pub set-requires : goal.set-requires
-set-requires c =
-    not-false _ (denied c.settable.ensures (ap not c.if-not-settable.false))
 
--- src/wires_channel.rt:61:1
 pub returns : goal.returns
 returns c =
     let a = c.args in

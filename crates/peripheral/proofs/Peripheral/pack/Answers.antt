@@ -3,7 +3,7 @@ use Rattle.peripheral.proofs.Peripheral.pack.Goals as goal
 
 pub returns : goal.returns
 returns c =
-    packed_by c.args.self c.args.dst.now c.put_at.new.dst c.put_at-2.new.dst c.put_at-3.new.dst c.requires
-    (rw c.write_bytes-write.ensures at c.put_at.ensures)
-    (rw c.np_bytes-request.ensures at c.put_at-2.ensures)
-    (rw c.bytes4-serial.ensures at c.put_at-3.ensures)
+    packed_by c.args.self _ _ _ _ c.requires
+    (rw c.write_bytes.ensures at c.put_at.ensures)
+    (rw c.bytes.ensures at c.put_at-2.ensures)
+    (rw c.to_le_bytes.ensures at c.put_at-3.ensures)

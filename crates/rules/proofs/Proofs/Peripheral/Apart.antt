@@ -1,5 +1,7 @@
 -- What no channel telling on another asks of channel 0: what its calls ask and leave of its stores.
 use Rattle.std.specs.Prelude.{ℕ, true, false, ◌||◌, List, [], ◌∷◌, ◌≡◌, refl, ltb, get_or, length}
+use Rattle.rules.specs.Rules.Plan.{PeripheralChange}
+use Rattle.rules.specs.Rules.Out.{kept_from}
 use Rattle.std.proofs.Common.{true≢false, sym, ap, ◌∙◌}
 use Rattle.base.specs.Bytes.{over}
 use Rattle.wires.specs.Senders.{AllWires}
@@ -14,8 +16,6 @@ use Rattle.rules.proofs.Proofs.Reply.{over_long}
 use Rattle.rules.proofs.Proofs.Stores.{lacks, Owns}
 use Rattle.rules.specs.declared.Body.{Body}
 use Rattle.rules.specs.declared.Body.TheVariants as B
-use Rattle.rules.specs.declared.Kept.TheVariants as K
-use Rattle.rules.specs.declared.PeripheralChange.{PeripheralChange}
 
 -- its bodies read no wires
 own_bytes : (body : Body) (w w' : AllWires) (read : List ℕ) → own_body peripheral body ≡ true → body_bytes body w read ≡ body_bytes body w' read
@@ -39,7 +39,7 @@ room w (P.look_done e) s = refl
 room w (P.no_look e) s = refl
 room w (P.no_such e) s = refl
 room w (P.miscounted e f g) s = refl
-room w (P.succeeds {bytes = d} {q = q} e f g n) s = over_long (kept_bytes (K.Data 0 (P₀.answer_length q.kind q)) d) w.read read_length s
+room w (P.succeeds {bytes = d} {q = q} e f g n) s = over_long (kept_bytes (kept_from 0 (P₀.answer_length q.kind q)) d) w.read read_length s
 room w (P.fails e f g n) s = refl
 room w (P.no_take e) s = refl
 room w (P.took e) s = refl

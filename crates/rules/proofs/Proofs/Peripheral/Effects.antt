@@ -15,6 +15,7 @@ use Rattle.peripheral.specs.declared.Request.{Request}
 use Rattle.peripheral.specs.declared.Np.{Np}
 use Rattle.peripheral.specs.declared.Np.TheVariants.{Free, Waiting, Ready, Failed}
 use Rattle.peripheral.specs.declared.Peripheral.{Peripheral}
+use Rattle.rules.specs.Rules.Plan.{PeripheralChange}
 use Rattle.rules.specs.Rules.Peripheral as P
 use Rattle.rules.specs.Rules.Channel.{peripheral}
 use Rattle.rules.specs.Statements.Fields.{byte, is_channel0, access_length, data_from, written_data}
@@ -24,7 +25,6 @@ use Rattle.rules.specs.Statements.Peripheral.Effects.{after_completion, complete
 use Rattle.rules.proofs.Proofs.Fields.{asked_not_posted}
 use Rattle.rules.specs.Statements.ConfigWrites.{turns}
 use Rattle.rules.proofs.Proofs.Becomes.{Becomes}
-use Rattle.rules.specs.declared.PeripheralChange.{PeripheralChange}
 
 -- ---- commands
 

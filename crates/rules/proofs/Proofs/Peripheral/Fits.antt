@@ -16,12 +16,12 @@ use Rattle.peripheral.specs.declared.Np.{Np}
 use Rattle.peripheral.specs.declared.Np.TheVariants.{Free, Waiting, Ready, Failed}
 use Rattle.peripheral.specs.declared.Peripheral.{Peripheral}
 use Rattle.peripheral.specs.declared.Request.{Request}
+use Rattle.rules.specs.Rules.Plan.{PeripheralChange}
 use Rattle.rules.specs.Rules.Peripheral as P₀
 use Rattle.rules.specs.Rules.Fits.{PieceFits, OutFits, KeptFits}
 use Rattle.rules.specs.Statements.Peripheral as P
 use Rattle.rules.specs.Statements.Reads as F
 use Rattle.rules.proofs.Proofs.Replies.{is_none, head_or}
-use Rattle.rules.specs.declared.PeripheralChange.{PeripheralChange}
 
 success_fits : (k : Kind) (q : Request) (sent : ℕ) → ReadyRequest q sent → PieceFits (success_of k q sent)
 success_fits R.MemoryRead q sent r = record { most = r.next_most_lem; end = omega (arith, r.next_end, r.made.most) }

@@ -6,6 +6,7 @@ use Rattle.registers.specs.declared.Config.{Config}
 use Rattle.peripheral.specs.declared.Np.{Np}
 use Rattle.peripheral.specs.declared.Np.TheVariants.{Free, Waiting, Ready, Failed}
 use Rattle.peripheral.specs.declared.Peripheral.{Peripheral}
+use Rattle.rules.specs.Rules.Plan.{PeripheralChange}
 use Rattle.rules.specs.Rules.Peripheral as P₀
 use Rattle.rules.specs.Rules.Channel.{peripheral}
 use Rattle.rules.specs.Statements.Fields.{access_length}
@@ -14,7 +15,6 @@ use Rattle.rules.specs.Statements.Channels as L
 use Rattle.rules.specs.Statements.Channels.{Acts, Settles}
 use Rattle.rules.specs.Statements.Reads as R
 use Rattle.rules.specs.Statements.Refusals.{posted_length, answer_bytes, kept_count}
-use Rattle.rules.specs.declared.PeripheralChange.{PeripheralChange}
 
 pub acts : {c : Config} {p : Peripheral} {a : P₀.Act} {x : PeripheralChange} → P.Did c p a x → Acts peripheral p a x
 acts (P.write_held e) = L.Acts.refused

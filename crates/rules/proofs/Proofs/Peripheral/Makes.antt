@@ -1,6 +1,6 @@
 -- A command for every request and every write that the clauses allow: PUT_NP of type 02h, a short I/O access, PUT_PC of type 03h, on a state whose
 -- 010h has the recorded sizes. Back by soundness, which every call keeps.
-use Rattle.std.specs.Prelude.{ℕ, zero, suc, ◌+◌, ◌*◌, ◌/◌, ◌%◌, ◌^◌, ◌≤◌, ◌<◌, Bool, true, false, ◌||◌, not, List, [], ◌∷◌, ◌++◌, ◌⊎◌, ◌≡◌, eqb, ltb, length, replicate}
+use Rattle.std.specs.Prelude.{ℕ, zero, suc, ◌+◌, ◌*◌, ◌/◌, ◌%◌, ◌^◌, ◌≤◌, ◌<◌, Bool, true, false, ◌||◌, not, List, [], ◌∷◌, ◌++◌, ◌⊎◌, ◌≡◌, eqb, ltb, length, replicate, Option, Some, None}
 use Rattle.std.proofs.Common.{inl, inr, sym, subst, ◌∙◌, mod-lt, arith, lt-ltb, le-ltb, ne_eqb, eq-eqb, eqb-true, le-leb}
 use Rattle.std.proofs.Math.Path.{refl, ap}
 use Rattle.std.proofs.lemmas.List.{length-replicate}
@@ -24,8 +24,6 @@ use Rattle.peripheral.specs.declared.Request.{Request}
 use Rattle.peripheral.specs.declared.Np.{Np}
 use Rattle.peripheral.specs.declared.Np.TheVariants.{Free, Waiting, Ready, Failed}
 use Rattle.peripheral.specs.declared.Posted.{Posted}
-use Rattle.peripheral.specs.declared.Write.{Write}
-use Rattle.peripheral.specs.declared.Write.TheVariants.{Empty, Held}
 use Rattle.state.specs.State.{State}
 use Rattle.state.specs.Sound.{Sound}
 use Rattle.rules.specs.Rules.Peripheral.{request_of}
@@ -173,7 +171,7 @@ module _ (s : State) (so : Sound s) (b : List ℕ) (bytes : are_bytes b ≡ true
         payload = ap (λ (x : Posted). x.payload) (sym e);
         holds =
             (posted_writes here b (zeros 263) (record { posted = posts; number = number-here }) []).held
-            (record { unended = refl; untaken = refl }) ∙ ap Held e;
+            (record { unended = refl; untaken = refl }) ∙ ap Some e;
       }
 
 -- ---- the rows of form and credit compute away: what is left are the enable bit and the size
@@ -377,7 +375,7 @@ module _ (t : Posted) (made : PostedMade t) where
   write_command = 0x00 ∷ 0x03 ∷ tag_byte 0 t.length ∷ t.length % 256 ∷ high8 t.address (zeros (suc t.length))
 
   write_facts : MadeWrite t
-  write_facts = held-write t (write_test (Held t) made)
+  write_facts = held-write t (write_test (Some t) made)
 
   write_payload : payload_of write_config ≡ t.payload
   write_payload = payload_is made.payload.0 1 write_codes ∙ sym made.payload.3
@@ -430,9 +428,9 @@ request_held_lem n small (Waiting q) m = request_by q.kind q n small refl m m.as
 request_held_lem n small (Ready q sent) m = request_by q.kind q n small refl m m.as_kind
 request_held_lem n small (Failed q) m = request_by q.kind q n small refl m m.as_kind
 
-write-held : (x : Write) → WriteMade x → WriteBy x
-write-held Empty m = tt
-write-held (Held t) m = write_by t m
+write-held : (x : Option Posted) → WriteMade x → WriteBy x
+write-held None m = tt
+write-held (Some t) m = write_by t m
 
 held_in : (s : State) → Sound s → RequestBy s.peripheral.request s.peripheral.serial × WriteBy s.peripheral.write
 held_in s so =

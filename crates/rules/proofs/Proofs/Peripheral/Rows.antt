@@ -1,5 +1,5 @@
 -- Channel 0's numbers are those of its rows: by its law, and by what the bytes of its commands are.
-use Rattle.std.specs.Prelude.{ℕ, ◌+◌, ◌-◌, ◌*◌, ◌/◌, ◌%◌, ◌^◌, ◌≤◌, ◌<◌, Bool, true, false, ◌&&◌, ◌||◌, not, List, [], ◌∷◌, ◌≡◌, refl, eqb, leb, length}
+use Rattle.std.specs.Prelude.{ℕ, ◌+◌, ◌-◌, ◌*◌, ◌/◌, ◌%◌, ◌^◌, ◌≤◌, ◌<◌, Bool, true, false, ◌&&◌, ◌||◌, not, List, [], ◌∷◌, ◌≡◌, refl, eqb, leb, length, Option, Some, None}
 use Rattle.std.proofs.Common.{true≢false, sym, ap, ◌∙◌, div-add-mod', arith, pow_pos, leb-true, leb-false, eq-eqb, ne_eqb, le-leb}
 use Rattle.std.proofs.Math.Nat.{div-eq_of_lt-le, lt-div-mul-add}
 use Rattle.std.proofs.lemmas.Bool.{eqb-false, not-true, not-false}
@@ -13,11 +13,11 @@ use Rattle.peripheral.specs.declared.Kind.TheVariants as R
 use Rattle.peripheral.specs.declared.Request.{Request}
 use Rattle.peripheral.specs.declared.Np.{Np}
 use Rattle.peripheral.specs.declared.Np.TheVariants.{Free, Waiting, Ready, Failed}
-use Rattle.peripheral.specs.declared.Write.{Write}
-use Rattle.peripheral.specs.declared.Write.TheVariants.{Empty, Held}
 use Rattle.peripheral.specs.declared.Peripheral.{Peripheral}
+use Rattle.peripheral.specs.declared.Posted.{Posted}
 use Rattle.peripheral.specs.Sound.{within}
 use Rattle.state.specs.State.{State}
+use Rattle.rules.specs.Rules.Plan.{PeripheralChange}
 use Rattle.rules.specs.Rules.Peripheral.{Act, posts, asks, gets, Board, size_for, succeeded, answer_length, bytes_for}
 use Rattle.rules.specs.Statements.Fields.{byte, is_posted, is_non_posted, length_field, short_size, access_address, access_length}
 use Rattle.rules.specs.Statements.Reads as Read
@@ -30,13 +30,12 @@ use Rattle.rules.specs.Statements.Peripheral.Rows.{write_held, request_held, com
 use Rattle.rules.specs.Statements.FirstApplies.{all_sizes, later_rows}
 use Rattle.rules.proofs.Proofs.Fields.{by_posted, by_asked}
 use Rattle.rules.proofs.Proofs.Rows.{same_test}
-use Rattle.rules.specs.declared.PeripheralChange.{PeripheralChange}
 
 -- ---- the tests of credit and size, as the rows have them
 
-pub free_as : (t : Write) → pc_free t ≡ not (write_held t)
-free_as Empty = refl
-free_as (Held x) = refl
+pub free_as : (t : Option Posted) → pc_free t ≡ not (write_held t)
+free_as None = refl
+free_as (Some x) = refl
 
 pub idle_as : (np : Np) → np_free np ≡ not (request_held np)
 idle_as Free = refl
@@ -213,5 +212,5 @@ module _ (p : Peripheral) where
       passed 20 _ (named e f) (passed 21 0 (counted e (length d) t (eq-eqb _ _ (h ∙ ap (λ (u : Bool). pick u (answer_length q.kind q) 0) (sym g)))) refl)
   settle-number (P.fails {success = t} {bytes = d} {q = q} e f g h) =
       passed 20 _ (named e f) (passed 21 0 (counted e (length d) t (eq-eqb _ _ (h ∙ ap (λ (u : Bool). pick u (answer_length q.kind q) 0) (sym g)))) refl)
-  settle-number (P.no_take e) = taken 23 0 (ap (λ (t : Write). not (write_held t)) e) refl
-  settle-number (P.took e) = passed 23 0 (ap (λ (t : Write). not (write_held t)) e) refl
+  settle-number (P.no_take e) = taken 23 0 (ap (λ (t : Option Posted). not (write_held t)) e) refl
+  settle-number (P.took e) = passed 23 0 (ap (λ (t : Option Posted). not (write_held t)) e) refl

@@ -7,6 +7,7 @@ use Rattle.peripheral.specs.declared.Completion.{Completion}
 use Rattle.peripheral.specs.Sound.{sound_request}
 use Rattle.state.specs.Status.{status}
 use Rattle.state.specs.State.{State}
+use Rattle.rules.specs.Rules.Plan.{PeripheralChange}
 use Rattle.rules.specs.Rules.Peripheral as P₀
 use Rattle.rules.specs.Rules.Channel.{peripheral, put}
 use Rattle.rules.specs.Rules.Lift.{lift}
@@ -20,7 +21,6 @@ use Rattle.rules.specs.Rules.Fits.{PieceFits}
 use Rattle.rules.proofs.Proofs.Fields.{by_posted, by_asked}
 use Rattle.rules.proofs.Proofs.Peripheral.Fits.{piece-fits}
 use Rattle.rules.proofs.Proofs.Replies.{Bare, ShapeOf, with_body, bare, at}
-use Rattle.rules.specs.declared.PeripheralChange.{PeripheralChange}
 
 module _ (s : State) (reads : List ℕ) (enough : read_length ≤ length reads) where
   -- what the opcode is of a command of this kind

@@ -1,5 +1,5 @@
 -- Channel 0 of a sound state: after a command made a request or a write, an answer, a hand-over, a take, an edge, a reset.
-use Rattle.std.specs.Prelude.{ℕ, ◌^◌, ◌≤◌, ◌<◌, Bool, true, false, ◌&&◌, ◌||◌, List, ◌≡◌, refl}
+use Rattle.std.specs.Prelude.{ℕ, ◌^◌, ◌≤◌, ◌<◌, Bool, true, false, ◌&&◌, ◌||◌, List, ◌≡◌, refl, Option, Some, None}
 use Rattle.std.proofs.Common.{inl, inr, sym, ap, subst, mod-lt, arith, lit<, ltb-true, lt-ltb, le-leb, leb-true, eq-eqb}
 use Rattle.base.specs.Pick.{and_left, and_right, and_true}
 use Rattle.registers.specs.Registers.{payload_size, read_size, payload_legal, read_legal, reachable}
@@ -17,24 +17,22 @@ use Rattle.peripheral.specs.declared.Request.{Request}
 use Rattle.peripheral.specs.declared.Np.{Np}
 use Rattle.peripheral.specs.declared.Np.TheVariants.{Free, Waiting, Ready, Failed}
 use Rattle.peripheral.specs.declared.Posted.{Posted}
-use Rattle.peripheral.specs.declared.Write.{Write}
-use Rattle.peripheral.specs.declared.Write.TheVariants.{Empty, Held}
 use Rattle.peripheral.specs.declared.Peripheral.{Peripheral}
 use Rattle.peripheral.specs.Facts.{sound_of, sent_none, MadeMemoryRead, MadeIo, MadeIoRead, MadeIoWrite, handed-fits}
 use Rattle.peripheral.proofs.Facts.{waiting_request, handed-sound}
 use Rattle.peripheral.specs.Sound.{within, short_size, io_made, made_as_value, request_made, write_made, sound_request, sound_write, nothing_held, sound_peripheral, fits_request, fits_write, fits_peripheral}
+use Rattle.rules.specs.Rules.Plan.{PeripheralChange}
 use Rattle.rules.specs.Rules.Reset.{Reset, start, espi_reset, platform_reset}
 use Rattle.rules.specs.Rules.Peripheral as P₀
 use Rattle.rules.specs.Rules.Peripheral.{Act, posts, asks, gets, Board, request_of, bytes_of, size_for, holding, asking, with_request, emptied}
 use Rattle.rules.specs.Statements.Peripheral.{Did, write_held, write_large, posted, request_held, request_large, asked, none_ready, handed_over, Settled, look_done, no_look, no_such, miscounted, succeeds, fails, no_take, took}
 use Rattle.rules.proofs.Proofs.SoundBytes.{io_bytes_lem}
-use Rattle.rules.specs.declared.PeripheralChange.{PeripheralChange}
 
 pub record RequestOk (n : Np) : Type 0 where
   pub right : sound_request n ≡ true
   pub fit : fits_request n ≡ true
 
-pub record WriteOk (w : Write) : Type 0 where
+pub record WriteOk (w : Option Posted) : Type 0 where
   pub right : sound_write w ≡ true
   pub fit : fits_write w ≡ true
 
@@ -70,7 +68,7 @@ pub free_ok : RequestOk Free
 unfolding sound_request
 free_ok = record { right = refl; fit = refl }
 
-pub empty_ok : WriteOk Empty
+pub empty_ok : WriteOk None
 unfolding sound_write
 empty_ok = record { right = refl; fit = refl }
 
@@ -129,7 +127,7 @@ pub waiting_ok : (q : Request) → request_made q ≡ true → q.address < 2 ^ 6
 unfolding sound_request
 waiting_ok q m a = record { right = m; fit = lt-ltb _ _ a }
 
-pub held_ok : (w : Posted) → write_made w ≡ true → w.address < 2 ^ 64 → WriteOk (Held w)
+pub held_ok : (w : Posted) → write_made w ≡ true → w.address < 2 ^ 64 → WriteOk (Some w)
 unfolding sound_write
 held_ok w m a = record { right = m; fit = lt-ltb _ _ a }
 
@@ -140,7 +138,7 @@ or_second false a b e = and_right a b e
 -- ---- the channel with one queue changed; it is on, or the queue is emptied
 
 module _ {on : Bool} {p : Peripheral} (h : PeripheralOk on p) where
-  pub holding_ok : (A L P : ℕ) → on ≡ true → WriteOk (Held (record { address = A; length = L; payload = P })) → PeripheralOk on (holding p A L P)
+  pub holding_ok : (A L P : ℕ) → on ≡ true → WriteOk (Some (record { address = A; length = L; payload = P })) → PeripheralOk on (holding p A L P)
   holding_ok A L P e w = record { off = held_on _ e; request = h.request; write = w; serial = h.serial }
 
   pub asking_ok : (q : Request) → on ≡ true → RequestOk (Waiting q) → PeripheralOk on (asking p q)

@@ -1,5 +1,5 @@
 -- The test of channel 0 says its clauses of "Sound state", both ways.
-use Rattle.std.specs.Prelude.{ℕ, zero, suc, ◌+◌, ◌/◌, ◌%◌, ◌^◌, ◌<◌, Bool, true, false, ◌||◌, ◌≡◌, refl, eqb, ltb}
+use Rattle.std.specs.Prelude.{ℕ, zero, suc, ◌+◌, ◌/◌, ◌%◌, ◌^◌, ◌<◌, Bool, true, false, ◌||◌, ◌≡◌, refl, eqb, ltb, Option, Some, None}
 use Rattle.std.proofs.Common.{sym, ap, subst, ◌∙◌, arith, ltb-true, eq-eqb, lt-ltb, le-leb}
 use Rattle.std.proofs.Math.Nat.{mul-mod_left}
 use Rattle.base.specs.Pick.{and_left, and_right, and_true}
@@ -14,9 +14,8 @@ use Rattle.peripheral.specs.declared.Kind.TheVariants.{MemoryRead, IoRead, IoWri
 use Rattle.peripheral.specs.declared.Request.{Request}
 use Rattle.peripheral.specs.declared.Np.{Np}
 use Rattle.peripheral.specs.declared.Np.TheVariants.{Free, Waiting, Ready, Failed}
-use Rattle.peripheral.specs.declared.Write.{Write}
-use Rattle.peripheral.specs.declared.Write.TheVariants.{Empty, Held}
 use Rattle.peripheral.specs.declared.Peripheral.{Peripheral}
+use Rattle.peripheral.specs.declared.Posted.{Posted}
 use Rattle.peripheral.specs.Facts.{off_of, ReadyRequest, legal_payload, sent-write}
 use Rattle.peripheral.proofs.Facts.{ready_request, held-write, made_memory_read, made_io_read, made_io_write}
 use Rattle.peripheral.specs.Sound.{made_as_value, request_made, sent_right, sound_request, sound_write, nothing_held, sound_peripheral, fits_request, fits_write, fits_peripheral}
@@ -85,17 +84,17 @@ request_made_lem (Waiting q) e f = made q e f
 request_made_lem (Ready q sent) e f = made q (and_left (request_made q) _ e) f
 request_made_lem (Failed q) e f = made q e f
 
-write-made : (w : Write) → sound_write w ≡ true → fits_write w ≡ true → WriteMade w
+write-made : (w : Option Posted) → sound_write w ≡ true → fits_write w ≡ true → WriteMade w
 unfolding sound_write
-write-made Empty e f = tt
-write-made (Held w) e f =
+write-made None e f = tt
+write-made (Some w) e f =
     let m = held-write w e in
     record { payload = payload_code w.payload (and_left (payload_legal w.payload) _ e); address = ltb-true _ _ f; least = m.least; in_block = m.in_block }
 
-pub write_test : (w : Write) → WriteMade w → sound_write w ≡ true
+pub write_test : (w : Option Posted) → WriteMade w → sound_write w ≡ true
 unfolding sound_write
-write_test Empty m = refl
-write_test (Held w) m = and_true (code_payload _ m.payload) (and_true (le-leb _ _ m.least) (le-leb _ _ m.in_block))
+write_test None m = refl
+write_test (Some w) m = and_true (code_payload _ m.payload) (and_true (le-leb _ _ m.least) (le-leb _ _ m.in_block))
 
 -- ---- bytes sent
 
@@ -143,7 +142,7 @@ request_test_lem (Failed q) m b = made_test q m
 
 -- ---- the channel
 
-held_test : (on : Bool) (p : Peripheral) → (on ≡ false → p.request ≡ Free) → (on ≡ false → p.write ≡ Empty) → on || nothing_held p ≡ true
+held_test : (on : Bool) (p : Peripheral) → (on ≡ false → p.request ≡ Free) → (on ≡ false → p.write ≡ None) → on || nothing_held p ≡ true
 held_test true p r w = refl
 held_test false p r w = and_true (ap pc_free (w refl)) (ap np_free (r refl))
 

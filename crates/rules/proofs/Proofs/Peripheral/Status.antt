@@ -1,5 +1,5 @@
 -- Channel 0's bits of the status, from its rows.
-use Rattle.std.specs.Prelude.{ℕ, ◌-◌, ◌*◌, ◌/◌, ◌^◌, Bool, true, false, not, List, [], ◌∷◌, ◌≡◌, refl, eqb}
+use Rattle.std.specs.Prelude.{ℕ, ◌-◌, ◌*◌, ◌/◌, ◌^◌, Bool, true, false, not, List, [], ◌∷◌, ◌≡◌, refl, eqb, Option}
 use Rattle.std.proofs.Math.Bool.{and-false}
 use Rattle.std.proofs.Common.{ap, ◌∙◌, arith, pow_pos, eq-eqb, le-leb}
 use Rattle.base.specs.Pick.{pick}
@@ -8,8 +8,8 @@ use Rattle.crc.specs.Crc.{crc}
 use Rattle.registers.specs.Registers.{field, bits}
 use Rattle.peripheral.specs.Status.{pc_free, np_free, pc_avail}
 use Rattle.peripheral.specs.declared.Np.{Np}
-use Rattle.peripheral.specs.declared.Write.{Write}
 use Rattle.peripheral.specs.declared.Peripheral.{Peripheral}
+use Rattle.peripheral.specs.declared.Posted.{Posted}
 use Rattle.state.specs.Status.{status}
 use Rattle.state.specs.State.{State}
 use Rattle.state.specs.Facts.{sound_off}
@@ -105,7 +105,7 @@ module _ (w : World) (lent : List ℕ) (sound : Sound w.state) (by_rows : ByRows
   nothing_held_lem : is_enabled peripheral s.config ≡ false → (field (status s) 0 1 ≡ 1) × (field (status s) 1 1 ≡ 1)
   nothing_held_lem e =
       let h = sound_off s sound.is_sound (on_as peripheral s.config ∙ e) in
-      (at0 s ∙ ap (λ (t : Write). bit (not (write_held t))) h.write, at1 s ∙ ap (λ (t : Np). bit (not (request_held t))) h.request)
+      (at0 s ∙ ap (λ (t : Option Posted). bit (not (write_held t))) h.write, at1 s ∙ ap (λ (t : Np). bit (not (request_held t))) h.request)
 
   pub status-bits : Bits w lent
   status-bits = record { pc_avail = get_pc_lem; pc_free = pc_free_lem; np_free = np_free_lem; off = nothing_held_lem }

@@ -5,6 +5,7 @@ use Rattle.std.proofs.Math.Path.{refl, ap}
 use Rattle.std.proofs.Common.{sym, ◌∙◌}
 use Rattle.registers.specs.declared.Config.{Config}
 use Rattle.state.specs.Layout.{state_length, unpacked, holds}
+use Rattle.rules.specs.Rules.Plan.{PeripheralChange}
 use Rattle.rules.specs.Rules.Peripheral.{look, answer, take_write}
 use Rattle.rules.specs.Rules.Channel.{peripheral}
 use Rattle.rules.specs.Rules.Lift.{lift}
@@ -14,7 +15,6 @@ use Rattle.rules.specs.Statements.Rows.{first_of}
 use Rattle.rules.specs.Statements.FirstApplies.{look_rows, take_rows, answer_rows}
 use Rattle.rules.proofs.Proofs.Rows.{read_off}
 use Rattle.rules.proofs.Proofs.Peripheral.{look_is}
-use Rattle.rules.specs.declared.PeripheralChange.{PeripheralChange}
 use Rattle.rules.proofs.Proofs.WholeRows.{own}
 
 module _ (st : List ℕ) where

@@ -1,12 +1,11 @@
 -- P5 of the exported calls of channel 0.
-use Rattle.std.specs.Prelude.{ℕ, ◌≤◌, not, List, ◌≢◌, ◌≡◌, refl, ltb, length, drop}
+use Rattle.std.specs.Prelude.{ℕ, ◌≤◌, not, List, ◌≢◌, ◌≡◌, refl, ltb, length, drop, Option, Some, None}
 use Rattle.std.proofs.Common.{zero-le, le_refl}
 use Rattle.base.specs.Pick.{pick_ind}
 use Rattle.base.specs.Bytes.{over, over_none}
 use Rattle.peripheral.specs.declared.Np.{Np}
 use Rattle.peripheral.specs.declared.Np.TheVariants.{Free, Waiting, Ready, Failed}
-use Rattle.peripheral.specs.declared.Write.{Write}
-use Rattle.peripheral.specs.declared.Write.TheVariants.{Empty, Held}
+use Rattle.peripheral.specs.declared.Posted.{Posted}
 use Rattle.state.specs.Layout.{state_length, unpacked, holds}
 use Rattle.rules.specs.Rules.Peripheral as P
 use Rattle.rules.specs.Rules.Channel.{peripheral}
@@ -101,6 +100,6 @@ take-bytes st write report =
       at_store = past_over (P.take_report (unpacked st).peripheral.write) report take_length (by_write (unpacked st).peripheral.write);
     }
   where
-    by_write : (t : Write) → length (P.take_report t) ≤ take_length
-    by_write Empty = zero-le
-    by_write (Held x) = le_refl 10
+    by_write : (t : Option Posted) → length (P.take_report t) ≤ take_length
+    by_write None = zero-le
+    by_write (Some x) = le_refl 10

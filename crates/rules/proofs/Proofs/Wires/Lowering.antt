@@ -1,5 +1,5 @@
 -- The packet that lowers PLTRST#, by its bytes.
-use Rattle.std.specs.Prelude.{ℕ, ◌+◌, ◌-◌, ◌*◌, Bool, true, false, ◌&&◌, List, ◌≡◌, refl, eqb, get_or}
+use Rattle.std.specs.Prelude.{ℕ, ◌+◌, ◌-◌, ◌*◌, Bool, true, false, ◌&&◌, List, ◌≡◌, refl, eqb, get_or, None}
 use Rattle.std.proofs.Common.{true≢false, ap, sym, ◌∙◌, eq-eqb}
 use Rattle.base.specs.Bytes.{bit}
 use Rattle.base.specs.Pick.{pick, and_true}
@@ -23,7 +23,6 @@ use Rattle.rules.specs.Statements.Fields.{byte, pairs}
 use Rattle.rules.specs.Statements.Reads as R
 use Rattle.rules.proofs.Proofs.Events.{no_lowering}
 use Rattle.rules.specs.declared.Body.TheVariants as B
-use Rattle.rules.specs.declared.Kept.TheVariants as K
 use Rattle.rules.specs.Rules.Plan.{WiresChange}
 
 pub record Lowered (s : State) (b : List ℕ) (v : AllWires) : Type 0 where
@@ -44,7 +43,7 @@ status-put s ps =
 pub lowers_did : {c : Config} {w : AllWires} {a : W₀.Act} {x : WiresChange} → W.Lowers c w a x → W.Did c w a x
 lowers_did (W.lowered e f high low) = W.put e f
 
-pub lowers_accepts : {c : Config} {w : AllWires} {a : W₀.Act} {x : WiresChange} → W.Lowers c w a x → x.out ≡ accept B.Nothing K.Nothing
+pub lowers_accepts : {c : Config} {w : AllWires} {a : W₀.Act} {x : WiresChange} → W.Lowers c w a x → x.out ≡ accept B.Nothing None
 lowers_accepts (W.lowered e f high low) = refl
 
 module _ (s : State) (b : List ℕ) where

@@ -1,6 +1,6 @@
 -- P11, channel 0's rows: for every accepted command of it and call of the board its part and its stores after, in full, from those before; and
 -- what resets and an edge of its enable bit make of its part (01, Requests, answers, pieces).
-use Rattle.std.specs.Prelude.{ℕ, ◌+◌, ◌-◌, ◌%◌, ◌^◌, min, Bool, true, false, List, ◌++◌, eqb, length, drop}
+use Rattle.std.specs.Prelude.{ℕ, ◌+◌, ◌-◌, ◌%◌, ◌^◌, min, Bool, true, false, List, ◌++◌, eqb, length, drop, Some, None}
 use Rattle.base.specs.Pick.{pick}
 use Rattle.registers.specs.declared.Config.{Config}
 use Rattle.peripheral.specs.declared.Kind.{Kind}
@@ -8,7 +8,6 @@ use Rattle.peripheral.specs.declared.Kind.TheVariants.{MemoryRead, IoRead, IoWri
 use Rattle.peripheral.specs.declared.Request.{Request}
 use Rattle.peripheral.specs.declared.Np.{Np}
 use Rattle.peripheral.specs.declared.Np.TheVariants.{Free, Waiting, Ready, Failed}
-use Rattle.peripheral.specs.declared.Write.TheVariants.{Empty, Held}
 use Rattle.peripheral.specs.declared.Peripheral.{Peripheral}
 use Rattle.rules.specs.Rules.Reset.{Reset, start, espi_reset, platform_reset}
 use Rattle.rules.specs.Rules.Peripheral.{Board, look, answer, take_write}
@@ -21,7 +20,7 @@ use Rattle.rules.specs.Statements.Sizes.{payload_of, read_size_of}
 abbrev pub after_posted : Config → Peripheral → List ℕ → Peripheral
 after_posted c p b =
     record {
-      write = Held (record { address = access_address b; length = access_length b; payload = payload_of c });
+      write = Some (record { address = access_address b; length = access_length b; payload = payload_of c });
       request = p.request;
       serial = p.serial;
     }
@@ -94,7 +93,7 @@ answered_with failed (Failed q) = Failed q
 abbrev pub board_part : Peripheral → Board → Peripheral
 board_part p (look report) = p
 board_part p (answer serial success bytes) = request_now p (answered_with (eqb success 0) p.request)
-board_part p (take_write report) = record { write = Empty; request = p.request; serial = p.serial }
+board_part p (take_write report) = record { write = None; request = p.request; serial = p.serial }
 
 -- "Success copies exactly L bytes to the start of the read store" (01, Requests, answers, pieces)
 abbrev pub board_read : Board → List ℕ → List ℕ
@@ -106,11 +105,11 @@ board_read (take_write report) store = store
 
 -- "drop held write, request and completions"; "No reset touches it", the serial (01, Requests, answers, pieces)
 abbrev pub queues_dropped : Peripheral → Peripheral
-queues_dropped p = record { write = Empty; request = Free; serial = p.serial }
+queues_dropped p = record { write = None; request = Free; serial = p.serial }
 
 -- "only start sets it [the serial], to 0" (01, Requests, answers, pieces)
 abbrev pub reset_part : Reset → Peripheral → Peripheral
-reset_part start p = record { write = Empty; request = Free; serial = 0 }
+reset_part start p = record { write = None; request = Free; serial = 0 }
 reset_part espi_reset p = queues_dropped p
 reset_part platform_reset p = queues_dropped p
 

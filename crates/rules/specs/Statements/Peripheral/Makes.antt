@@ -1,12 +1,10 @@
 -- 01, Sound state: "a held request or write is one that a command makes under the sizes recorded with it". The clauses of SoundMeans hold of
 -- exactly those that an accepted command of some sound state makes.
-use Rattle.std.specs.Prelude.{ℕ, ◌^◌, ◌<◌, true, List, ◌↔◌, ◌≡◌}
+use Rattle.std.specs.Prelude.{ℕ, ◌^◌, ◌<◌, true, List, ◌↔◌, ◌≡◌, Option, Some, None}
 use Rattle.peripheral.specs.declared.Request.{Request}
 use Rattle.peripheral.specs.declared.Np.{Np}
 use Rattle.peripheral.specs.declared.Np.TheVariants.{Free, Waiting, Ready, Failed}
 use Rattle.peripheral.specs.declared.Posted.{Posted}
-use Rattle.peripheral.specs.declared.Write.{Write}
-use Rattle.peripheral.specs.declared.Write.TheVariants.{Empty, Held}
 use Rattle.state.specs.State.{State}
 use Rattle.state.specs.Sound.{Sound}
 use Rattle.rules.specs.Rules.Step.{World, exchange, step, are_bytes}
@@ -43,7 +41,7 @@ pub record MakesWrite (t : Posted) : Type 0 where
   pub by : Accepting
   pub posts : is_posted (byte by.command 0) ≡ true
   pub payload : t.payload ≡ payload_of by.world.state.config
-  pub holds : held_write (after_it by) ≡ Held t
+  pub holds : held_write (after_it by) ≡ Some t
 
 -- so of what is held, in any phase, and the last serial given
 -- ("the request's serial the last given", 01, Sound state; "until its last completion is sent", 01, Requests, answers, pieces)
@@ -54,9 +52,9 @@ RequestBy (Ready q sent) n = MakesRequest q n
 RequestBy (Failed q) n = MakesRequest q n
 
 -- .. and of a held write (01, Sound state: "a held request or write")
-abbrev pub WriteBy : Write → Type 0
-WriteBy Empty = Unit {0}
-WriteBy (Held t) = MakesWrite t
+abbrev pub WriteBy : Option Posted → Type 0
+WriteBy None = Unit {0}
+WriteBy (Some t) = MakesWrite t
 
 -- "a held request or write is one that a command makes under the sizes recorded with it" (01, Sound state): exactly those, and none else
 pub record Makes : Type 0 where

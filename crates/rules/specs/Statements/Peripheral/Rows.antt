@@ -1,14 +1,13 @@
 -- Channel 0's rows, in document 01's order and words: credit (1), size (1), and its board calls' own (20, 21, 23).
-use Rattle.std.specs.Prelude.{ℕ, ◌+◌, ◌-◌, ◌/◌, Bool, true, false, ◌&&◌, ◌||◌, not, List, [], ◌∷◌, eqb, leb, length}
+use Rattle.std.specs.Prelude.{ℕ, ◌+◌, ◌-◌, ◌/◌, Bool, true, false, ◌&&◌, ◌||◌, not, List, [], ◌∷◌, eqb, leb, length, Option, Some, None}
 use Rattle.base.specs.Pick.{pick}
 use Rattle.registers.specs.declared.Config.{Config}
 use Rattle.peripheral.specs.declared.Kind.{Kind}
 use Rattle.peripheral.specs.declared.Kind.TheVariants.{MemoryRead, IoRead, IoWrite}
 use Rattle.peripheral.specs.declared.Np.{Np}
 use Rattle.peripheral.specs.declared.Np.TheVariants.{Free, Waiting, Ready, Failed}
-use Rattle.peripheral.specs.declared.Write.{Write}
-use Rattle.peripheral.specs.declared.Write.TheVariants.{Empty, Held}
 use Rattle.peripheral.specs.declared.Peripheral.{Peripheral}
+use Rattle.peripheral.specs.declared.Posted.{Posted}
 use Rattle.rules.specs.Rules.Peripheral.{Board, look, answer, take_write}
 use Rattle.rules.specs.Statements.Fields.{byte, is_posted, is_non_posted, is_read, is_io_write, access_address, access_length}
 use Rattle.rules.specs.Statements.Peripheral.{unanswered}
@@ -18,9 +17,9 @@ use Rattle.rules.specs.Statements.Sizes.{payload_of, read_size_of}
 -- ---- credit
 
 -- "posted write while one is held" (01, Replies and refusals)
-abbrev pub write_held : Write → Bool
-write_held Empty = false
-write_held (Held w) = true
+abbrev pub write_held : Option Posted → Bool
+write_held None = false
+write_held (Some w) = true
 
 -- "non-posted while one is held": in each phase, "until its last completion is sent" (01, Replies and refusals; Requests, answers, pieces)
 abbrev pub request_held : Np → Bool

@@ -1,6 +1,6 @@
 -- Channel 0's clauses of "Sound state" (01, Wires, last paragraph). "the request's serial the last given" holds by the state's shape: the one
 -- serial of the channel is the held request's.
-use Rattle.std.specs.Prelude.{ℕ, ◌%◌, ◌+◌, ◌^◌, ◌≤◌, ◌<◌, Bool, false, ◌≡◌}
+use Rattle.std.specs.Prelude.{ℕ, ◌%◌, ◌+◌, ◌^◌, ◌≤◌, ◌<◌, Bool, false, ◌≡◌, Option, Some, None}
 use Rattle.registers.specs.Registers.{size_of}
 use Rattle.pieces.specs.Pieces.{blocks, edge}
 use Rattle.peripheral.specs.declared.Kind.{Kind}
@@ -9,8 +9,6 @@ use Rattle.peripheral.specs.declared.Request.{Request}
 use Rattle.peripheral.specs.declared.Np.{Np}
 use Rattle.peripheral.specs.declared.Np.TheVariants.{Free, Waiting, Ready, Failed}
 use Rattle.peripheral.specs.declared.Posted.{Posted}
-use Rattle.peripheral.specs.declared.Write.{Write}
-use Rattle.peripheral.specs.declared.Write.TheVariants.{Empty, Held}
 use Rattle.peripheral.specs.Facts.{MadeMemoryRead, MadeIoRead, MadeIoWrite}
 use Rattle.peripheral.specs.declared.Peripheral.{Peripheral}
 
@@ -49,9 +47,9 @@ RequestMade (Ready q sent) = Made q
 RequestMade (Failed q) = Made q
 
 -- .. "or write" (01, Sound state)
-abbrev pub WriteMade : Write → Type 0
-WriteMade Empty = Unit {0}
-WriteMade (Held w) = PostedMade w
+abbrev pub WriteMade : Option Posted → Type 0
+WriteMade None = Unit {0}
+WriteMade (Some w) = PostedMade w
 
 -- ---- "bytes sent are 0 unless a read was answered with success, and end at a piece's edge, short of the whole"
 
@@ -82,4 +80,4 @@ pub record Clauses (on : Bool) (p : Peripheral) : Type 0 where
   pub sent : BytesSent p.request
   -- "no queue is held while channel 0 is off"
   pub no_request_lem : on ≡ false → p.request ≡ Free
-  pub no_write_lem : on ≡ false → p.write ≡ Empty
+  pub no_write_lem : on ≡ false → p.write ≡ None

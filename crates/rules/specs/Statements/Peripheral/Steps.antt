@@ -1,6 +1,6 @@
 -- P13, P15 and P17 of `step`: what one accepted GET_PC hands over in any sound state, whatever was sent before, and what the board's look and
 -- take yield of what is held (01, Requests, answers, pieces). Over runs: Demand3 and PostedWrites.
-use Rattle.std.specs.Prelude.{ℕ, suc, ◌<◌, List, ◌∷◌, ◌++◌, ◌≡◌}
+use Rattle.std.specs.Prelude.{ℕ, suc, ◌<◌, List, ◌∷◌, ◌++◌, ◌≡◌, Some, None}
 use Rattle.base.specs.Bytes.{low2, low4, low8}
 use Rattle.pieces.specs.Pieces.{blocks, edge}
 use Rattle.peripheral.specs.Layout.{kind_number}
@@ -10,7 +10,6 @@ use Rattle.peripheral.specs.declared.Request.{Request}
 use Rattle.peripheral.specs.declared.Np.{Np}
 use Rattle.peripheral.specs.declared.Np.TheVariants.{Free, Waiting, Ready, Failed}
 use Rattle.peripheral.specs.declared.Posted.{Posted}
-use Rattle.peripheral.specs.declared.Write.TheVariants.{Empty, Held}
 use Rattle.state.specs.Status.{status}
 use Rattle.state.specs.Sound.{Sound}
 use Rattle.rules.specs.Rules.Peripheral.{look}
@@ -74,9 +73,9 @@ pub record Looked (w : World) (o : Outcome) : Type 0 where
 -- "the take yields its address and length, frees the place and leaves the store": 8 and 2 bytes, low byte first
 pub record Took (w : World) (o : Outcome) : Type 0 where
   pub write : Posted
-  pub was : held_write w ≡ Held write
+  pub was : held_write w ≡ Some write
   pub report : o.report ≡ low8 write.address ++ low2 write.length
-  pub free : held_write o.next ≡ Empty
+  pub free : held_write o.next ≡ None
   pub store : o.next.write ≡ w.write
 
 -- ---- the statements: of an accepted call

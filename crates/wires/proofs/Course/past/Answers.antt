@@ -8,4 +8,5 @@ returns-then-index-gt7 c = let a = c.args in past_over a.self a.index a.byte c.i
 pub returns : goal.returns
 returns c =
     let a = c.args in
-    past_as a.self _ a.index a.byte (omega (arith, c.if-index-gt7.false)) (omega arith) c.counted.ensures
+    past_as a.self _ a.index a.byte (omega (arith, c.if-index-gt7.false)) (omega arith)
+    (rw (c.from-at.ensures, c.from.ensures, c.from-2.ensures) at c.counted.ensures)

@@ -1,4 +1,4 @@
-use Prim.Native.Nat.{◌-◌, ◌≤◌, ◌<◌}
+use Prim.Native.Nat.{◌<◌}
 use mathlib.Core.Path.{◌≡◌}
 use lib.Seq.{paste}
 use Rattle.wires.specs.Groups.{remarked}
@@ -6,8 +6,5 @@ use Rattle.wires.proofs.Wires.remarked.Given as goal
 
 abbrev pub invariant-loop-i : goal.invariant-loop-i
 invariant-loop-i l =
-    (l.i ≤ 6) × (l.next.level ≡ l.self.level) × (l.next.pending ≡ paste l.self.pending 0 (remarked l.on l.self l.place).pending l.i)
+    (l.next.level ≡ l.self.level) × (l.next.pending ≡ paste l.self.pending 0 (remarked l.on l.self l.place).pending l.i)
     × (0 < l.i → l.next.place ≡ l.place)
-
-abbrev pub decreases-loop-i : goal.decreases-loop-i
-decreases-loop-i l = 6 - l.i

@@ -2,9 +2,9 @@ use mathlib.Core.Bool.{true}
 use mathlib.Core.List.{List}
 use Prim.Native.Nat.{ℕ}
 use mathlib.Core.Path.{ap, ◌∙◌}
-use native.Mathlib.Omega.{arith}
 use borrow.Author.Tests.{ltb-true}
 use Rattle.wires.specs.LineCode.{bit_put, edge-put}
+use borrow.Author.Rules.{rules}
 use Rattle.wires.proofs.lines.pulse_line.Goals as goal
 
 pub returns : goal.returns
@@ -12,4 +12,4 @@ returns c =
     let a = c.args in
     c.put_bit-2.ensures
     ∙ ap (λ (l : List ℕ). bit_put 142 l a.line true) c.put_bit.ensures
-    ∙ edge-put a.b.now c.requires.0 (λ k. omega (arith, c.slice_known-1.given k)) a.line (ltb-true _ _ c.requires.1)
+    ∙ edge-put a.b.now c.requires.0 (search rules) a.line (ltb-true _ _ c.requires.1)

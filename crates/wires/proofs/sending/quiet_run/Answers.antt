@@ -1,5 +1,5 @@
 use mathlib.Core.Path.{sym, ◌∙◌}
-use Rattle.wires.specs.Going.{quiet_1, quiet_8, quiet_64}
+use Rattle.wires.specs.Going.{quiet_8, quiet_64}
 use Rattle.wires.proofs.sending.quiet_run.Goals as goal
 
 pub returns-then-empty_word : goal.returns-then-empty_word
@@ -11,11 +11,3 @@ pub returns-then-empty_byte : goal.returns-then-empty_byte
 returns-then-empty_byte c =
     let a = c.args in
     quiet_8 a.b.now a.line a.left c.requires.1 c.if-left-ge8.true (sym c.empty_byte.ensures ∙ c.if-empty_byte.true)
-
-pub returns-else-empty_byte : goal.returns-else-empty_byte
-returns-else-empty_byte c =
-    quiet_1 c.args.b.now c.args.line c.args.left c.requires.1 c.requires.2 c.requires.3
-
-pub returns-else-left-ge8 : goal.returns-else-left-ge8
-returns-else-left-ge8 c =
-    quiet_1 c.args.b.now c.args.line c.args.left c.requires.1 c.requires.2 c.requires.3

@@ -1,4 +1,0 @@
-use Rattle.command.proofs.cycle_listed.Goals as goal
-
-pub returns-in-Types : goal.returns-in-Types
-returns-in-Types c = simp (c.in-Types.is, c.byte_at-t.ensures)

@@ -1,4 +1,0 @@
-use Rattle.peripheral.proofs.Peripheral.unpack.Goals as goal
-
-pub returns : goal.returns
-returns c = cc

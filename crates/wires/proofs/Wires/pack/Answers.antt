@@ -1,4 +1,0 @@
-use Rattle.wires.proofs.Wires.pack.Goals as goal
-
-pub returns : goal.returns
-returns c = rw c.bytes-bytes.ensures at c.put_at.ensures
