@@ -89,6 +89,15 @@ pub some_refused : {n : ℕ} (d : Result Command Refusal) → n ≡ number_in d 
 some_refused (Ok c) e h = absurd (h e)
 some_refused (Err z) e h = (z, sym e, refl)
 
+-- .. and 0 is none's
+pub no_number : (d : Result Command Refusal) → number_in d ≡ 0 → verdict d ≡ Ok tt
+no_number (Ok c) e = refl
+no_number (Err LengthWrong) e = absurd (omega arith)
+no_number (Err OpcodeUnknown) e = absurd (omega arith)
+no_number (Err ChannelDisabled) e = absurd (omega arith)
+no_number (Err CycleUnlisted) e = absurd (omega arith)
+no_number (Err CrcWrong) e = absurd (omega arith)
+
 abbrev pub row_in : Option Row → Row → Row
 row_in (Some r) q = r
 row_in None q = q
