@@ -22,47 +22,51 @@ impl Line {
     fn call(&mut self, name: &str, word: u32) {
         let number = number_in(word);
         self.text(name);
-        self.put(b' ');
-        if number < 10 {
-            self.put(b' ');
-        }
+        self.text(if number < 10 { "  " } else { " " });
         self.decimal(number);
     }
 
-    fn put(&mut self, byte: u8) {
-        if self.size < LONGEST {
-            self.bytes[self.size] = byte;
-            self.size += 1;
+    // As many of the bytes as have room.
+    fn put(&mut self, bytes: &[u8]) {
+        let room = &mut self.bytes[self.size..];
+        if room.len() < bytes.len() {
+            let n = room.len();
+            room.copy_from_slice(&bytes[..n]);
+            self.size = LONGEST;
+            return;
         }
+        room[..bytes.len()].copy_from_slice(bytes);
+        self.size += bytes.len();
     }
 
     fn text(&mut self, text: &str) {
-        self.words(text.as_bytes());
-    }
-
-    fn words(&mut self, words: &[u8]) {
-        for &byte in words {
-            self.put(byte);
-        }
+        self.put(text.as_bytes());
     }
 
     // Bytes in hex, each after a space.
     fn hex(&mut self, bytes: &[u8]) {
         for &byte in bytes {
-            self.put(b' ');
-            self.put(DIGITS[usize::from(byte / 16)]);
-            self.put(DIGITS[usize::from(byte % 16)]);
+            let high = DIGITS[usize::from(byte / 16)];
+            let low = DIGITS[usize::from(byte % 16)];
+            self.put(&[b' ', high, low]);
         }
     }
 
     // A number below 10,000; of a larger one the last four digits.
     fn decimal(&mut self, number: u32) {
-        for unit in [1000, 100, 10] {
-            if unit <= number {
-                self.put(DIGITS[(number / unit % 10) as usize]);
-            }
-        }
-        self.put(DIGITS[(number % 10) as usize]);
+        let digits = [
+            digit(number / 1000),
+            digit(number / 100),
+            digit(number / 10),
+            digit(number),
+        ];
+        let zeros = match number {
+            0..=9 => 3,
+            10..=99 => 2,
+            100..=999 => 1,
+            _ => 0,
+        };
+        self.put(&digits[zeros..]);
     }
 
     fn wire(&mut self, index: u32, bit: u32) {
@@ -71,6 +75,11 @@ impl Line {
         self.text(", bit ");
         self.decimal(bit);
     }
+}
+
+// The last decimal digit.
+fn digit(number: u32) -> u8 {
+    DIGITS[(number % 10) as usize]
 }
 
 // A call's number, and what stands above it in the word: a reply's length, or a level.
@@ -89,7 +98,7 @@ fn first(bytes: &[u8], n: usize) -> &[u8] {
 
 // Ends the line and writes it; the next one begins.
 fn finish(line: &mut Line, rt: &impl Print) -> io::Result<()> {
-    line.put(b'\n');
+    line.put(b"\n");
     let size = line.size;
     line.size = 0;
     io::writer(rt).write_all(&line.bytes[..size])
@@ -99,7 +108,7 @@ fn finish(line: &mut Line, rt: &impl Print) -> io::Result<()> {
 
 // A line of the script: any bytes.
 pub fn title(line: &mut Line, rt: &impl Print, words: &[u8]) -> io::Result<()> {
-    line.words(words);
+    line.put(words);
     finish(line, rt)
 }
 
@@ -112,7 +121,7 @@ pub fn exchanged(
     reply: &[u8],
 ) -> io::Result<()> {
     line.call("exchange", word);
-    line.put(b' ');
+    line.put(b" ");
     line.hex(command);
     line.text(" ->");
     match value_in(word) as usize {
