@@ -32,44 +32,49 @@ Function = namedtuple("Function", "public exported contract body")
 
 FUNCTION = re.compile(r'^(\s*)(pub |pub\(crate\) )?(extern "C" )?fn (\w+)')
 
-IMPL = re.compile(r"^impl(?:<.*?>)? (?:(?P<trait>\w+)(?:<(?P<of>\w+)>)? for )?(?P<type>\w+)")
+IMPL = re.compile(r"^impl(?:<.*?>)? (?:(?:\w+::)*(?P<trait>\w+)(?:<(?P<of>\w+)>)? for )?(?P<type>\w+)")
 
 
 def capital(name):
     return name[:1].upper() + name[1:]
 
 
-def owned(line):
-    """How the prover names what a line opens, and whether what stands in it is public without `pub`: an `impl` of a trait, or a public trait."""
+def owned(line, private):
+    """How the prover names what a line opens, and whether what stands in it is public without `pub`: a trait's `impl` for a type that is not one of the
+    module's private ones, or a public trait."""
     impl = IMPL.match(line)
     if impl:
         of, trait = capital(impl["of"] or ""), impl["trait"] or ""
-        return (capital(impl["type"]) + trait + of if trait else impl["type"]) + "::", bool(trait)
+        return (capital(impl["type"]) + trait + of if trait else impl["type"]) + "::", bool(trait) and impl["type"] not in private
     trait = re.match(r"^(pub )?trait (\w+)", line)
     return (trait[2] + "::", bool(trait[1])) if trait else None
 
 
 def functions(path):
-    """A method of a trait's `impl` promises what the ghost members above it say: that is its ensures. A method without a body is its trait's to promise."""
+    """A method of a trait's `impl` promises what the ghost members above it say: that is its ensures, and no function's behind the `impl`. A method without a
+    body is its trait's to promise."""
     module = os.path.basename(path)[: -len(".rt")]
     prefix = "" if module == "lib" else module + "::"
-    found, owner, shown, ghosts, lines = {}, "", False, [], read(path).split("\n")
+    text = read(path)
+    private = set(re.findall(r"^(?:struct|enum) (\w+)", text, re.M))
+    found, owner, shown, ghosts, lines = {}, "", False, [], text.split("\n")
     for at, line in enumerate(lines):
-        opened = owned(line)
+        opened = owned(line, private)
         if opened:
             (owner, shown), ghosts = opened, []
         elif line.startswith("}"):
-            owner, shown = "", False
+            owner, shown, ghosts = "", False, []
         ghost = re.match(r"^    ghost (\w+) = \{ (.*) \};$", line)
         if ghost and shown:
             ghosts.append(ghost[2])
         head = FUNCTION.match(line)
         if not head:
             continue
-        begin = next(k for k in range(at, len(lines)) if lines[k].rstrip().endswith(("{", ";"))) + 1
-        if lines[begin - 1].rstrip().endswith(";"):
+        begin = next(k for k in range(at, len(lines)) if lines[k].rstrip().endswith(("{", "{}", ";"))) + 1
+        opens = lines[begin - 1].rstrip()
+        if opens.endswith(";"):
             continue
-        end = next(k for k in range(begin, len(lines)) if lines[k].startswith(head.group(1) + "}"))
+        end = begin if opens.endswith("{}") else next(k for k in range(begin, len(lines)) if lines[k].startswith(head.group(1) + "}"))
         contract, body = "\n".join(lines[at:begin]), "\n".join(lines[begin:end])
         if ghosts:
             contract = contract.rstrip("{") + "\n    ensures { " + " × ".join(ghosts) + " }\n    {"

@@ -1,42 +1,85 @@
 // One line of text for each call: made whole, then written.
-// Stays: each function makes a line, writes its words into it and ends it; what differs is the words, which `write!` has to see.
-use std::alloc::AllocError;
-use std::fmt;
+ghost use Rattle.std.specs.Prelude.{◌≤◌};
+
 use std::io::{self, Write};
 
-// A line of text is cut behind so many bytes, its end too: room for the longest reply, 263 bytes at three characters each, and for its command.
+// Room for the longest reply, 263 bytes at three characters each, and for its command.
 const LONGEST: usize = 1024;
 
 const DIGITS: [u8; 16] = *b"0123456789ABCDEF";
 
-// A line with room for the longest.
-fn empty(rt: &impl AllocGlobal) -> Result<Vec<u8>, AllocError> {
-    Vec::with_capacity(rt.alloc(), LONGEST)
+// A line of text, its first so many bytes; empty once it is written. What has no room, its end too, is cut off.
+// Stays: words, bytes and numbers are put into it here. With `write!` a call of the board took more than a quarter more time (docs/DESIGN-PASS.md).
+#[derive(Drop)]
+pub struct Line {
+    pub bytes: [u8; 1024],
+    pub size: usize,
+    ghost in_range: { size ≤ 1024 },
 }
 
-// Bytes in hex, each after a space.
-// Stays digit by digit: with `write!` this program takes 5.7 million instructions for its script, with this 1.8; the old form took 1.6. No bar holds them.
-fn hex(line: &mut Vec<u8>, bytes: &[u8]) -> Result<(), AllocError> {
-    for &byte in bytes {
-        let high = DIGITS[usize::from(byte / 16)];
-        let low = DIGITS[usize::from(byte % 16)];
-        line.extend_from_slice(&[b' ', high, low])?;
+impl Line {
+    // A call's name and number, the number in two places.
+    fn call(&mut self, name: &str, word: u32) {
+        let number = number_in(word);
+        self.text(name);
+        self.text(if number < 10 { "  " } else { " " });
+        self.decimal(number);
     }
-    Ok(())
-}
 
-// A number below 10,000; of a larger one the last four digits.
-#[derive(Clone, Copy)]
-struct Decimal(u32);
-
-impl fmt::Display for Decimal {
-    fn fmt<W: fmt::Write>(&self, f: &mut fmt::Formatter<W>) -> fmt::Result {
-        let number = self.0;
-        if number < 10000 {
-            return write!(f, "{number}");
+    // As many of the bytes as have room.
+    fn put(&mut self, bytes: &[u8]) {
+        let room = &mut self.bytes[self.size..];
+        if room.len() < bytes.len() {
+            let n = room.len();
+            room.copy_from_slice(&bytes[..n]);
+            self.size = LONGEST;
+            return;
         }
-        write!(f, "{:04}", number % 10000)
+        room[..bytes.len()].copy_from_slice(bytes);
+        self.size += bytes.len();
     }
+
+    fn text(&mut self, text: &str) {
+        self.put(text.as_bytes());
+    }
+
+    // Bytes in hex, each after a space.
+    fn hex(&mut self, bytes: &[u8]) {
+        for &byte in bytes {
+            let high = DIGITS[usize::from(byte / 16)];
+            let low = DIGITS[usize::from(byte % 16)];
+            self.put(&[b' ', high, low]);
+        }
+    }
+
+    // A number below 10,000; of a larger one the last four digits.
+    fn decimal(&mut self, number: u32) {
+        let digits = [
+            digit(number / 1000),
+            digit(number / 100),
+            digit(number / 10),
+            digit(number),
+        ];
+        let zeros = match number {
+            0..=9 => 3,
+            10..=99 => 2,
+            100..=999 => 1,
+            _ => 0,
+        };
+        self.put(&digits[zeros..]);
+    }
+
+    fn wire(&mut self, index: u32, bit: u32) {
+        self.text("  index ");
+        self.decimal(index);
+        self.text(", bit ");
+        self.decimal(bit);
+    }
+}
+
+// The last decimal digit.
+fn digit(number: u32) -> u8 {
+    DIGITS[(number % 10) as usize]
 }
 
 // A call's number, and what stands above it in the word: a reply's length, or a level.
@@ -53,154 +96,160 @@ fn first(bytes: &[u8], n: usize) -> &[u8] {
     &bytes[..n.min(bytes.len())]
 }
 
-// Ends the line, cuts and writes it.
-fn finish(rt: &impl Print, mut line: Vec<u8>) -> io::Result<()> {
-    line.push(b'\n')?;
-    line.truncate(LONGEST);
-    io::writer(rt).write_all(&line)
+// Ends the line and writes it; the next one begins.
+fn finish(line: &mut Line, rt: &impl Print) -> io::Result<()> {
+    line.put(b"\n");
+    let size = line.size;
+    line.size = 0;
+    io::writer(rt).write_all(&line.bytes[..size])
 }
 
+// ---- a line for each call
+
 // A line of the script: any bytes.
-pub fn title(rt: &(impl Print + AllocGlobal), words: &[u8]) -> io::Result<()> {
-    let mut line = empty(rt)?;
-    line.extend_from_slice(words)?;
-    finish(rt, line)
+pub fn title(line: &mut Line, rt: &impl Print, words: &[u8]) -> io::Result<()> {
+    line.put(words);
+    finish(line, rt)
 }
 
 // Command and reply, or that the bus is not driven.
 pub fn exchanged(
-    rt: &(impl Print + AllocGlobal),
+    line: &mut Line,
+    rt: &impl Print,
     command: &[u8],
     word: u32,
     reply: &[u8],
 ) -> io::Result<()> {
-    let mut line = empty(rt)?;
-    write!(line, "exchange {:>2} ", number_in(word))?;
-    hex(&mut line, command)?;
-    write!(line, " ->")?;
+    line.call("exchange", word);
+    line.put(b" ");
+    line.hex(command);
+    line.text(" ->");
     match value_in(word) as usize {
-        0 => write!(line, " no reply")?,
-        length => hex(&mut line, first(reply, length))?,
+        0 => line.text(" no reply"),
+        length => line.hex(first(reply, length)),
     }
-    finish(rt, line)
+    finish(line, rt)
 }
 
 // A call with no result but its number.
-pub fn done(rt: &(impl Print + AllocGlobal), name: &str, word: u32) -> io::Result<()> {
-    let mut line = empty(rt)?;
-    write!(line, "{name} {:>2}", number_in(word))?;
-    finish(rt, line)
+pub fn done(line: &mut Line, rt: &impl Print, name: &str, word: u32) -> io::Result<()> {
+    line.call(name, word);
+    finish(line, rt)
 }
 
 // A call with a report, which stands only where the number is 0.
 pub fn reported(
-    rt: &(impl Print + AllocGlobal),
+    line: &mut Line,
+    rt: &impl Print,
     name: &str,
     word: u32,
     report: &[u8],
 ) -> io::Result<()> {
-    let mut line = empty(rt)?;
-    write!(line, "{name} {:>2}", number_in(word))?;
+    line.call(name, word);
     if word == 0 {
-        write!(line, "  ->")?;
-        hex(&mut line, report)?;
+        line.text("  ->");
+        line.hex(report);
     }
-    finish(rt, line)
+    finish(line, rt)
 }
 
 // Bytes of the write store.
-pub fn stored(rt: &(impl Print + AllocGlobal), bytes: &[u8]) -> io::Result<()> {
-    let mut line = empty(rt)?;
-    write!(line, "  write store")?;
-    hex(&mut line, bytes)?;
-    finish(rt, line)
+pub fn stored(line: &mut Line, rt: &impl Print, bytes: &[u8]) -> io::Result<()> {
+    line.text("  write store");
+    line.hex(bytes);
+    finish(line, rt)
 }
 
 pub fn answered(
-    rt: &(impl Print + AllocGlobal),
+    line: &mut Line,
+    rt: &impl Print,
     word: u32,
     serial: u32,
     success: u32,
     count: usize,
 ) -> io::Result<()> {
-    let mut line = empty(rt)?;
-    write!(
-        line,
-        "answer {:>2}  serial {serial}, success {success}, bytes {count}",
-        number_in(word)
-    )?;
-    finish(rt, line)
+    line.call("answer", word);
+    line.text("  serial ");
+    line.decimal(serial);
+    line.text(", success ");
+    line.decimal(success);
+    line.text(", bytes ");
+    line.decimal((count % 10000) as u32);
+    finish(line, rt)
 }
 
 pub fn wire_set(
-    rt: &(impl Print + AllocGlobal),
+    line: &mut Line,
+    rt: &impl Print,
     word: u32,
     index: u32,
     bit: u32,
     value: u32,
 ) -> io::Result<()> {
-    let mut line = empty(rt)?;
-    write!(
-        line,
-        "set wire {:>2}  index {index}, bit {bit} = {value}",
-        number_in(word)
-    )?;
-    finish(rt, line)
+    line.call("set wire", word);
+    line.wire(index, bit);
+    line.text(" = ");
+    line.decimal(value);
+    finish(line, rt)
 }
 
 // The level stands only where the number is 0.
 pub fn wire_read(
-    rt: &(impl Print + AllocGlobal),
+    line: &mut Line,
+    rt: &impl Print,
     word: u32,
     index: u32,
     bit: u32,
 ) -> io::Result<()> {
-    let mut line = empty(rt)?;
-    write!(
-        line,
-        "read wire {:>2}  index {index}, bit {bit}",
-        number_in(word)
-    )?;
+    line.call("read wire", word);
+    line.wire(index, bit);
     if number_in(word) == 0 {
-        write!(line, " -> {}", value_in(word))?;
+        line.text(" -> ");
+        line.decimal(value_in(word));
     }
-    finish(rt, line)
+    finish(line, rt)
 }
 
-pub fn line_set(
-    rt: &(impl Print + AllocGlobal),
+// One line, or all below a number.
+fn leveled(
+    line: &mut Line,
+    rt: &impl Print,
+    words: &str,
     word: u32,
     number: u32,
     level: u32,
 ) -> io::Result<()> {
-    let mut line = empty(rt)?;
-    write!(
-        line,
-        "set line {:>2}  line {} = {level}",
-        number_in(word),
-        Decimal(number)
-    )?;
-    finish(rt, line)
+    line.call("set line", word);
+    line.text(words);
+    line.decimal(number);
+    line.text(" = ");
+    line.decimal(level);
+    finish(line, rt)
 }
 
-pub fn lines_set(rt: &(impl Print + AllocGlobal), word: u32, n: u32, level: u32) -> io::Result<()> {
-    let mut line = empty(rt)?;
-    write!(
-        line,
-        "set line {:>2}  lines below {} = {level}",
-        number_in(word),
-        Decimal(n)
-    )?;
-    finish(rt, line)
+pub fn line_set(
+    line: &mut Line,
+    rt: &impl Print,
+    word: u32,
+    number: u32,
+    level: u32,
+) -> io::Result<()> {
+    leveled(line, rt, "  line ", word, number, level)
 }
 
-pub fn line_pulsed(rt: &(impl Print + AllocGlobal), word: u32, number: u32) -> io::Result<()> {
-    let mut line = empty(rt)?;
-    write!(
-        line,
-        "pulse line {:>2}  line {}",
-        number_in(word),
-        Decimal(number)
-    )?;
-    finish(rt, line)
+pub fn lines_set(
+    line: &mut Line,
+    rt: &impl Print,
+    word: u32,
+    n: u32,
+    level: u32,
+) -> io::Result<()> {
+    leveled(line, rt, "  lines below ", word, n, level)
+}
+
+pub fn line_pulsed(line: &mut Line, rt: &impl Print, word: u32, number: u32) -> io::Result<()> {
+    line.call("pulse line", word);
+    line.text("  line ");
+    line.decimal(number);
+    finish(line, rt)
 }

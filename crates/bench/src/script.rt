@@ -3,7 +3,6 @@ ghost use Rattle.std.specs.Prelude.{◌<◌, ◌≤◌};
 
 use crate::calls::Board;
 use crate::{narrow, print};
-use std::alloc::{AllocError, Global};
 use std::io;
 
 // Stays: a script's characters all have a value here, and the program does what it did; `to_digit` gives some of them none.
@@ -41,26 +40,35 @@ fn number2(line: &[u8], p: usize) -> u32
     base::from_high2(field(line, p), field(line, p + 3))
 }
 
-// The bytes from column p on, up to column 1,024.
-fn fields(alloc: Global, line: &[u8], p: usize) -> Result<Vec<u8>, AllocError> {
+// The bytes from column p on, up to column 1,024, which are at most a third as many; how many.
+fn fields(line: &[u8], p: usize, bytes: &mut [u8; 342]) -> usize
+    ensures { result ≤ 342 }
+{
     let end = line.len().min(1024);
-    (p..end)
-        .step_by(3)
-        .map(|column| field(line, column))
-        .collect(alloc)
+    for (byte, column) in bytes.iter_mut().zip((p..end).step_by(3)) {
+        *byte = field(line, column);
+    }
+    end.saturating_sub(p).div_ceil(3).min(342)
 }
 
-fn obey(rt: &(impl Print + AllocGlobal), board: &mut Board, line: &[u8]) -> io::Result<()> {
+fn exchange(rt: &impl Print, board: &mut Board, line: &[u8]) -> io::Result<()> {
+    let mut bytes = [0; 342];
+    let n = fields(line, 9, &mut bytes);
+    board.exchange(rt, &bytes[..n])
+}
+
+fn answer(rt: &impl Print, board: &mut Board, line: &[u8]) -> io::Result<()> {
+    let mut bytes = [0; 342];
+    let n = fields(line, 15, &mut bytes);
+    board.answer(rt, number(line, 9), number(line, 12), &bytes[..n])
+}
+
+fn obey(rt: &impl Print, board: &mut Board, line: &[u8]) -> io::Result<()> {
     match line.first() {
         // the calls that move bytes
-        Some(b'e') => board.exchange(rt, &fields(rt.alloc(), line, 9)?),
+        Some(b'e') => exchange(rt, board, line),
         Some(b'g') => board.pieces(rt, number(line, 9)),
-        Some(b'a') => board.answer(
-            rt,
-            number(line, 9),
-            number(line, 12),
-            &fields(rt.alloc(), line, 15)?,
-        ),
+        Some(b'a') => answer(rt, board, line),
         Some(b'f') => board.answer_long(rt, number(line, 9), number2(line, 12) as usize),
         Some(b'n') => narrow::run(rt, board),
         // those on the state alone, and the take
@@ -79,12 +87,12 @@ fn obey(rt: &(impl Print + AllocGlobal), board: &mut Board, line: &[u8]) -> io::
         Some(b'h') => board.set_line(rt, number2(line, 9), number(line, 15)),
         Some(b'm') => board.set_lines(rt, number2(line, 9), number(line, 15)),
         Some(b'i') => board.pulse_line(rt, number2(line, 9)),
-        _ => print::title(rt, line),
+        _ => print::title(&mut board.line, rt, line),
     }
 }
 
 // What follows the last end of a line is not obeyed.
-pub fn play(rt: &(impl Print + AllocGlobal), board: &mut Board, script: &[u8]) -> io::Result<()> {
+pub fn play(rt: &impl Print, board: &mut Board, script: &[u8]) -> io::Result<()> {
     for ended in script.split_inclusive(|&c| c == b'\n') {
         if let Some(line) = ended.strip_suffix(b"\n") {
             obey(rt, board, line)?;

@@ -505,8 +505,11 @@ fn headed_bytes(b: &[u8], wide: u8, writes: bool) -> usize
 }
 
 // What refuses the bytes, by how many their command has; on: its channel is.
+// `fixed` and `short` are inlined at each call: out of line each call has a `Phase` of its own in memory, and an exchange took 72 bytes more of stack on
+// Cortex-M4, 80 on RISC-V 32.
 impl Phase<'_> {
     // Of n bytes in all.
+    #[inline(always)]
     fn fixed(self, on: bool, n: usize) -> Result<(), Refusal>
         ensures { result ≡ refused_fixed on self.entry.checked self.entry.b.now n }
     {
@@ -523,6 +526,7 @@ impl Phase<'_> {
     }
 
     // A short access; c: its C1C0.
+    #[inline(always)]
     fn short(self, on: bool, n: usize, c: u8) -> Result<(), Refusal>
         ensures { result ≡ refused_short on self.entry.checked self.entry.b.now n c }
     {

@@ -28,6 +28,10 @@ module _ (file : List ℕ) where
   pub cut_off : (n : ℕ) → n ≡ count_of file → length file < rows_end n → None ≡ found (read file)
   cut_off n c h = no_file (bad_unequal file (λ e. omega arith))
 
+  -- whether or not each row may stand: "a contents table that does not add up to the file" (02, Q-2)
+  pub other_total : (n : ℕ) → n ≡ count_of file → (rows_end n + total (row_at file) n 0 ≡ length file → ⊥) → None ≡ found (read file)
+  other_total n c h = no_file (bad_unequal file (λ a. h (rw c a)))
+
   module _ (n : ℕ) (c : n ≡ count_of file) where
     pub not_fit : None ≡ sizes_of (row_at file) n → None ≡ found (read file)
     not_fit e = no_file (bad_unfit file (sizes_none _ _ (e ∙ ap (sizes_of (row_at file)) c)))
@@ -37,7 +41,7 @@ module _ (file : List ℕ) where
       summed = sizes_some _ _ t (e ∙ ap (sizes_of (row_at file)) c)
 
       pub not_summed : (rows_end n + t ≡ length file → ⊥) → None ≡ found (read file)
-      not_summed h = no_file (bad_unequal file (λ a. h (omega (arith, summed.1))))
+      not_summed h = other_total n c (λ a. h (ap (λ (k : ℕ). rows_end n + k) (sizes_some _ _ t e).1 ∙ a))
 
       pub all_read : length file ≤ longest → rows_end n + t ≡ length file → Some n ≡ found (read file)
       all_read short adds =
@@ -86,6 +90,28 @@ module _ (kinds lengths bodies out : List ℕ) where
       (passed _ _ (le-ltb longest (length is) (rw w small))
       (passed _ _ (le-ltb (length out) (length is) (rw w room)) (ap (λ (z : List ℕ). written (Some (length z)) (over z out)) (sym w))))))
 
+  -- whether or not each row may stand: no contents table that adds up to these bodies (02, Q-2)
+  pub other_sum : (total (row_of kinds lengths) (length kinds) 0 ≡ length bodies → ⊥) → written None out ≡ write_into kinds lengths bodies out
+  unfolding write_into
+  other_sum h = simp (ne_eqb (total (row_of kinds lengths) (length kinds) 0) (length bodies) h, same)
+
+  module _ (b : total (row_of kinds lengths) (length kinds) 0 ≡ length bodies) where
+    length_is : length (write (entries (row_of kinds lengths) (length kinds) 0 bodies))
+        ≡ rows_end (length kinds) + total (row_of kinds lengths) (length kinds) 0
+    length_is = length-write (row_of kinds lengths) (length kinds) bodies b ∙ ap (λ (k : ℕ). rows_end (length kinds) + k) (sym b)
+
+    -- .. nor a file that is "at most 64 KiB" (02, Q-2)
+    pub sum_too_large : longest < rows_end (length kinds) + total (row_of kinds lengths) (length kinds) 0
+        → written None out ≡ write_into kinds lengths bodies out
+    unfolding write_into
+    sum_too_large h = simp (length_is, lt-ltb longest (rows_end (length kinds) + total (row_of kinds lengths) (length kinds) 0) h, same)
+
+    -- .. nor room for it in the lent slice (02, Q-2; docs/DECISIONS.md, 57)
+    pub sum_no_room : length out < rows_end (length kinds) + total (row_of kinds lengths) (length kinds) 0
+        → written None out ≡ write_into kinds lengths bodies out
+    unfolding write_into
+    sum_no_room h = simp (length_is, lt-ltb (length out) (rows_end (length kinds) + total (row_of kinds lengths) (length kinds) 0) h, same)
+
   pub unfit : None ≡ sizes_of (row_of kinds lengths) (length kinds) → written None out ≡ write_into kinds lengths bodies out
   unfolding write_into
   unfit e = simp (sizes_none _ _ e, same)
@@ -95,20 +121,17 @@ module _ (kinds lengths bodies out : List ℕ) where
     given = sizes_some _ _ t e
 
     pub other_bodies : (t ≡ length bodies → ⊥) → written None out ≡ write_into kinds lengths bodies out
-    unfolding write_into
-    other_bodies h = simp (ne_eqb (total (row_of kinds lengths) (length kinds) 0) (length bodies) (λ a. h (given.1 ∙ a)), same)
+    other_bodies h = other_sum (λ a. h (given.1 ∙ a))
 
     module _ (b : t ≡ length bodies) where
       size : length (write (entries (row_of kinds lengths) (length kinds) 0 bodies)) ≡ rows_end (length kinds) + t
       size = length-write (row_of kinds lengths) (length kinds) bodies (sym given.1 ∙ b) ∙ ap (λ (k : ℕ). rows_end (length kinds) + k) (sym b)
 
       pub too_large : longest < rows_end (length kinds) + t → written None out ≡ write_into kinds lengths bodies out
-      unfolding write_into
-      too_large h = simp (size, lt-ltb longest (rows_end (length kinds) + t) h, same)
+      too_large h = sum_too_large (sym given.1 ∙ b) (omega (arith, given.1))
 
       pub no_room : length out < rows_end (length kinds) + t → written None out ≡ write_into kinds lengths bodies out
-      unfolding write_into
-      no_room h = simp (size, lt-ltb (length out) (rows_end (length kinds) + t) h, same)
+      no_room h = sum_no_room (sym given.1 ∙ b) (omega (arith, given.1))
 
       pub all_written : length kinds ≡ length lengths → rows_end (length kinds) + t ≤ longest → rows_end (length kinds) + t ≤ length out
           → (mid end : List ℕ) → mid ≡ over (contents_bytes (row_of kinds lengths) (length kinds)) out → end ≡ put (rows_end (length kinds)) bodies mid

@@ -49,6 +49,19 @@ fit_next rows (suc n) i =
     (fit_next rows n (suc i) ∙ ap (λ (k : ℕ). all_fit rows n (suc i) && row_fits_value (rows k)) (omega arith))
     ∙ sym (and_assoc (row_fits_value (rows i)) (all_fit rows n (suc i)) (row_fits_value (rows (i + suc n))))
 
+-- whether each of the first i rows may stand, and how long their bodies are together, of rows that may not stand too; and both with the next row, since no
+-- body is longer than a 16-bit length says (02, Q-2)
+pub row_more : (rows : ℕ → Row) (i t : ℕ) (f : Bool) (r : Row)
+    → (f ≡ all_fit rows i 0) × (t ≡ total rows i 0) × (t ≤ 65535 * i) → (r ≡ rows i) × (r.length < 65536)
+    → ((f && row_fits_value r) ≡ all_fit rows (i + 1) 0) × (t + r.length ≡ total rows (i + 1) 0) × (t + r.length ≤ 65535 * (i + 1))
+row_more rows i t f r (fit, sum, most) (row, short) =
+    let e : row_fits_value r ≡ row_fits_value (rows i) = ap row_fits_value row in
+    let l : r.length ≡ (rows i).length = ap (λ (x : Row). x.length) row in (
+      rw (add-one i, fit_next rows i 0, zero-add, fit, e) refl,
+      rw (add-one i, total_next rows i 0, zero-add) (omega (arith, sum, l)),
+      omega (arith, most, short),
+    )
+
 -- what the loops over rows keep: each of the first i may stand, and so long are their bodies; none is longer than a 16-bit length says (02, Q-2)
 pub record Kept (rows : ℕ → Row) (i t : ℕ) : Type 0 where
   pub fit : all_fit rows i 0 ≡ true
@@ -62,14 +75,9 @@ none_yet rows = record { fit = refl; sum = refl; most = omega arith }
 -- with the next row, which may stand
 pub one_more : (rows : ℕ → Row) (i t : ℕ) (r : Row)
     → Kept rows i t → (r ≡ rows i) × (r.length < 65536) → row_fits_value r ≡ true → Kept rows (i + 1) (t + r.length)
-one_more rows i t r k (row, short) f =
-    let e : row_fits_value (rows i) ≡ true = ap row_fits_value (sym row) ∙ f in
-    let l : r.length ≡ (rows i).length = ap (λ (x : Row). x.length) row in
-    record {
-      fit = rw (add-one i, fit_next rows i 0, zero-add, k.fit) e;
-      sum = rw (add-one i, total_next rows i 0, zero-add) (omega (arith, k.sum, l));
-      most = omega (arith, k.most, short);
-    }
+one_more rows i t r k is f =
+    let (fit, sum, most) = row_more rows i t true r (sym k.fit, k.sum, k.most) is in
+    record { fit = sym fit ∙ f; sum = sum; most = most }
 
 -- .. which may not, so not all n may
 pub one_wrong : (rows : ℕ → Row) (n i : ℕ) (r : Row) → i < n → r ≡ rows i → row_fits_value r ≡ false → None ≡ sizes_of rows n

@@ -2,7 +2,7 @@
 use Rattle.std.specs.Prelude.{ℕ, suc, ◌+◌, ◌-◌, ◌≤◌, true, List, [], ◌∷◌, ◌++◌, ◌≡◌, refl, length, take, drop, Option}
 use Rattle.std.proofs.Common.{true≢false, sym, ap, subst, ◌∙◌, arith, length-append, length-drop, length-take-le}
 use borrow.Rule.Slice.PartMut.{mid_of, put_mid}
-use Rattle.base.specs.Bytes.{low2, put, over, copied, put-over, put_first, take-over, over-over, tail_lent, tail_back, over-take, drop-over, over_parts, copied_all}
+use Rattle.base.specs.Bytes.{low2, put, over, copied, put-over, put_first, take-over, over-over, tail_lent, tail_back, over-take, drop-over, over_parts, copied-over, copied_all}
 use Rattle.crc.specs.Crc.{crc}
 use Rattle.wires.specs.Senders.{AllWires}
 use Rattle.wires.specs.declared.Packet.{Packet}
@@ -62,6 +62,19 @@ piece_by l l₁ part src reads code from n c hs e es p =
     ∙ ap (λ (z : List ℕ). hd ++ (d ++ drop n z)) (drop-over hd l 4 refl)
     ∙ over_parts hd d l 4 n refl hn
 
+-- the same of a source that may hold more, of which the first n bytes are copied
+pub piece_first : (l l₁ part src reads : List ℕ) (code from n : ℕ) (c : Completion)
+    → from + n ≤ length reads
+    → l₁ ≡ put 0 (code ∷ header_bytes c) l
+    → src ≡ drop from reads
+    → part ≡ copied (mid_of 4 (length l₁ - 4) l₁) src n
+    → put_mid 4 (length l₁ - 4) l₁ part ≡ over ((code ∷ header_bytes c) ++ take n (drop from reads)) l
+piece_first l l₁ part src reads code from n c hs e es p =
+    let m = mid_of 4 (length l₁ - 4) l₁ in
+    let d = drop from reads in
+    piece_by l l₁ part (take n d) reads code from n c hs e refl
+    (p ∙ ap (λ (z : List ℕ). copied m z n) es ∙ copied-over m d n (rw length-drop (omega arith)) ∙ sym (copied_all m (take n d)))
+
 -- the body of the case that it is in
 pub by_body : (body case' : Body) (w : AllWires) (l l₁ reads : List ℕ) (code n : ℕ)
     → body ≡ case'
@@ -95,6 +108,12 @@ by_reply r r' w l l₁ reads n e h =
 pub data_by : (dst dst' src part : List ℕ) (at n : ℕ) → part ≡ take n (drop at src) → dst' ≡ copied dst part (length part)
     → dst' ≡ over (take n (drop at src)) dst
 data_by dst dst' src part at n ep e = e ∙ copied_all dst part ∙ ap (λ (z : List ℕ). over z dst) ep
+
+-- the same of a part that may hold more, of which the first n bytes are copied
+pub data_first : (dst dst' src part : List ℕ) (at n : ℕ) → at + n ≤ length src → part ≡ drop at src → dst' ≡ copied dst part n
+    → dst' ≡ over (take n (drop at src)) dst
+data_first dst dst' src part at n h ep e =
+    e ∙ ap (λ (z : List ℕ). copied dst z n) ep ∙ copied-over dst (drop at src) n (rw length-drop (omega arith))
 
 pub by_kept : (k k' : Option Kept) (dst dst' src : List ℕ) → k ≡ k' → dst' ≡ over (kept_bytes k' src) dst → dst' ≡ over (kept_bytes k src) dst
 by_kept k k' dst dst' src e h = h ∙ ap (λ (z : Option Kept). over (kept_bytes z src) dst) (sym e)

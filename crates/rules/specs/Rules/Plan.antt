@@ -1,5 +1,5 @@
--- What a channel's decision and a whole call come to, as data. Both hold a next state, whose lines stand in the state's bytes alone, so they are no
--- types of the code.
+-- What a channel's decision and a whole call come to, as data. Channel 1's change and a plan hold lines, which stand in the state's bytes alone: they are
+-- no types of the code.
 use Rattle.std.specs.Prelude.{ℕ, Option}
 use Rattle.wires.specs.Senders.{AllWires}
 use Rattle.state.specs.State.{State}
