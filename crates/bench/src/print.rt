@@ -1,4 +1,5 @@
 // One line of text for each call: made whole, then written.
+// Stays: each function puts its words into the line and ends it; what differs is the words.
 ghost use Rattle.std.specs.Prelude.{◌≤◌};
 
 use std::io::{self, Write};
@@ -9,7 +10,7 @@ const LONGEST: usize = 1024;
 const DIGITS: [u8; 16] = *b"0123456789ABCDEF";
 
 // A line of text, its first so many bytes; empty once it is written. What has no room, its end too, is cut off.
-// Stays: words, bytes and numbers are put into it here. With `write!` a call of the board took more than a quarter more time (docs/DESIGN-PASS.md).
+// Stays: words, bytes and numbers are put into it here. With `write!` a call of the board took more than a quarter more time (docs/LOOK-BACK.md).
 #[derive(Drop)]
 pub struct Line {
     pub bytes: [u8; 1024],
@@ -53,20 +54,13 @@ impl Line {
     }
 
     // A number below 10,000; of a larger one the last four digits.
-    fn decimal(&mut self, number: u32) {
-        let digits = [
-            digit(number / 1000),
-            digit(number / 100),
-            digit(number / 10),
-            digit(number),
-        ];
-        let zeros = match number {
-            0..=9 => 3,
-            10..=99 => 2,
-            100..=999 => 1,
-            _ => 0,
-        };
-        self.put(&digits[zeros..]);
+    fn decimal(&mut self, n: u32) {
+        match n {
+            0..=9 => self.put(&[digit(n)]),
+            10..=99 => self.put(&[digit(n / 10), digit(n)]),
+            100..=999 => self.put(&[digit(n / 100), digit(n / 10), digit(n)]),
+            _ => self.put(&[digit(n / 1000), digit(n / 100), digit(n / 10), digit(n)]),
+        }
     }
 
     fn wire(&mut self, index: u32, bit: u32) {

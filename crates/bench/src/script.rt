@@ -40,27 +40,26 @@ fn number2(line: &[u8], p: usize) -> u32
     base::from_high2(field(line, p), field(line, p + 3))
 }
 
-// The bytes from column p on, up to column 1,024, which are at most a third as many; how many.
-fn fields(line: &[u8], p: usize, bytes: &mut [u8; 342]) -> usize
-    ensures { result ≤ 342 }
-{
+// The bytes from column p on, up to column 1,024, which are at most a third as many; the part of the room that they fill.
+fn fields<'a>(line: &[u8], p: usize, room: &'a mut [u8; 342]) -> &'a [u8] {
     let end = line.len().min(1024);
-    for (byte, column) in bytes.iter_mut().zip((p..end).step_by(3)) {
+    for (byte, column) in room.iter_mut().zip((p..end).step_by(3)) {
         *byte = field(line, column);
     }
-    end.saturating_sub(p).div_ceil(3).min(342)
+    &room[..end.saturating_sub(p).div_ceil(3).min(342)]
 }
 
 fn exchange(rt: &impl Print, board: &mut Board, line: &[u8]) -> io::Result<()> {
-    let mut bytes = [0; 342];
-    let n = fields(line, 9, &mut bytes);
-    board.exchange(rt, &bytes[..n])
+    board.exchange(rt, fields(line, 9, &mut [0; 342]))
 }
 
 fn answer(rt: &impl Print, board: &mut Board, line: &[u8]) -> io::Result<()> {
-    let mut bytes = [0; 342];
-    let n = fields(line, 15, &mut bytes);
-    board.answer(rt, number(line, 9), number(line, 12), &bytes[..n])
+    board.answer(
+        rt,
+        number(line, 9),
+        number(line, 12),
+        fields(line, 15, &mut [0; 342]),
+    )
 }
 
 fn obey(rt: &impl Print, board: &mut Board, line: &[u8]) -> io::Result<()> {

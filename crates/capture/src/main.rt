@@ -50,6 +50,7 @@ fn play(rt: &impl Print, file: &[u8]) -> io::Result<()> {
     let begun = playback::begin(file, &mut state, &mut block);
     let mut place = begun.next;
     let mut at = begun.size;
+    // Stays: no index is counted here; `play` hands on the next place, with how many entries are left.
     while 0 < place.left {
         let next = room(&block, at);
         if next < at {
