@@ -32,6 +32,9 @@ Function = namedtuple("Function", "public exported contract body")
 
 FUNCTION = re.compile(r'^(\s*)(pub |pub\(crate\) )?(extern "C" )?fn (\w+)')
 
+# A heading's last line with the whole body on it: `fn f(..) -> T { .. }`, `) -> T { .. }` or `{ .. }`; a clause's braces are none.
+SHORT = re.compile(r"^(\s*(?:(?:\)|.*\bfn ).*?)?\{)(.*)\}\s*$")
+
 IMPL = re.compile(r"^impl(?:<.*?>)? (?:(?:\w+::)*(?P<trait>\w+)(?:<(?P<of>\w+)>)? for )?(?P<type>\w+)")
 
 
@@ -70,12 +73,12 @@ def functions(path):
         head = FUNCTION.match(line)
         if not head:
             continue
-        begin = next(k for k in range(at, len(lines)) if lines[k].rstrip().endswith(("{", "{}", ";"))) + 1
-        opens = lines[begin - 1].rstrip()
+        begin = next(k for k in range(at, len(lines)) if lines[k].rstrip().endswith(("{", ";")) or SHORT.match(lines[k])) + 1
+        opens, short = lines[begin - 1].rstrip(), SHORT.match(lines[begin - 1])
         if opens.endswith(";"):
             continue
-        end = begin if opens.endswith("{}") else next(k for k in range(begin, len(lines)) if lines[k].startswith(head.group(1) + "}"))
-        contract, body = "\n".join(lines[at:begin]), "\n".join(lines[begin:end])
+        end = begin if short else next(k for k in range(begin, len(lines)) if lines[k].startswith(head.group(1) + "}"))
+        contract, body = "\n".join(lines[at : begin - 1] + [short[1] if short else lines[begin - 1]]), short[2] if short else "\n".join(lines[begin:end])
         if ghosts:
             contract = contract.rstrip("{") + "\n    ensures { " + " × ".join(ghosts) + " }\n    {"
         found[prefix + owner + head.group(4)] = Function(head.group(2) == "pub " or shown, bool(head.group(3)), contract, body)
