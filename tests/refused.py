@@ -174,7 +174,7 @@ def main():
     for edit in edits:
         crate, wrong = edit.split("/")[1], wrongs(edit)
         faults += [f"{edit}: {f}" for f in judge(wrong, said(logged(edit)))]
-        count += len(wrong)
+        count += sum(not w.file.startswith("proofs/") for w in wrong)  # the proof that a body's form needs is no wrong thing
         for name in set().union(*(bodies(crate, w) for w in wrong)):
             named[crate, name] = named.get((crate, name), 0) + 1
     public = [(c, n) for c, fs in listed.source().items() for n, f in fs.items() if f.public and listed.clause(f.contract, "ensures")]
