@@ -42,13 +42,12 @@ def capital(name):
     return name[:1].upper() + name[1:]
 
 
-def owned(line, private):
-    """How the prover names what a line opens, and whether what stands in it is public without `pub`: a trait's `impl` for a type that is not one of the
-    module's private ones, or a public trait."""
+def owned(line):
+    """How the prover names what a line opens, and whether what stands in it is public without `pub`: an `impl` of a trait, or a public trait."""
     impl = IMPL.match(line)
     if impl:
         of, trait = capital(impl["of"] or ""), impl["trait"] or ""
-        return (capital(impl["type"]) + trait + of if trait else impl["type"]) + "::", bool(trait) and impl["type"] not in private
+        return (capital(impl["type"]) + trait + of if trait else impl["type"]) + "::", bool(trait)
     trait = re.match(r"^(pub )?trait (\w+)", line)
     return (trait[2] + "::", bool(trait[1])) if trait else None
 
@@ -58,11 +57,9 @@ def functions(path):
     body is its trait's to promise."""
     module = os.path.basename(path)[: -len(".rt")]
     prefix = "" if module == "lib" else module + "::"
-    text = read(path)
-    private = set(re.findall(r"^(?:struct|enum) (\w+)", text, re.M))
-    found, owner, shown, ghosts, lines = {}, "", False, [], text.split("\n")
+    found, owner, shown, ghosts, lines = {}, "", False, [], read(path).split("\n")
     for at, line in enumerate(lines):
-        opened = owned(line, private)
+        opened = owned(line)
         if opened:
             (owner, shown), ghosts = opened, []
         elif line.startswith("}"):

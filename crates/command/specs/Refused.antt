@@ -75,13 +75,17 @@ refusal_back ChannelDisabled = refl
 refusal_back CycleUnlisted = refl
 refusal_back CrcWrong = refl
 
+-- no refusal is 0
+not_0 : (z : Refusal) → number_of z ≡ 0 → ⊥
+not_0 LengthWrong e = omega arith
+not_0 OpcodeUnknown e = omega arith
+not_0 ChannelDisabled e = omega arith
+not_0 CycleUnlisted e = omega arith
+not_0 CrcWrong e = omega arith
+
 -- what has the number of a refusal is that refusal
 pub refused_is : (z : Refusal) (d : Result Command Refusal) → number_of z ≡ number_in d → Err z ≡ d
-refused_is LengthWrong (Ok c) e = absurd (omega arith)
-refused_is OpcodeUnknown (Ok c) e = absurd (omega arith)
-refused_is ChannelDisabled (Ok c) e = absurd (omega arith)
-refused_is CycleUnlisted (Ok c) e = absurd (omega arith)
-refused_is CrcWrong (Ok c) e = absurd (omega arith)
+refused_is z (Ok c) e = absurd (not_0 z e)
 refused_is z (Err y) e = ap Err (sym (refusal_back z) ∙ ap refusal_of e ∙ refusal_back y)
 
 -- and a number other than 0 is some refusal's, and that refusal is the answer
@@ -92,11 +96,7 @@ some_refused (Err z) e h = (z, sym e, refl)
 -- .. and 0 is none's
 pub no_number : (d : Result Command Refusal) → number_in d ≡ 0 → verdict d ≡ Ok tt
 no_number (Ok c) e = refl
-no_number (Err LengthWrong) e = absurd (omega arith)
-no_number (Err OpcodeUnknown) e = absurd (omega arith)
-no_number (Err ChannelDisabled) e = absurd (omega arith)
-no_number (Err CycleUnlisted) e = absurd (omega arith)
-no_number (Err CrcWrong) e = absurd (omega arith)
+no_number (Err z) e = absurd (not_0 z e)
 
 abbrev pub row_in : Option Row → Row → Row
 row_in (Some r) q = r

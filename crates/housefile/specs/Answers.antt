@@ -125,7 +125,7 @@ module _ (kinds lengths bodies out : List ℕ) where
 
     module _ (b : t ≡ length bodies) where
       size : length (write (entries (row_of kinds lengths) (length kinds) 0 bodies)) ≡ rows_end (length kinds) + t
-      size = length-write (row_of kinds lengths) (length kinds) bodies (sym given.1 ∙ b) ∙ ap (λ (k : ℕ). rows_end (length kinds) + k) (sym b)
+      size = length_is (sym given.1 ∙ b) ∙ ap (λ (k : ℕ). rows_end (length kinds) + k) (sym given.1)
 
       pub too_large : longest < rows_end (length kinds) + t → written None out ≡ write_into kinds lengths bodies out
       too_large h = sum_too_large (sym given.1 ∙ b) (omega (arith, given.1))
